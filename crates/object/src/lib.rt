@@ -1,0 +1,1 @@
+// Header lines of one commit (gix_object::CommitRefIter).
