@@ -1,0 +1,254 @@
+"""The two files of the lister, built and read in Python from document 01's words alone.
+
+The readers here are the second opinion that the programs' expected output comes from: they share no code with the Rattle crates.
+"""
+import struct
+
+NONE = 0x70000000
+TOP = 0x80000000
+
+
+def u32(n):
+    return struct.pack(">I", n)
+
+
+def u64(n):
+    return struct.pack(">Q", n)
+
+
+def be32(b, i):
+    return int.from_bytes((b[i:i + 4] + b"\0\0\0\0")[:4], "big")
+
+
+# ---- the commit store
+
+def store(bodies):
+    """The store of a dict from id to body."""
+    out, entries, end = b"", b"", 0
+    for name in sorted(bodies):
+        out += bodies[name]
+        end += len(bodies[name])
+        entries += name + u32(end)
+    return out + entries + u32(end) + u32(len(bodies))
+
+
+def store_entries(b):
+    """The entries (id, start, end) of a good store; None where the layout does not hold."""
+    if len(b) < 8:
+        return None
+    start, count = be32(b, len(b) - 8), be32(b, len(b) - 4)
+    if len(b) != start + 24 * count + 8:
+        return None
+    out, last, end = [], None, 0
+    for k in range(count):
+        at = start + 24 * k
+        name, stop = b[at:at + 20], be32(b, at + 20)
+        if (last is not None and not last < name) or stop < end:
+            return None
+        out.append((name, end, stop))
+        last, end = name, stop
+    return out if end == start else None
+
+
+# ---- header lines
+
+def id_line(word, b):
+    n = len(word)
+    if b[:n] != word or len(b) < n + 41 or b[n + 40:n + 41] != b"\n":
+        return None
+    digits = b[n:n + 40]
+    if any(c not in b"0123456789abcdef" for c in digits):
+        return None
+    return bytes.fromhex(digits.decode()), b[n + 41:]
+
+
+def author_line(b):
+    if not b.startswith(b"author ") or b"\n" not in b:
+        return None
+    line, rest = b[7:].split(b"\n", 1) if b"\n" in b[7:] else (None, None)
+    if line is None or b"<" not in line or b">" not in line[line.index(b"<"):]:
+        return None
+    return rest
+
+
+def committer_line(b):
+    if not b.startswith(b"committer ") or b"\n" not in b[10:]:
+        return None
+    line = b[10:].split(b"\n", 1)[0]
+    if b">" not in line:
+        return None
+    tail = line[line.rindex(b">") + 1:]
+    if not tail.startswith(b" "):
+        return None
+    tail = tail[1:]
+    sign = 1
+    if tail.startswith(b"-"):
+        sign, tail = -1, tail[1:]
+    n = 0
+    while n < len(tail) and tail[n] in b"0123456789":
+        n += 1
+    if not 1 <= n <= 18 or (n < len(tail) and tail[n:n + 1] != b" "):
+        return None
+    return sign * int(tail[:n])
+
+
+def parent_lines(b):
+    out = []
+    while True:
+        t = id_line(b"parent ", b)
+        if t is None:
+            return out, b
+        out.append(t[0])
+        b = t[1]
+
+
+def seconds_only(body):
+    t = id_line(b"tree ", body)
+    if t is None:
+        return None
+    rest = author_line(parent_lines(t[1])[1])
+    return None if rest is None else committer_line(rest)
+
+
+def reading(body):
+    """('readable', parents, seconds), ('crowded',) or ('bad',): the earlier line decides."""
+    t = id_line(b"tree ", body)
+    if t is None:
+        return ("bad",)
+    ids, rest = parent_lines(t[1])
+    if len(ids) > 256:
+        return ("crowded",)
+    rest = author_line(rest)
+    seconds = None if rest is None else committer_line(rest)
+    return ("bad",) if seconds is None else ("readable", ids, seconds)
+
+
+def body(parents=(), seconds=5, tree=b"\0" * 20, author=b"author A <a> 5 +0000\n", committer=None):
+    out = b"tree " + tree.hex().encode() + b"\n"
+    for p in parents:
+        out += b"parent " + p.hex().encode() + b"\n"
+    return out + author + (committer if committer is not None else b"committer A <a> %d +0000\n" % seconds) + b"\n"
+
+
+# ---- the commit-graph file
+
+def chunk_file(chunks, header=b"CGPH\x01\x01", count=None, base=0, first=None, last_id=0, slack=0):
+    c = len(chunks) if count is None else count
+    at = 8 + 12 * (len(chunks) + 1) if first is None else first
+    table = b""
+    for name, data in chunks:
+        table += name + u64(at)
+        at += len(data)
+    table += u32(last_id) + u64(at + slack)
+    return header + bytes([c, base]) + table + b"".join(d for _, d in chunks) + b"\0" * 20
+
+
+def graph_rows(commits, order=None):
+    """commits: dict id -> (parents, level, seconds). Rows and EDGE, as git writes them."""
+    names = sorted(commits)
+    place = {n: i for i, n in enumerate(names)}
+    rows, edge = b"", []
+    for n in names:
+        parents, level, seconds = commits[n]
+        p = [place[x] for x in parents]
+        first = p[0] if p else NONE
+        if len(p) < 2:
+            second = NONE
+        elif len(p) == 2:
+            second = p[1]
+        else:
+            second = TOP | len(edge)
+            edge += p[1:-1] + [TOP | p[-1]]
+        rows += b"\0" * 20 + u32(first) + u32(second) + u32(level << 2 | seconds >> 32) + u32(seconds & 0xFFFFFFFF)
+    return names, rows, b"".join(map(u32, edge))
+
+
+def fan(names):
+    return b"".join(u32(sum(1 for n in names if n[0] <= i)) for i in range(256))
+
+
+def graph(commits, extra=()):
+    names, rows, edge = graph_rows(commits)
+    chunks = [(b"OIDF", fan(names)), (b"OIDL", b"".join(names)), (b"CDAT", rows)]
+    chunks += list(extra)
+    if edge:
+        chunks.append((b"EDGE", edge))
+    return chunk_file(chunks)
+
+
+def graph_head(g):
+    return len(g) >= 8 and g[:6] == b"CGPH\x01\x01" and g[7] == 0
+
+
+class Graph:
+    """A graph file that was read; `good` is document 01's layout past the first 8 bytes."""
+
+    def __init__(self, g):
+        self.g, self.good, self.n = g, False, 0
+        self.good = self.read()
+
+    def read(self):
+        g = self.g
+        c = g[6] if len(g) > 6 else 0
+        if len(g) < 8 + 12 * (c + 1) + 20:
+            return False
+        rows = [(g[8 + 12 * i:12 + 12 * i], int.from_bytes(g[12 + 12 * i:20 + 12 * i], "big")) for i in range(c + 1)]
+        if rows[c][0] != b"\0\0\0\0" or rows[0][1] != 8 + 12 * (c + 1) or rows[c][1] != len(g) - 20:
+            return False
+        if any(rows[i][1] > rows[i + 1][1] for i in range(c)):
+            return False
+        named = [r[0] for r in rows[:c]]
+        if any(named.count(x) != 1 for x in (b"OIDF", b"OIDL", b"CDAT")) or named.count(b"EDGE") > 1:
+            return False
+        part = {rows[i][0]: g[rows[i][1]:rows[i + 1][1]] for i in range(c)}
+        fanout = part[b"OIDF"]
+        if len(fanout) != 1024:
+            return False
+        n = be32(fanout, 1020)
+        self.ids, self.rows, self.edge = part[b"OIDL"], part[b"CDAT"], part.get(b"EDGE", b"")
+        if len(self.ids) != 20 * n or len(self.rows) != 36 * n or len(self.edge) % 4:
+            return False
+        self.names = [self.ids[20 * k:20 * k + 20] for k in range(n)]
+        counts, total = [0] * 256, 0
+        for x in self.names:
+            counts[x[0]] += 1
+        for i in range(256):
+            total += counts[i]
+            if be32(fanout, 4 * i) != total:
+                return False
+        if any(not self.names[k] < self.names[k + 1] for k in range(n - 1)):
+            return False
+        self.n = n
+        return True
+
+    def find(self, name):
+        return self.names.index(name) if name in self.names else None
+
+    def row(self, p):
+        return self.rows[36 * p:36 * p + 36]
+
+    def level(self, p):
+        return be32(self.row(p), 28) >> 2
+
+    def seconds(self, p):
+        return (be32(self.row(p), 28) & 3) << 32 | be32(self.row(p), 32)
+
+    def parents(self, p):
+        """The positions, or None where the list is corrupt."""
+        a, b = be32(self.row(p), 20), be32(self.row(p), 24)
+        if a == NONE:
+            return [] if b == NONE else None
+        out = [a]
+        if b & TOP:
+            j = b - TOP
+            while True:
+                if 4 * j + 4 > len(self.edge) or len(out) == 256:
+                    return None
+                v = be32(self.edge, 4 * j)
+                out.append(v & 0x7FFFFFFF)
+                j += 1
+                if v & TOP:
+                    break
+        elif b != NONE:
+            out.append(b)
+        return out if all(x < self.n for x in out) else None
