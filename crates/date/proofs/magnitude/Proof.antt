@@ -11,7 +11,9 @@ size-requires : tie.Need-size-requires
 size-requires c κs = search needs
 
 returns : tie.Need-returns
-returns c = c .size .ensures ∙ ap natAbs (toZ-ofZ {w = w64} (record { sfits = c .before .struct-told .given .0 .1 }))
+returns c =
+    c .size .ensures
+    ∙ ap natAbs (toZ-ofZ {w = w64} {z = c .before .before .args .s .0} (record { sfits = c .before .struct-told .given .0 .1 }))
 
 pub magnitude-spec : {M : Type 1} → statement M
 magnitude-spec = tie.close (tie.spec size-requires returns)
