@@ -37,13 +37,20 @@ unfoldable pub endsRise : List ℕ → ℕ → Bool
 endsRise b zero = true
 endsRise b (suc n) = let r = leb (bodyStart b n) (bodyEnd b n) in cond (endsRise b n) r false
 
--- "Ids rise strictly, ends never fall, the last end is the start (0 if no entries), length = start + 24·entries + 8."
--- The first test guards the others: only where it holds do the entries stand in the file.
+-- "length = start + 24·entries + 8": only where this holds do the entries stand in the file
+unfoldable pub standing : List ℕ → Bool
+standing b = leb 8 (length b) && eqb (length b) (start b + 24 * entries b + 8)
+
+-- the number of entries that stand in the file
+unfoldable pub standingEntries : List ℕ → ℕ
+standingEntries b = cond (standing b) (entries b) 0
+
+-- "Ids rise strictly, ends never fall, the last end is the start (0 if no entries)". `standing` guards the other tests
 unfoldable pub storeOk : List ℕ → Bool
 storeOk b =
     let n = entries b in
     let r : Bool = rising (entryIds b) n && endsRise b n && eqb (bodyStart b n) (start b) in
-    cond (leb 8 (length b) && eqb (length b) (start b + 24 * n + 8)) r false
+    cond (standing b) r false
 
 -- the number of the entry under an id
 unfoldable pub findEntry : List ℕ → Id → Option ℕ
@@ -54,5 +61,5 @@ unfoldable pub storeFind : List ℕ → Id → Option (List ℕ)
 storeFind b x = ifSome (findEntry b x) none (λ k. some (body b k))
 
 unfoldable pub storeAll : Unit {0}
-unfolding start entries entryIds bodyEnd bodyStart body endsRise storeOk findEntry storeFind
+unfolding start entries entryIds bodyEnd bodyStart body endsRise standing standingEntries storeOk findEntry storeFind
 storeAll = tt

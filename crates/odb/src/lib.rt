@@ -1,1 +1,217 @@
-// The commit store (gix_object::Find; document 01's book).
+// The commit store (gix_object::Find; document 01's book): bodies end to end, then one entry for each, then a trailer.
+// Every public function is total and safe on any bytes.
+use hash::Order;
+use idlist::Found;
+ghost use mathlib.Core.Path.{_≡_};
+ghost use mathlib.Core.Bool.{_&&_};
+ghost use Prim.Native.Nat.{_+_, _*_, _-_, _<_, _≤_};
+ghost use lib.Dec.{leb};
+ghost use lib.ListN.{length};
+ghost use Rattle.hash.specs.Bytes.{u32At};
+ghost use Rattle.idlist.specs.IdList.{risesAt};
+ghost use Rattle.odb.specs.Store.{start, entries, entryIds, bodyEnd, bodyStart, standing, standingEntries, storeOk};
+ghost use Rattle.odb.specs.Lookup.{partAt, partOf, isBody, Locates, TriesFind};
+
+// Where a body lies in the store: its first byte, and the byte after its last.
+pub enum Located {
+    Body { start: usize, end: usize },
+    Absent,
+}
+
+// An entry: an id and a u32. The trailer: two u32.
+const ENTRY_BYTES: usize = 24;
+
+const TRAILER_BYTES: usize = 8;
+
+// A u32 as a place in the store.
+fn wide(x: u32) -> usize
+    ensures { λ r. ⌜ (r ≡ x) × (r < 4294967296) ⌝ }
+{
+    x as usize
+}
+
+// The number that stands some bytes before the end of the store.
+fn from_end(store: &[u8], back: usize) -> usize
+    ensures { λ r. ⌜ (r ≡ u32At (now (store .entry)) (length (now (store .entry)) - back)) × (r < 4294967296) ⌝ }
+{
+    if store.len() < back {
+        return wide(hash::be32(store, 0));
+    }
+    wide(hash::be32(store, store.len() - back))
+}
+
+// The trailer's start of the entries.
+fn entries_start(store: &[u8]) -> usize
+    ensures { λ r. ⌜ (r ≡ start (now (store .entry))) × (r < 4294967296) ⌝ }
+{
+    from_end(store, TRAILER_BYTES)
+}
+
+// The trailer's number of entries.
+fn entries_said(store: &[u8]) -> usize
+    ensures { λ r. ⌜ (r ≡ entries (now (store .entry))) × (r < 4294967296) ⌝ }
+{
+    from_end(store, 4)
+}
+
+// Whether the entries and the trailer fill the store from the start of the entries to its end.
+fn stands(store: &[u8]) -> bool
+    ensures { λ r. ⌜ r ≡ standing (now (store .entry)) ⌝ }
+{
+    if store.len() < TRAILER_BYTES {
+        return false;
+    }
+    store.len() == entries_start(store) + ENTRY_BYTES * entries_said(store) + TRAILER_BYTES
+}
+
+// The number of entries, 0 where they do not stand in the store.
+pub fn count(store: &[u8]) -> usize
+    ensures { λ r. ⌜ r ≡ standingEntries (now (store .entry)) ⌝ }
+{
+    if stands(store) {
+        entries_said(store)
+    } else {
+        0
+    }
+}
+
+// The end of body k.
+fn body_end(store: &[u8], base: usize, k: usize) -> usize
+    requires { ⌜ (base ≡ start (now store)) × (base + 24 * k + 24 ≤ length (now store)) ⌝ }
+    ensures { λ r. ⌜ r ≡ bodyEnd (now (store .entry)) k ⌝ }
+{
+    wide(hash::be32(store, base + ENTRY_BYTES * k + hash::ID_BYTES))
+}
+
+// The start of body k, which is the end of the one before it.
+fn body_start(store: &[u8], base: usize, k: usize) -> usize
+    requires { ⌜ (base ≡ start (now store)) × (base + 24 * k ≤ length (now store)) ⌝ }
+    ensures { λ r. ⌜ r ≡ bodyStart (now (store .entry)) k ⌝ }
+{
+    if k == 0 {
+        return 0;
+    }
+    body_end(store, base, k - 1)
+}
+
+// Whether the id of entry k is above the id before it.
+fn id_rises(store: &[u8], base: usize, k: usize) -> bool
+    requires { ⌜ (base ≡ start (now store)) × (base + 24 * k ≤ length (now store)) ⌝ }
+    ensures { λ r. ⌜ r ≡ risesAt (entryIds (now (store .entry))) k ⌝ }
+{
+    if k == 0 {
+        return true;
+    }
+    let prior = base + ENTRY_BYTES * (k - 1);
+    match hash::compare_at(store, prior, store, base + ENTRY_BYTES * k) {
+        Order::Less => true,
+        Order::Equal => false,
+        Order::Greater => false,
+    }
+}
+
+// Whether the id of entry k rises and its end does not fall.
+fn entry_good(store: &[u8], base: usize, k: usize) -> bool
+    requires { ⌜ (base ≡ start (now store)) × (base + 24 * k + 24 ≤ length (now store)) ⌝ }
+    ensures { λ r. ⌜ r ≡ (risesAt (entryIds (now (store .entry))) k && leb (bodyStart (now (store .entry)) k) (bodyEnd (now (store .entry)) k)) ⌝ }
+{
+    if id_rises(store, base, k) {
+        body_start(store, base, k) <= body_end(store, base, k)
+    } else {
+        false
+    }
+}
+
+// Whether the layout is whole: the entries stand in the store, their ids rise, their ends never fall, and the last end is
+// the start of the entries.
+pub fn is_good(store: &[u8]) -> bool
+    ensures { λ r. ⌜ r ≡ storeOk (now (store .entry)) ⌝ }
+{
+    if !stands(store) {
+        return false;
+    }
+    let base = entries_start(store);
+    let n = entries_said(store);
+    let mut k = 0;
+    while k < n {
+        if !entry_good(store, base, k) {
+            return false;
+        }
+        k += 1;
+    }
+    body_start(store, base, n) == base
+}
+
+// The bytes from start to end, where they are a part of the store.
+fn part_at(store: &[u8], start: usize, end: usize) -> Located
+    ensures { λ r. ⌜ r ≡ partAt (now (store .entry)) start end ⌝ }
+{
+    if start <= end {
+        if end <= store.len() {
+            return Located::Body { start, end };
+        }
+    }
+    Located::Absent
+}
+
+// Where the body of entry k lies, if it is a part of the store.
+fn entry_body(store: &[u8], base: usize, k: usize) -> Located
+    requires { ⌜ (base ≡ start (now store)) × (base + 24 * k + 24 ≤ length (now store)) ⌝ }
+    ensures { λ r. ⌜ r ≡ partAt (now (store .entry)) (bodyStart (now (store .entry)) k) (bodyEnd (now (store .entry)) k) ⌝ }
+{
+    part_at(store, body_start(store, base, k), body_end(store, base, k))
+}
+
+// Where the body under an id lies. In a store that is not good it may be missed.
+pub fn locate(store: &[u8], id: &[u8]) -> Located
+    ensures { λ r. ⌜ Locates (now (store .entry)) (now (id .entry)) r ⌝ }
+{
+    if id.len() != hash::ID_BYTES {
+        return Located::Absent;
+    }
+    let base = entries_start(store);
+    let n = count(store);
+    match idlist::find(store, base, ENTRY_BYTES, 0, n, id) {
+        Found::At(k) => entry_body(store, base, k),
+        Found::Absent => Located::Absent,
+    }
+}
+
+// The bytes that an answer names, a part of the store itself; empty where it names none.
+pub fn body<'a>(store: &'a [u8], at: Located) -> &'a [u8]
+    ensures { λ r. ⌜ now r ≡ partOf (now (store .entry)) at ⌝ }
+{
+    match at {
+        Located::Body { start, end } => {
+            if start <= end {
+                if end <= store.len() {
+                    &store[start..end]
+                } else {
+                    &store[..0]
+                }
+            } else {
+                &store[..0]
+            }
+        }
+        Located::Absent => &store[..0],
+    }
+}
+
+// Whether an answer names a body.
+fn is_body(at: Located) -> bool
+    ensures { λ r. ⌜ r ≡ isBody at ⌝ }
+{
+    match at {
+        Located::Body { .. } => true,
+        Located::Absent => false,
+    }
+}
+
+// The body under an id, a part of the store itself and not a copy; found says whether there is one.
+pub fn try_find<'a>(store: &'a [u8], id: &[u8], found: &mut bool) -> &'a [u8]
+    ensures { λ r. ⌜ TriesFind (now (store .entry)) (now (id .entry)) (now (found .exit)) (now r) ⌝ }
+{
+    let at = locate(store, id);
+    *found = is_body(at);
+    body(store, at)
+}
