@@ -1,6 +1,7 @@
 -- The commit-graph file (document 01: the graph file; git's gitformat-commit-graph): its layout, its rows and its parent lists.
 -- All numbers are big-endian. Assumes nothing.
-use Prim.Native.Nat.{ℕ, zero, suc, _+_, _*_, _-_, _/_, _%_}
+use mathlib.Core.Path.{_≡_}
+use Prim.Native.Nat.{ℕ, zero, suc, _+_, _*_, _-_, _/_, _%_, _<_}
 use mathlib.Core.Bool.{Bool, true, false, cond, _&&_}
 use mathlib.Core.Option.{Option, none, some}
 use mathlib.Core.List.{List, [], _∷_}
@@ -10,6 +11,10 @@ use lib.IntN.{ℤ, pos}
 use Rattle.hash.specs.Bytes.{Id, idBytes, eqId, at, u32At, u64At, ifSome}
 use Rattle.idlist.specs.IdList.{IdList, idOf, rising, findIn}
 use Rattle.commitgraph.specs.declared.Layout.{Layout}
+use Rattle.commitgraph.specs.declared.rows.Position.{Position}
+use Rattle.commitgraph.specs.declared.rows.Position.the-variants.{At, Absent}
+use Rattle.commitgraph.specs.declared.parents.ParentList.{ParentList}
+use Rattle.commitgraph.specs.declared.parents.ParentList.the-variants.{Good, Corrupt}
 
 -- ---- the header (refusal 5) and the table of chunks
 
@@ -135,17 +140,43 @@ layoutOf g = record {
 unfoldable pub graphFind : List ℕ → Id → Option ℕ
 graphFind g x = findIn (graphIds g) x (graphCount g)
 
--- "CDAT: N rows of 36 bytes: tree id, two u32 parents, then a u32 whose high 30 bits are the level and whose low 2 bits are the high
--- bits of the 34-bit seconds, then their low 32"
+abbrev pub positionOf : Option ℕ → Position
+positionOf none = Absent
+positionOf (some p) = At p
+
+-- id p where a layout has it
+unfoldable pub idIn : List ℕ → Layout → ℕ → Id
+idIn g l p = at g (l .ids + idBytes * p) idBytes
+
+-- how many ids begin with a byte below i, as the fan-out tells
+unfoldable pub idsBelow : List ℕ → Layout → ℕ → ℕ
+idsBelow g l i = cond (eqb i 0) 0 (u32At g (l .fan + 4 * (i - 1)))
+
+-- what a lookup of x answers: in a right file the position of x, and on any bytes a hit is x's
+pub record Looks (g : List ℕ) (l : Layout) (x : Id) (r : Position) : Type 0 where
+  pub right : graphOk g ≡ true → l ≡ layoutOf g → r ≡ positionOf (graphFind g x)
+  pub hit : (p : ℕ) → r ≡ At p → (p < l .count) × (idIn g l p ≡ x)
+
+-- row p where a layout has it. "CDAT: N rows of 36 bytes: tree id, two u32 parents, then a u32 whose high 30 bits are the level and
+-- whose low 2 bits are the high bits of the 34-bit seconds, then their low 32"
+unfoldable pub rowIn : List ℕ → Layout → ℕ → List ℕ
+rowIn g l p = at g (l .rows + 36 * p) 36
+
+unfoldable pub levelIn : List ℕ → Layout → ℕ → ℕ
+levelIn g l p = u32At (rowIn g l p) 28 / 4
+
+unfoldable pub secondsIn : List ℕ → Layout → ℕ → ℤ
+secondsIn g l p = pos (u32At (rowIn g l p) 28 % 4 * 0x100000000 + u32At (rowIn g l p) 32)
+
 unfoldable pub graphRow : List ℕ → ℕ → List ℕ
-graphRow g p = at g (chunkStart g CDAT + 36 * p) 36
+graphRow g p = rowIn g (layoutOf g) p
 
 -- generation (document 01: level)
 unfoldable pub generation : List ℕ → ℕ → ℕ
-generation g p = u32At (graphRow g p) 28 / 4
+generation g p = levelIn g (layoutOf g) p
 
 unfoldable pub graphSeconds : List ℕ → ℕ → ℤ
-graphSeconds g p = pos (u32At (graphRow g p) 28 % 4 * 0x100000000 + u32At (graphRow g p) 32)
+graphSeconds g p = secondsIn g (layoutOf g) p
 
 -- ---- parent lists
 
@@ -156,36 +187,58 @@ noParent = 0x70000000
 abbrev pub topBit : ℕ
 topBit = 0x80000000
 
+-- entry j of EDGE
+unfoldable pub edgeIn : List ℕ → Layout → ℕ → ℕ
+edgeIn g l j = u32At g (l .edge + 4 * j)
+
+-- a parent before the others
+abbrev pub withParent : ℕ → Option (List ℕ) → Option (List ℕ)
+withParent q none = none
+withParent q (some ps) = some (q ∷ ps)
+
 -- "the list holds the second parent onward and ends at the first entry with the top bit set, whose other bits are the last parent":
--- at most k entries of EDGE, from entry j on; none where EDGE runs out, a position is at least n, or more come
-unfoldable pub edgesFrom : List ℕ → ℕ → ℕ → ℕ → Option (List ℕ)
-edgesFrom g n zero j = none
-edgesFrom g n (suc k) j =
-    let v = u32At g (chunkStart g EDGE + 4 * j) in
-    let last : Option (List ℕ) = cond (ltb (v - topBit) n) (some ((v - topBit) ∷ [])) none in
-    let rest : Option (List ℕ) = ifSome (edgesFrom g n k (suc j)) none (λ l. some (v ∷ l)) in
-    let more : Option (List ℕ) = cond (ltb v n) rest none in
-    let here : Option (List ℕ) = cond (leb topBit v) last more in
-    cond (ltb j (chunkSize g EDGE / 4)) here none
+-- at most k entries of EDGE, from entry j on; none where EDGE runs out, a position is at least N, or more come
+unfoldable pub edgesFrom : List ℕ → Layout → ℕ → ℕ → Option (List ℕ)
+edgesFrom g l zero j = none
+edgesFrom g l (suc k) j =
+    let v = edgeIn g l j in
+    let after = edgesFrom g l k (suc j) in
+    let here : Option (List ℕ) = withParent (v % topBit) (cond (leb topBit v) (some []) after) in
+    cond (ltb j (l .edges)) (cond (ltb (v % topBit) (l .count)) here none) none
 
 -- the most parents of a commit
 abbrev pub mostParents : ℕ
 mostParents = 256
 
+-- the parents after the first, by the row's second parent: none, one, or those that EDGE lists
+unfoldable pub afterFirst : List ℕ → Layout → ℕ → Option (List ℕ)
+afterFirst g l b =
+    let one : Option (List ℕ) = cond (ltb b (l .count)) (some (b ∷ [])) none in
+    let listed : Option (List ℕ) = edgesFrom g l 255 (b % topBit) in
+    cond (eqb b noParent) (some []) (cond (leb topBit b) listed one)
+
 -- the positions of a row's parents, in order; none where the list is corrupt: "a position is at least N, the first parent is none or
 -- has the top bit while a second stands, EDGE runs out, or over 256 parents come"
-unfoldable pub graphParents : List ℕ → ℕ → Option (List ℕ)
-graphParents g p =
-    let n = graphCount g in
-    let a = u32At (graphRow g p) 20 in
-    let b = u32At (graphRow g p) 24 in
-    let listed : Option (List ℕ) = ifSome (edgesFrom g n 255 (b - topBit)) none (λ l. some (a ∷ l)) in
-    let two : Option (List ℕ) = cond (ltb b n) (some (a ∷ b ∷ [])) none in
-    let second : Option (List ℕ) = cond (leb topBit b) listed two in
-    let one : Option (List ℕ) = cond (ltb a n) (cond (eqb b noParent) (some (a ∷ [])) second) none in
+unfoldable pub parentsIn : List ℕ → Layout → ℕ → Option (List ℕ)
+parentsIn g l p =
+    let a = u32At (rowIn g l p) 20 in
+    let b = u32At (rowIn g l p) 24 in
     let root : Option (List ℕ) = cond (eqb b noParent) (some []) none in
-    cond (eqb a noParent) root one
+    cond (eqb a noParent) root (cond (ltb a (l .count)) (withParent a (afterFirst g l b)) none)
+
+unfoldable pub graphParents : List ℕ → ℕ → Option (List ℕ)
+graphParents g p = parentsIn g (layoutOf g) p
+
+-- what reading a parent list answers: how many parents it has
+abbrev pub parentListOf : Option (List ℕ) → ParentList
+parentListOf none = Corrupt
+parentListOf (some ps) = Good (length ps)
+
+-- the same of a list that c parents stand before
+abbrev pub countedFrom : ℕ → Option (List ℕ) → ParentList
+countedFrom c none = Corrupt
+countedFrom c (some ps) = Good (c + length ps)
 
 unfoldable pub graphAll : Unit {0}
-unfolding graphHead chunkCount chunkId chunkOffset offsetsRise chunksOf chunkIn chunkStart chunkSize tableOk fanAt graphCount graphIds graphId firstByte atMost fanOk chunksOk graphOk layoutOf graphFind graphRow generation graphSeconds edgesFrom graphParents
+unfolding graphHead chunkCount chunkId chunkOffset offsetsRise chunksOf chunkIn chunkStart chunkSize tableOk fanAt graphCount graphIds graphId firstByte atMost fanOk chunksOk graphOk layoutOf graphFind idIn idsBelow rowIn levelIn secondsIn graphRow generation graphSeconds edgeIn edgesFrom afterFirst parentsIn graphParents
 graphAll = tt

@@ -1,0 +1,94 @@
+-- `chunks::is_good` meets its contract: each test that fails makes the whole false; the sizes are tested before anything is read at them,
+-- so that all that is read stands in the file. Assumes nothing.
+use mathlib.Core.Path.{_≡_, sym, ap, _∙_}
+use mathlib.Core.Bool.{true, false}
+use borrow.Author.Tests.{not-true, not-false}
+use Rattle.commitgraph.specs.Graph.{OIDF, OIDL, chunkStart, tableOk, graphCount, chunksOk, graphOk, layoutOf}
+use Rattle.commitgraph.specs.declared.Layout.{Layout}
+use Rattle.commitgraph.proofs.LayoutRight.{sized, Placed, placed}
+use borrow.Author.Needs.{needs}
+use Rattle.commitgraph.proofs.chunks.is_good.Statement.{statement}
+use Rattle.commitgraph.proofs.chunks.is_good.Tie as tie
+
+-- what is known where the layout is read
+table-good : (c : tie.After-parse) → tableOk (c .before .before .before .before .before .before .args .graph .now) ≡ true
+table-good c = sym (c .before .before .before .before .has-table .ensures) ∙ not-false (c .before .before .before .before .has-table .result) (c .before .before .before .if1 .left)
+
+sizes-good : (c : tie.After-parse) → sized (c .before .before .before .before .before .before .args .graph .now) ≡ true
+sizes-good c = sym (c .before .before .has-sizes .ensures) ∙ not-false (c .before .before .has-sizes .result) (c .before .if2 .left)
+
+inside : (c : tie.After-parse) → Placed (c .before .before .before .before .before .before .args .graph .now)
+inside c = placed (c .before .before .before .before .before .before .args .graph .now) (table-good c) (sizes-good c)
+
+fan-start : (c : tie.After-parse) → c .parse .result .fan ≡ chunkStart (c .before .before .before .before .before .before .args .graph .now) OIDF
+unfolding layoutOf
+fan-start c = ap (λ (l : Layout). l .fan) (c .parse .ensures)
+
+ids-start : (c : tie.After-parse) → c .parse .result .ids ≡ chunkStart (c .before .before .before .before .before .before .args .graph .now) OIDL
+unfolding layoutOf
+ids-start c = ap (λ (l : Layout). l .ids) (c .parse .ensures)
+
+n-read : (c : tie.After-parse) → c .parse .result .count ≡ graphCount (c .before .before .before .before .before .before .args .graph .now)
+unfolding layoutOf
+n-read c = ap (λ (l : Layout). l .count) (c .parse .ensures)
+
+has-table-requires : tie.Need-has-table-requires
+has-table-requires c κs = search needs
+
+returns : tie.Need-returns
+unfolding graphOk
+returns c =
+    let t : tableOk (c .before .before .before .args .graph .now) ≡ false = sym (c .before .has-table .ensures) ∙ not-true (c .before .has-table .result) (c .if1 .taken) in
+    rw t
+
+has-sizes-requires : tie.Need-has-sizes-requires
+has-sizes-requires c κs = search needs
+
+returns-2 : tie.Need-returns-2
+unfolding graphOk chunksOk
+returns-2 c =
+    let g = c .before .before .before .before .before .args .graph .now in
+    let t : tableOk g ≡ true = sym (c .before .before .before .has-table .ensures) ∙ not-false (c .before .before .before .has-table .result) (c .before .before .if1 .left) in
+    let s : sized g ≡ false = sym (c .before .has-sizes .ensures) ∙ not-true (c .before .has-sizes .result) (c .if2 .taken) in
+    rw (t, s)
+
+parse-requires : tie.Need-parse-requires
+parse-requires c κs = search needs
+
+fan-rises-requires : tie.Need-fan-rises-requires
+fan-rises-requires c κs =
+    let e = fan-start c in
+    (e, rw e (inside c .fan))
+
+returns-3 : tie.Need-returns-3
+unfolding graphOk chunksOk
+returns-3 c =
+    let p = c .before .before in
+    let f = c .before .fan-rises .ensures .1 (not-true (c .before .fan-rises .result) (c .if3 .taken)) in
+    rw (table-good p, sizes-good p, f)
+
+ids-fit-requires : tie.Need-ids-fit-requires
+ids-fit-requires c κs =
+    let p = c .before .before in
+    let e = fan-start p in
+    (e, rw e (inside p .fan), ids-start p, n-read p, rw (ids-start p, n-read p) (inside p .ids), c .before .fan-rises .ensures .0 (not-false (c .before .fan-rises .result) (c .if3 .left)))
+
+returns-4 : tie.Need-returns-4
+unfolding graphOk chunksOk
+returns-4 c =
+    let p = c .before .before .before in
+    rw (table-good p, sizes-good p) (c .ids-fit .ensures)
+
+pub is-good-spec : {M : Type 1} → statement M
+is-good-spec =
+    tie.close
+    (tie.spec
+    has-table-requires
+    returns
+    has-sizes-requires
+    returns-2
+    parse-requires
+    fan-rises-requires
+    returns-3
+    ids-fit-requires
+    returns-4)

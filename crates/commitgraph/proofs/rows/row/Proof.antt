@@ -1,0 +1,25 @@
+-- `row` meets its contract: it reads at a place that is cut off at the end of the file, where the place itself reads as nothing too. Assumes nothing.
+use borrow.Author.Needs.{needs}
+use mathlib.Core.Path.{_∙_, ap}
+use Prim.Native.Nat.{ℕ, _+_, _*_}
+use Rattle.hash.specs.Bytes.{at}
+use Rattle.commitgraph.specs.Graph.{rowIn}
+use Rattle.commitgraph.proofs.RowsPlace.{at-cut}
+use Rattle.commitgraph.proofs.rows.row.Statement.{statement}
+use Rattle.commitgraph.proofs.rows.row.Tie as tie
+
+place-requires : tie.Need-place-requires
+place-requires c κs = search needs
+
+part-requires : tie.Need-part-requires
+part-requires c κs = search needs
+
+returns : tie.Need-returns
+unfolding rowIn
+returns c =
+    let x = c .before .before .before .args in
+    let g = x .graph .now in
+    c .part .ensures ∙ (ap (λ (k : ℕ). at g k 36) (c .before .place .ensures) ∙ at-cut g (x .l .rows + 36 * x .p) 36)
+
+pub row-spec : {M : Type 1} → statement M
+row-spec = tie.close (tie.spec place-requires part-requires returns)

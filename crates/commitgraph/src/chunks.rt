@@ -1,0 +1,341 @@
+// The layout of a commit-graph file: its header, its table of chunks, and the chunks themselves.
+use crate::Layout;
+use hash::Order;
+ghost use mathlib.Core.Path.{_≡_};
+ghost use mathlib.Core.Bool.{true, false, _&&_, cond};
+ghost use Prim.Native.Nat.{ℕ, suc, _+_, _-_, _*_, _%_, _<_, _≤_};
+ghost use lib.ListN.{length};
+ghost use lib.Dec.{eqb, ltb, leb};
+ghost use Rattle.hash.specs.Bytes.{u32At};
+ghost use Rattle.idlist.specs.IdList.{rising, risesAt};
+ghost use Rattle.commitgraph.specs.Graph.{graphHead, chunkCount, chunkId, chunkOffset, offsetsRise, chunksOf, chunkStart, chunkSize, OIDF, OIDL, CDAT, EDGE, tableOk, fanAt, graphCount, graphIds, firstByte, fanOk, graphOk, layoutOf};
+
+// The ids of the chunks that are read.
+const FAN_OUT: u32 = 0x4f494446;
+
+const OBJECT_IDS: u32 = 0x4f49444c;
+
+const COMMIT_DATA: u32 = 0x43444154;
+
+const EXTRA_EDGES: u32 = 0x45444745;
+
+// Where a chunk stands.
+struct Chunk {
+    start: usize,
+    size: usize,
+}
+
+fn wide(x: u32) -> usize
+    ensures { λ r. ⌜ (r ≡ x) × (r < 4294967296) ⌝ }
+{
+    x as usize
+}
+
+fn wide_byte(x: u8) -> usize
+    ensures { λ r. ⌜ (r ≡ x) × (r < 256) ⌝ }
+{
+    x as usize
+}
+
+fn wide_offset(x: u64) -> usize
+    ensures { λ r. ⌜ r ≡ x ⌝ }
+{
+    x as usize
+}
+
+// Whether the file starts with `CGPH`, version 1, hash version 1, any number of chunks, base count 0.
+pub fn has_header(graph: &[u8]) -> bool
+    ensures { λ r. ⌜ r ≡ graphHead (now (graph .entry)) ⌝ }
+{
+    if graph.len() < 8 {
+        return false;
+    }
+    let want: [u8; 6] = [67, 71, 80, 72, 1, 1];
+    if !hash::same(hash::part(graph, 0, 6), &want) {
+        return false;
+    }
+    hash::byte_at(graph, 7) == 0
+}
+
+// The number of chunks.
+fn chunk_count(graph: &[u8]) -> usize
+    ensures { λ r. ⌜ (r ≡ chunkCount (now (graph .entry))) × (r < 256) ⌝ }
+{
+    wide_byte(hash::byte_at(graph, 6))
+}
+
+// The id in row i of the table.
+fn row_id(graph: &[u8], i: usize) -> u32
+    requires { ⌜ i < 256 ⌝ }
+    ensures { λ r. ⌜ r ≡ chunkId (now (graph .entry)) i ⌝ }
+{
+    hash::be32(graph, 8 + 12 * i)
+}
+
+// The offset in row i of the table.
+fn row_offset(graph: &[u8], i: usize) -> usize
+    requires { ⌜ i < 257 ⌝ }
+    ensures { λ r. ⌜ r ≡ chunkOffset (now (graph .entry)) i ⌝ }
+{
+    wide_offset(hash::be64(graph, 12 + 12 * i))
+}
+
+// How far it is from the offset in row i to the next row's, 0 where that is lower.
+fn row_size(graph: &[u8], i: usize) -> usize
+    requires { ⌜ i < 256 ⌝ }
+    ensures { λ r. ⌜ r ≡ chunkOffset (now (graph .entry)) (suc i) - chunkOffset (now (graph .entry)) i ⌝ }
+{
+    let start = row_offset(graph, i);
+    let end = row_offset(graph, i + 1);
+    if end < start {
+        return 0;
+    }
+    end - start
+}
+
+// Where the first chunk with an id stands; zeros where there is none.
+fn find_chunk(graph: &[u8], id: u32) -> Chunk
+    ensures { λ r. ⌜ (r .start ≡ chunkStart (now (graph .entry)) id) × (r .size ≡ chunkSize (now (graph .entry)) id) ⌝ }
+{
+    let count = chunk_count(graph);
+    let mut i = 0;
+    while i < count {
+        if row_id(graph, i) == id {
+            return Chunk {
+                start: row_offset(graph, i),
+                size: row_size(graph, i),
+            };
+        }
+        i += 1;
+    }
+    Chunk { start: 0, size: 0 }
+}
+
+// The last entry of the fan-out that stands at a place: N.
+fn last_entry(graph: &[u8], fan: usize) -> usize
+    ensures { λ r. ⌜ (r ≡ u32At (now (graph .entry)) (fan + 1020)) × (r < 4294967296) ⌝ }
+{
+    if graph.len() <= fan {
+        return 0;
+    }
+    if graph.len() - fan <= 1020 {
+        return 0;
+    }
+    wide(hash::be32(graph, fan + 1020))
+}
+
+// Where the chunks of a file stand.
+pub fn parse(graph: &[u8]) -> Layout
+    ensures { λ r. ⌜ r ≡ layoutOf (now (graph .entry)) ⌝ }
+{
+    let fan = find_chunk(graph, FAN_OUT);
+    let ids = find_chunk(graph, OBJECT_IDS);
+    let rows = find_chunk(graph, COMMIT_DATA);
+    let edge = find_chunk(graph, EXTRA_EDGES);
+    let count = last_entry(graph, fan.start);
+    Layout {
+        fan: fan.start,
+        ids: ids.start,
+        rows: rows.start,
+        edge: edge.start,
+        edges: edge.size / 4,
+        count: count,
+    }
+}
+
+// Whether the last row has id 0, the first offset is just past the table, and the last is 20 bytes before the file's end.
+fn table_ends(graph: &[u8], count: usize) -> bool
+    requires { ⌜ (count < 256) × (8 + 12 * (count + 1) + 20 ≤ length (now graph)) ⌝ }
+    ensures { λ r. ⌜ (let g = now (graph .entry) in r ≡ (eqb (chunkId g count) 0 && eqb (chunkOffset g 0) (8 + 12 * (count + 1)) && eqb (chunkOffset g count + 20) (length g))) ⌝ }
+{
+    if row_id(graph, count) != 0 {
+        return false;
+    }
+    if row_offset(graph, 0) != 8 + 12 * (count + 1) {
+        return false;
+    }
+    row_offset(graph, count) == graph.len() - 20
+}
+
+// Whether the offsets of the first rows never fall, up to the next row's.
+fn offsets_rise(graph: &[u8], count: usize) -> bool
+    requires { ⌜ count < 256 ⌝ }
+    ensures { λ r. ⌜ r ≡ offsetsRise (now (graph .entry)) count ⌝ }
+{
+    let mut i = 0;
+    while i < count {
+        if row_offset(graph, i + 1) < row_offset(graph, i) {
+            return false;
+        }
+        i += 1;
+    }
+    true
+}
+
+// How many of the first rows have an id.
+fn rows_of(graph: &[u8], id: u32, count: usize) -> usize
+    requires { ⌜ count < 256 ⌝ }
+    ensures { λ r. ⌜ r ≡ chunksOf (now (graph .entry)) id count ⌝ }
+{
+    let mut found = 0;
+    let mut i = 0;
+    while i < count {
+        if row_id(graph, i) == id {
+            found += 1;
+        }
+        i += 1;
+    }
+    found
+}
+
+// Whether each chunk stands as often as it must.
+fn chunks_once(graph: &[u8], count: usize) -> bool
+    requires { ⌜ count < 256 ⌝ }
+    ensures { λ r. ⌜ (let g = now (graph .entry) in r ≡ (eqb (chunksOf g OIDF count) 1 && eqb (chunksOf g OIDL count) 1 && eqb (chunksOf g CDAT count) 1 && leb (chunksOf g EDGE count) 1)) ⌝ }
+{
+    if rows_of(graph, FAN_OUT, count) != 1 {
+        return false;
+    }
+    if rows_of(graph, OBJECT_IDS, count) != 1 {
+        return false;
+    }
+    if rows_of(graph, COMMIT_DATA, count) != 1 {
+        return false;
+    }
+    rows_of(graph, EXTRA_EDGES, count) <= 1
+}
+
+// Whether the table of chunks is right.
+fn has_table(graph: &[u8]) -> bool
+    ensures { λ r. ⌜ r ≡ tableOk (now (graph .entry)) ⌝ }
+{
+    let count = chunk_count(graph);
+    if graph.len() < 8 + 12 * (count + 1) + 20 {
+        return false;
+    }
+    if !table_ends(graph, count) {
+        return false;
+    }
+    if !offsets_rise(graph, count) {
+        return false;
+    }
+    chunks_once(graph, count)
+}
+
+// Whether the chunks have the sizes that N tells.
+fn has_sizes(graph: &[u8]) -> bool
+    ensures { λ r. ⌜ (let g = now (graph .entry) in r ≡ (eqb (chunkSize g OIDF) 1024 && eqb (chunkSize g OIDL) (20 * graphCount g) && eqb (chunkSize g CDAT) (36 * graphCount g) && eqb (chunkSize g EDGE % 4) 0)) ⌝ }
+{
+    let fan = find_chunk(graph, FAN_OUT);
+    let count = last_entry(graph, fan.start);
+    if fan.size != 1024 {
+        return false;
+    }
+    let ids = find_chunk(graph, OBJECT_IDS);
+    if ids.size != 20 * count {
+        return false;
+    }
+    let rows = find_chunk(graph, COMMIT_DATA);
+    if rows.size != 36 * count {
+        return false;
+    }
+    let edge = find_chunk(graph, EXTRA_EDGES);
+    edge.size % 4 == 0
+}
+
+// Entry i of the fan-out.
+fn fan_entry(graph: &[u8], fan: usize, i: usize) -> usize
+    requires { ⌜ (fan ≡ chunkStart (now graph) OIDF) × (fan + 1024 ≤ length (now graph)) × (i < 256) ⌝ }
+    ensures { λ r. ⌜ r ≡ fanAt (now (graph .entry)) i ⌝ }
+{
+    wide(hash::be32(graph, fan + 4 * i))
+}
+
+// Entry b - 1 of the fan-out, 0 where b is 0: the number of ids whose first byte is below b.
+fn entry_before(graph: &[u8], fan: usize, b: usize) -> usize
+    requires { ⌜ (fan ≡ chunkStart (now graph) OIDF) × (fan + 1024 ≤ length (now graph)) × (b < 256) ⌝ }
+    ensures { λ r. ⌜ r ≡ cond (eqb b 0) 0 (fanAt (now (graph .entry)) (b - 1)) ⌝ }
+{
+    if b == 0 {
+        return 0;
+    }
+    fan_entry(graph, fan, b - 1)
+}
+
+// Whether the 256 entries of the fan-out never fall. Where one does, it cannot count the ids.
+fn fan_rises(graph: &[u8], fan: usize) -> bool
+    requires { ⌜ (fan ≡ chunkStart (now graph) OIDF) × (fan + 1024 ≤ length (now graph)) ⌝ }
+    ensures { λ r. ⌜ (let g = now (graph .entry) in (r ≡ true → (i : ℕ) → i < 255 → fanAt g i ≤ fanAt g (suc i)) × (r ≡ false → fanOk g 256 ≡ false)) ⌝ }
+{
+    let mut i = 0;
+    while i < 255 {
+        if fan_entry(graph, fan, i + 1) < fan_entry(graph, fan, i) {
+            return false;
+        }
+        i += 1;
+    }
+    true
+}
+
+// Whether id k stands where the fan-out puts ids with its first byte.
+fn id_in_fan(graph: &[u8], fan: usize, ids: usize, k: usize) -> bool
+    requires { ⌜ (let g = now graph in (fan ≡ chunkStart g OIDF) × (fan + 1024 ≤ length g) × (ids ≡ chunkStart g OIDL) × (ids + 20 * k < length g)) ⌝ }
+    ensures { λ r. ⌜ (let g = now (graph .entry) in let b = firstByte g k in (b < 256) × (r ≡ (leb (cond (eqb b 0) 0 (fanAt g (b - 1))) k && ltb k (fanAt g b)))) ⌝ }
+{
+    let b = wide_byte(hash::byte_at(graph, ids + 20 * k));
+    if k < entry_before(graph, fan, b) {
+        return false;
+    }
+    k < fan_entry(graph, fan, b)
+}
+
+// Whether id k is above the id before it.
+fn id_rises(graph: &[u8], ids: usize, k: usize) -> bool
+    requires { ⌜ (ids ≡ chunkStart (now graph) OIDL) × (ids + 20 * k < length (now graph)) ⌝ }
+    ensures { λ r. ⌜ r ≡ risesAt (graphIds (now (graph .entry))) k ⌝ }
+{
+    if k == 0 {
+        return true;
+    }
+    let here = ids + 20 * k;
+    match hash::compare_at(graph, here - 20, graph, here) {
+        Order::Less => true,
+        Order::Equal => false,
+        Order::Greater => false,
+    }
+}
+
+// Whether the fan-out counts the ids and the ids rise, in one pass over the ids; the fan-out never falls.
+fn ids_fit(graph: &[u8], fan: usize, ids: usize, count: usize) -> bool
+    requires { ⌜ (let g = now graph in (fan ≡ chunkStart g OIDF) × (fan + 1024 ≤ length g) × (ids ≡ chunkStart g OIDL) × (count ≡ graphCount g) × (ids + 20 * count ≤ length g) × ((i : ℕ) → i < 255 → fanAt g i ≤ fanAt g (suc i))) ⌝ }
+    ensures { λ r. ⌜ (let g = now (graph .entry) in r ≡ (fanOk g 256 && rising (graphIds g) (graphCount g))) ⌝ }
+{
+    let mut k = 0;
+    while k < count {
+        if !id_in_fan(graph, fan, ids, k) {
+            return false;
+        }
+        if !id_rises(graph, ids, k) {
+            return false;
+        }
+        k += 1;
+    }
+    true
+}
+
+// Whether the layout of a file is right, after its header.
+pub fn is_good(graph: &[u8]) -> bool
+    ensures { λ r. ⌜ r ≡ graphOk (now (graph .entry)) ⌝ }
+{
+    if !has_table(graph) {
+        return false;
+    }
+    if !has_sizes(graph) {
+        return false;
+    }
+    let l = parse(graph);
+    if !fan_rises(graph, l.fan) {
+        return false;
+    }
+    ids_fit(graph, l.fan, l.ids, l.count)
+}

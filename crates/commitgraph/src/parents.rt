@@ -1,0 +1,105 @@
+// The parent lists of a commit-graph file. Total on any bytes and any layout.
+use crate::Layout;
+use crate::rows;
+ghost use mathlib.Core.Path.{_≡_};
+ghost use mathlib.Core.List.{List};
+ghost use mathlib.Core.Option.{some};
+ghost use Prim.Native.Nat.{ℕ, _<_};
+ghost use lib.ListN.{length, getD};
+ghost use Rattle.commitgraph.specs.Graph.{edgeIn, edgesFrom, afterFirst, parentsIn, parentListOf, countedFrom};
+
+// What a row's parent list is: so many positions, each below N, or corrupt.
+pub enum ParentList {
+    Good(usize),
+    Corrupt,
+}
+
+// A parent that is none.
+const NONE: u32 = 0x70000000;
+
+// The bit that marks a pointer into EDGE, and in EDGE the last parent.
+const TOP: u32 = 0x80000000;
+
+// Entry j of EDGE.
+fn edge(graph: &[u8], l: Layout, j: usize) -> u32
+    ensures { λ r. ⌜ r ≡ edgeIn (now (graph .entry)) l j ⌝ }
+{
+    hash::be32(graph, rows::place(graph.len(), l.edge, 4, j))
+}
+
+// How many parents a row has whose list goes on in EDGE, at entry from: the first one, and one for each entry up to the last.
+fn edges(graph: &[u8], l: Layout, from: usize) -> ParentList
+    requires { ⌜ from < 4294967296 ⌝ }
+    ensures { λ r. ⌜ r ≡ countedFrom 1 (edgesFrom (now (graph .entry)) l 255 from) ⌝ }
+{
+    let mut i = 0;
+    while i < 255 {
+        let j = from + i;
+        if l.edges <= j {
+            return ParentList::Corrupt;
+        }
+        let v = edge(graph, l, j);
+        if l.count <= rows::wide(v % TOP) {
+            return ParentList::Corrupt;
+        }
+        if TOP <= v {
+            return ParentList::Good(i + 2);
+        }
+        i += 1;
+    }
+    ParentList::Corrupt
+}
+
+// How many parents a row has whose first parent is good and whose second is b.
+fn after_first(graph: &[u8], l: Layout, b: u32) -> ParentList
+    ensures { λ r. ⌜ r ≡ countedFrom 1 (afterFirst (now (graph .entry)) l b) ⌝ }
+{
+    if b == NONE {
+        return ParentList::Good(1);
+    }
+    if TOP <= b {
+        return edges(graph, l, rows::wide(b % TOP));
+    }
+    if rows::wide(b) < l.count {
+        return ParentList::Good(2);
+    }
+    ParentList::Corrupt
+}
+
+// How many parents the row at position p has, if its whole list is good.
+pub fn parents(graph: &[u8], l: Layout, p: usize) -> ParentList
+    ensures { λ r. ⌜ r ≡ parentListOf (parentsIn (now (graph .entry)) l p) ⌝ }
+{
+    let part = rows::row(graph, l, p);
+    let a = hash::be32(part, 20);
+    let b = hash::be32(part, 24);
+    if a == NONE {
+        if b != NONE {
+            return ParentList::Corrupt;
+        }
+        return ParentList::Good(0);
+    }
+    if l.count <= rows::wide(a) {
+        return ParentList::Corrupt;
+    }
+    after_first(graph, l, b)
+}
+
+// The position of parent k of a good list: the row's first parent, its second, or the entry of EDGE that is k - 1 past the one that
+// the second points to.
+pub fn parent(graph: &[u8], l: Layout, p: usize, k: usize) -> usize
+    ensures { λ r. ⌜ ((ps : List ℕ) → parentsIn (now (graph .entry)) l p ≡ some ps → k < length ps → r ≡ getD ps k 0) ⌝ }
+{
+    let part = rows::row(graph, l, p);
+    if k == 0 {
+        return rows::wide(hash::be32(part, 20));
+    }
+    let b = hash::be32(part, 24);
+    if b < TOP {
+        return rows::wide(b);
+    }
+    if 256 <= k {
+        return 0;
+    }
+    rows::wide(edge(graph, l, rows::wide(b % TOP) + (k - 1)) % TOP)
+}

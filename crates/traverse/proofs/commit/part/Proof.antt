@@ -1,0 +1,50 @@
+-- `commit::part` meets its contract: each arm returns the part of its own file. Assumes nothing.
+use mathlib.Core.Path.{_≡_}
+use Rattle.traverse.specs.Find.{partOf}
+use borrow.Author.Needs.{needs}
+use Rattle.traverse.proofs.commit.part.Statement.{statement}
+use Rattle.traverse.proofs.commit.part.Tie as tie
+
+enum-known-at : tie.Need-enum-known-at
+enum-known-at c = search needs
+
+row-requires : tie.Need-row-requires
+row-requires c κs = search needs
+
+enum-known-at-2 : tie.Need-enum-known-at-2
+enum-known-at-2 c = search needs
+
+body-requires : tie.Need-body-requires
+body-requires c κs = search needs
+
+enum-told : tie.Need-enum-told
+enum-told c = search needs
+
+body-requires-2 : tie.Need-body-requires-2
+body-requires-2 c κs = search needs
+
+returns : tie.Need-returns
+unfolding partOf
+returns c = rw (c .before .before .at .given .1) (c .row .ensures)
+
+returns-2 : tie.Need-returns-2
+unfolding partOf
+returns-2 c = rw (c .before .before .at2 .given .1) (c .body .ensures)
+
+returns-3 : tie.Need-returns-3
+unfolding partOf
+returns-3 c = rw (c .before .enum-told .given .1) (c .body2 .ensures)
+
+pub part-spec : {M : Type 1} → statement M
+part-spec =
+    tie.close
+    (tie.spec
+    enum-known-at
+    row-requires
+    enum-known-at-2
+    body-requires
+    enum-told
+    body-requires-2
+    returns
+    returns-2
+    returns-3)

@@ -1,0 +1,2 @@
+// The walk over commits (gix_traverse).
+pub mod commit;
