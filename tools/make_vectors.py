@@ -1,6 +1,6 @@
 """make_vectors.py DIR EXAMPLE: writes DIR/stdin and DIR/stdout, the vectors of the program `vectors` and what it must print.
 
-A case is a kind (one byte) and three parts, each a big-endian u32 length and its bytes. The expected lines come from tools/formats.py,
+A case is a kind (one byte) and three parts, each a big-endian u32 length and its bytes; before it stands its own length, at most 65,536. The expected lines come from tools/formats.py,
 which reads the files by document 01's words and shares nothing with the Rattle crates. EXAMPLE is the folder of the files git wrote.
 """
 import os
@@ -17,7 +17,8 @@ def case(kind, a=b"", b=b"", c=b""):
     out = bytes([kind])
     for part in (a, b, c):
         out += u32(len(part)) + part
-    cases.append(out)
+    assert len(out) <= 65536
+    cases.append(u32(len(out)) + out)
 
 
 def store_case(s, ids=()):
@@ -178,25 +179,26 @@ def graphs(example):
     for names in ([name(6), name(5)], [name(5), name(5)], two):
         graph_case(chunk_file([(b"OIDF", fan(names)), (b"OIDL", b"".join(names)), (b"CDAT", rows)]), two)
     graph_case(chunk_file([(b"OIDF", fan(two)), (b"OIDL", b"".join(two)), (b"CDAT", rows[:-1])]))
-    # parent lists: each row of a graph of 300 commits whose rows are set by hand
-    names = [bytes([i // 256, i % 256]) + bytes(18) for i in range(300)]
+    # parent lists: the first row of a graph of 8 commits set by hand; a long list names the same positions again
+    n = 8
+    names = [bytes([i // 256, i % 256]) + bytes(18) for i in range(n)]
 
     def listed(first, second, edge, level=1, low=0):
         row = bytes(20) + u32(first) + u32(second) + u32(level << 2 | low) + u32(9)
-        rest = (bytes(20) + u32(NONE) + u32(NONE) + u32(4) + u32(9)) * 299
+        rest = (bytes(20) + u32(NONE) + u32(NONE) + u32(4) + u32(9)) * (n - 1)
         chunks = [(b"OIDF", fan(names)), (b"OIDL", b"".join(names)), (b"CDAT", row + rest)]
         if edge is not None:
             chunks.append((b"EDGE", b"".join(map(u32, edge))))
         return chunk_file(chunks)
 
     for first, second, edge in (
-            (NONE, NONE, None), (1, NONE, None), (299, NONE, None), (300, NONE, None), (1, 2, None), (1, 299, None), (1, 300, None), (300, 1, None),
+            (NONE, NONE, None), (1, NONE, None), (n - 1, NONE, None), (n, NONE, None), (1, 2, None), (1, n - 1, None), (1, n, None), (n, 1, None),
             (NONE, 1, None), (NONE, TOP, [TOP | 1]), (TOP | 1, NONE, None), (TOP | 1, 2, None), (1, TOP, None), (1, TOP, []), (1, TOP, [TOP | 2]), (1, TOP, [2, TOP | 3]),
-            (1, TOP, [2, 3]), (1, TOP, [2, TOP | 300]), (1, TOP, [300, TOP | 2]), (1, TOP | 1, [9, 4, TOP | 5]), (1, TOP | 2, [2, TOP | 3]), (1, TOP | 0x7FFFFFFF, [TOP | 2]),
+            (1, TOP, [2, 3]), (1, TOP, [2, TOP | n]), (1, TOP, [n, TOP | 2]), (1, TOP | 1, [6, 4, TOP | 5]), (1, TOP | 2, [2, TOP | 3]), (1, TOP | 0x7FFFFFFF, [TOP | 2]),
             (1, TOP, [NONE, TOP | 2]), (1, TOP, [TOP | NONE]), (NONE, NONE, [TOP])):
-        graph_case(listed(first, second, edge), [names[0], names[299]])
-    for n in (255, 256, 257):
-        graph_case(listed(1, TOP, list(range(2, n)) + [TOP | n]), [names[0]])
+        graph_case(listed(first, second, edge), [names[0], names[n - 1]])
+    for count in (255, 256, 257):
+        graph_case(listed(1, TOP, [k % n for k in range(2, count)] + [TOP | 3]), [names[0]])
     graph_case(listed(NONE, NONE, None, 0x3FFFFFFF, 3), [names[0]])
     graph_case(listed(NONE, NONE, None, 0, 1), [names[0]])
     git = open(os.path.join(example, "graph"), "rb").read()

@@ -1,1 +1,3 @@
 pub mod Header
+pub mod Read
+pub mod Person

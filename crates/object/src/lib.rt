@@ -1,1 +1,231 @@
-// Header lines of one commit (gix_object::CommitRefIter).
+// Header lines of one commit (gix_object::CommitRefIter): functions on the commit's bytes and a place, total on every input.
+use date::Seconds;
+
+pub mod person;
+
+ghost use mathlib.Core.Path.{_≡_};
+ghost use mathlib.Core.Option.{none};
+ghost use Prim.Native.Nat.{_+_, _≤_};
+ghost use lib.ListN.{length, drop};
+ghost use Rattle.hash.specs.Bytes.{idBytes};
+ghost use Rattle.object.specs.Header.{isSome, strip, hexVal, hexBytes, idLine, parentLines, most, authorLine, afterAuthor, secondsOf, header};
+ghost use Rattle.object.specs.Read.{idRead, treeAt, parentAt, afterParents, secondsRead, readingOf};
+
+// A line that was read: the place after its newline.
+pub enum Line {
+    Good(usize),
+    Bad,
+}
+
+// The seconds of a committer line that was read.
+pub enum SecondsRead {
+    Good(Seconds),
+    Bad,
+}
+
+// An object id by value.
+pub struct ObjectId {
+    pub bytes: [u8; 20],
+}
+
+// A parent line that was read; with no good line the id is all zeros.
+pub struct ParentLine {
+    pub good: bool,
+    pub id: ObjectId,
+}
+
+// A whole header: readable, with a bad line, or with a good 257th parent line before any bad line.
+pub enum Reading {
+    Readable { parents: usize, seconds: Seconds },
+    Bad,
+    Crowded,
+}
+
+// The length of a tree line, newline included.
+const TREE_LINE: usize = 46;
+
+// The length of a parent line, newline included.
+const PARENT_LINE: usize = 48;
+
+// The length of 40 digits and their newline.
+const DIGITS_LINE: usize = 41;
+
+// The most parents of a readable commit.
+const MOST_PARENTS: usize = 256;
+
+// Whether the word stands at a place.
+pub fn starts_with(body: &[u8], at: usize, word: &[u8]) -> bool
+    ensures { λ r. ⌜ r ≡ isSome (strip (now (word .entry)) (drop at (now (body .entry)))) ⌝ }
+{
+    hash::same(hash::part(body, at, word.len()), word)
+}
+
+// The value of a hexadecimal digit in lower case; 16 for any other byte.
+fn hex_value(x: u8) -> u8
+    ensures { λ r. ⌜ r ≡ hexVal x ⌝ }
+{
+    if x < 48 {
+        return 16;
+    }
+    if x <= 57 {
+        return x - 48;
+    }
+    if x < 97 {
+        return 16;
+    }
+    if x <= 102 {
+        return x - 87;
+    }
+    16
+}
+
+// The answer where no good line stands.
+fn no_id() -> ParentLine
+    ensures { λ r. ⌜ r ≡ idRead none ⌝ }
+{
+    ParentLine {
+        good: false,
+        id: ObjectId { bytes: [0u8; 20] },
+    }
+}
+
+// The id in the 40 digits at a place.
+fn hex_id(body: &[u8], at: usize) -> ParentLine
+    requires { ⌜ at + 40 ≤ length (now body) ⌝ }
+    ensures { λ r. ⌜ r ≡ idRead (hexBytes idBytes (drop at (now (body .entry)))) ⌝ }
+{
+    let mut bytes = [0u8; 20];
+    let mut i = 0;
+    while i < 20 {
+        let high = hex_value(body[at + 2 * i]);
+        let low = hex_value(body[at + 2 * i + 1]);
+        if 16 <= high {
+            return no_id();
+        }
+        if 16 <= low {
+            return no_id();
+        }
+        bytes[i] = high * 16 + low;
+        i += 1;
+    }
+    ParentLine {
+        good: true,
+        id: ObjectId { bytes },
+    }
+}
+
+// The line with a word, an id and a newline at a place.
+fn id_line(body: &[u8], at: usize, word: &[u8]) -> ParentLine
+    ensures { λ r. ⌜ r ≡ idRead (idLine (now (word .entry)) (drop at (now (body .entry)))) ⌝ }
+{
+    if body.len() < at {
+        return no_id();
+    }
+    if body.len() - at < word.len() {
+        return no_id();
+    }
+    let digits = at + word.len();
+    if body.len() - digits < DIGITS_LINE {
+        return no_id();
+    }
+    if body[digits + 40] != 10 {
+        return no_id();
+    }
+    if !starts_with(body, at, word) {
+        return no_id();
+    }
+    hex_id(body, digits)
+}
+
+// The tree line at a place.
+pub fn tree_line(body: &[u8], at: usize) -> Line
+    ensures { λ r. ⌜ r ≡ treeAt (now (body .entry)) at ⌝ }
+{
+    let read = id_line(body, at, b"tree ");
+    if read.good {
+        Line::Good(at + TREE_LINE)
+    } else {
+        Line::Bad
+    }
+}
+
+// The parent line at a place.
+pub fn parent_line(body: &[u8], at: usize) -> ParentLine
+    ensures { λ r. ⌜ r ≡ parentAt (now (body .entry)) at ⌝ }
+{
+    id_line(body, at, b"parent ")
+}
+
+// The place after the parent lines at a place, uncounted.
+pub fn after_parents(body: &[u8], at: usize) -> usize
+    ensures { λ r. ⌜ r ≡ afterParents (now (body .entry)) at ⌝ }
+{
+    let mut p = at;
+    while p < body.len() {
+        let read = parent_line(body, p);
+        if !read.good {
+            return p;
+        }
+        p += PARENT_LINE;
+    }
+    p
+}
+
+// The number of parent lines at a place, counted up to 256.
+pub fn count_parents(body: &[u8], at: usize) -> usize
+    ensures { λ r. ⌜ r ≡ length (parentLines most (drop at (now (body .entry))) .ids) ⌝ }
+{
+    let mut n = 0;
+    let mut p = at;
+    while n < MOST_PARENTS {
+        let read = parent_line(body, p);
+        if !read.good {
+            return n;
+        }
+        p += PARENT_LINE;
+        n += 1;
+    }
+    n
+}
+
+// The author line at a place and the committer line after it.
+fn person_lines(body: &[u8], at: usize) -> SecondsRead
+    ensures { λ r. ⌜ r ≡ secondsRead (afterAuthor (authorLine (drop at (now (body .entry))))) ⌝ }
+{
+    match person::author_line(body, at) {
+        Line::Good(next) => person::committer_line(body, next),
+        Line::Bad => SecondsRead::Bad,
+    }
+}
+
+// A whole header: of a bad line and a good 257th parent line the earlier decides.
+pub fn readable(body: &[u8]) -> Reading
+    ensures { λ r. ⌜ r ≡ readingOf (header (now (body .entry))) ⌝ }
+{
+    let Line::Good(at) = tree_line(body, 0) else {
+        return Reading::Bad;
+    };
+    let n = count_parents(body, at);
+    let p = at + PARENT_LINE * n;
+    let next = parent_line(body, p);
+    if next.good {
+        return Reading::Crowded;
+    }
+    match person_lines(body, p) {
+        SecondsRead::Good(s) => Reading::Readable {
+            parents: n,
+            seconds: s,
+        },
+        SecondsRead::Bad => Reading::Bad,
+    }
+}
+
+// The seconds alone: parents are not counted.
+pub fn seconds_only(body: &[u8]) -> SecondsRead
+    ensures { λ r. ⌜ r ≡ secondsRead (secondsOf (now (body .entry))) ⌝ }
+{
+    let Line::Good(at) = tree_line(body, 0) else {
+        return SecondsRead::Bad;
+    };
+    person_lines(body, after_parents(body, at))
+}

@@ -1,0 +1,52 @@
+-- `vectors::graph_ids` is safe and ends: the number rises to n. Assumes nothing.
+use borrow.Author.Needs.{needs}
+use Prim.Native.Nat.{_≤_, _-_, _/_}
+use mathlib.Core.Path.{_≡_}
+use lib.ListN.{length}
+use Rattle.vectors.proofs.graph_ids.Statement.{statement}
+use Rattle.vectors.proofs.graph_ids.Tie as tie
+
+abbrev Inv-loop : tie.InvT-loop
+Inv-loop graph l ids n k₀ k = (k ≤ n) × (n ≡ length ids / 20)
+
+abbrev μ-loop : tie.MeasureT-loop
+μ-loop graph l ids n k₀ k = n - k
+
+loop-holds : tie.Need-loop-holds Inv-loop μ-loop
+loop-holds c = search needs
+
+mul-id-at : tie.Need-mul-id-at Inv-loop μ-loop
+mul-id-at c = search needs
+
+id-at-requires : tie.Need-id-at-requires Inv-loop μ-loop
+id-at-requires c κs = search needs
+
+graph-id-requires : tie.Need-graph-id-requires Inv-loop μ-loop
+graph-id-requires c κs = search needs
+
+add-k : tie.Need-add-k Inv-loop μ-loop
+add-k c = search needs
+
+loop-less : tie.Need-loop-less Inv-loop μ-loop
+loop-less c = search needs
+
+loop-again : tie.Need-loop-again Inv-loop μ-loop
+loop-again c = search needs
+
+returns : tie.Need-returns Inv-loop μ-loop
+returns c = search needs
+
+pub graph-ids-spec : {M : Type 1} → statement M
+graph-ids-spec =
+    tie.close
+    (tie.spec
+    Inv-loop
+    μ-loop
+    loop-holds
+    mul-id-at
+    id-at-requires
+    graph-id-requires
+    add-k
+    loop-less
+    loop-again
+    returns)
