@@ -52,7 +52,10 @@ fn stored(store: &[u8], id: &[u8]) {
         return;
     }
     match object::readable(body) {
-        Reading::Readable { parents: n, seconds: s } => counted(n, s),
+        Reading::Readable {
+            parents: n,
+            seconds: s,
+        } => counted(n, s),
         Reading::Bad => text(b"a bad header line"),
         Reading::Crowded => text(b"over 256 parents"),
     }

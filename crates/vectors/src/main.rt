@@ -8,10 +8,13 @@ use commitgraph::rows;
 use commitgraph::rows::Position;
 use date::Seconds;
 use libc::STDOUT_FILENO;
-use object::{Line, Reading, SecondsRead};
+use object::Line;
+use object::Reading;
+use object::SecondsRead;
 use odb::Located;
 use traverse::commit;
-use traverse::commit::{Cache, Either};
+use traverse::commit::Cache;
+use traverse::commit::Either;
 
 fn text(s: &[u8]) {
     io::write_all(STDOUT_FILENO, s);
@@ -84,7 +87,10 @@ fn store_case(store: &[u8], ids: &[u8]) {
 
 fn reading(body: &[u8]) {
     match object::readable(body) {
-        Reading::Readable { parents, seconds: s } => {
+        Reading::Readable {
+            parents,
+            seconds: s,
+        } => {
             text(b"readable");
             spaced(parents);
             text(b" ");
@@ -205,7 +211,12 @@ fn find_ids<'a>(cache: Cache, l: Layout, graph: &'a [u8], store: &'a [u8], ids: 
     let n = ids.len() / 20;
     let mut k = 0;
     while k < n {
-        found(commit::find(cache, graph, store, hash::id_at(ids, 20 * k)), l, graph, store);
+        found(
+            commit::find(cache, graph, store, hash::id_at(ids, 20 * k)),
+            l,
+            graph,
+            store,
+        );
         k += 1;
     }
 }

@@ -1,42 +1,37 @@
+-- `readers::hex` is safe and ends: the place rises to the length. Assumes nothing.
+use borrow.Author.Needs.{needs}
+use Prim.Native.Nat.{_≤_, _-_, _/_}
+use mathlib.Core.Path.{_≡_}
+use lib.ListN.{length}
 use Rattle.readers.proofs.hex.Statement.{statement}
 use Rattle.readers.proofs.hex.Tie as tie
-use Rattle.readers.proofs.hex.Reads as reads
-use Rattle.readers.proofs.hex.Lts as lts
-use Rattle.readers.proofs.byte.Reads as byte-reads
 
 abbrev Inv-loop : tie.InvT-loop
-Inv-loop s i₀ i = ?
+Inv-loop s i₀ i = i ≤ length s
 
 abbrev μ-loop : tie.MeasureT-loop
-μ-loop s i₀ i = ?
+μ-loop s i₀ i = length s - i
 
--- src/main.rt:33:5
 loop-holds : tie.Need-loop-holds Inv-loop μ-loop
-loop-holds c = ?
+loop-holds c = search needs
 
--- src/main.rt:34:14
 shared-slice-read-byte : tie.Need-shared-slice-read-byte Inv-loop μ-loop
-shared-slice-read-byte c = ?
+shared-slice-read-byte c = search needs
 
--- src/main.rt:34:9
 byte-requires : tie.Need-byte-requires Inv-loop μ-loop
-byte-requires c κs = ?
+byte-requires c κs = search needs
 
--- src/main.rt:35:9
 add-i : tie.Need-add-i Inv-loop μ-loop
-add-i c = ?
+add-i c = search needs
 
--- src/main.rt:33:5
 loop-less : tie.Need-loop-less Inv-loop μ-loop
-loop-less c = ?
+loop-less c = search needs
 
--- src/main.rt:33:5
 loop-again : tie.Need-loop-again Inv-loop μ-loop
-loop-again c = ?
+loop-again c = search needs
 
--- src/main.rt:31:1
 returns : tie.Need-returns Inv-loop μ-loop
-returns c = ?
+returns c = search needs
 
 pub hex-spec : {M : Type 1} → statement M
 hex-spec =
