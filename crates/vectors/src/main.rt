@@ -1,6 +1,8 @@
 // Runs the vectors of standard input, good and damaged stores, headers and graph files, and prints what the readers find.
 // A case is a kind (one byte) and three parts, each a big-endian u32 length and its bytes, and before it
 // stands its own length, at most 65,536. tools/make_vectors.py makes them.
+use commit::Cache;
+use commit::Either;
 use commitgraph::Layout;
 use commitgraph::parents;
 use commitgraph::parents::ParentList;
@@ -12,9 +14,6 @@ use object::Line;
 use object::Reading;
 use object::SecondsRead;
 use odb::Located;
-use traverse::commit;
-use traverse::commit::Cache;
-use traverse::commit::Either;
 
 fn text(s: &[u8]) {
     io::write_all(STDOUT_FILENO, s);

@@ -15,11 +15,11 @@ use Rattle.commitgraph.specs.Graph.{graphFind, Looks, positionOf}
 use Rattle.commitgraph.specs.declared.Layout.{Layout}
 use Rattle.commitgraph.specs.declared.rows.Position.{Position}
 use Rattle.commitgraph.specs.declared.rows.Position.the-variants.{At, Absent as Unlisted}
-use Rattle.traverse.specs.Find.{GoodCache, rowOf, inStore, foundIn, FindsCommit}
-use Rattle.traverse.specs.declared.commit.Cache.{Cache}
-use Rattle.traverse.specs.declared.commit.Cache.the-variants.{Graph, NoGraph}
-use Rattle.traverse.specs.declared.commit.Either.{Either}
-use Rattle.traverse.specs.declared.commit.Either.the-variants.{CachedCommit, CommitRefIter, Absent}
+use Rattle.commit.specs.Find.{GoodCache, rowOf, inStore, foundIn, FindsCommit}
+use Rattle.commit.specs.declared.Cache.{Cache}
+use Rattle.commit.specs.declared.Cache.the-variants.{Graph, NoGraph}
+use Rattle.commit.specs.declared.Either.{Either}
+use Rattle.commit.specs.declared.Either.the-variants.{CachedCommit, CommitRefIter, Absent}
 
 -- a position that the graph's lookup found
 position-at : (o : Option ℕ) (p : ℕ) → At p ≡ positionOf o → o ≡ some p

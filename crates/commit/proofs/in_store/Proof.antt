@@ -1,9 +1,9 @@
 -- `commit::in_store` meets its contract: it goes by the same cases. Assumes nothing.
 use mathlib.Core.Path.{_≡_, ap, sym}
-use Rattle.traverse.specs.Find.{inStore}
+use Rattle.commit.specs.Find.{inStore}
 use borrow.Author.Needs.{needs}
-use Rattle.traverse.proofs.commit.in_store.Statement.{statement}
-use Rattle.traverse.proofs.commit.in_store.Tie as tie
+use Rattle.commit.proofs.in_store.Statement.{statement}
+use Rattle.commit.proofs.in_store.Tie as tie
 
 enum-known-at : tie.Need-enum-known-at
 enum-known-at c = search needs

@@ -13,10 +13,10 @@ use Rattle.odb.specs.declared.Located.{Located}
 use Rattle.odb.specs.declared.Located.the-variants.{Body, Absent as Nowhere}
 use Rattle.commitgraph.specs.Graph.{graphOk, graphFind, layoutOf, idIn, rowIn}
 use Rattle.commitgraph.specs.declared.Layout.{Layout}
-use Rattle.traverse.specs.declared.commit.Cache.{Cache}
-use Rattle.traverse.specs.declared.commit.Cache.the-variants.{Graph, NoGraph}
-use Rattle.traverse.specs.declared.commit.Either.{Either}
-use Rattle.traverse.specs.declared.commit.Either.the-variants.{CachedCommit, CommitRefIter, Absent}
+use Rattle.commit.specs.declared.Cache.{Cache}
+use Rattle.commit.specs.declared.Cache.the-variants.{Graph, NoGraph}
+use Rattle.commit.specs.declared.Either.{Either}
+use Rattle.commit.specs.declared.Either.the-variants.{CachedCommit, CommitRefIter, Absent}
 
 -- a commit-graph file that is used is a good one, and its chunks stand where the layout says
 unfoldable pub GoodCache : Cache → List ℕ → Type 0

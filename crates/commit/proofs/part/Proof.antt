@@ -1,9 +1,9 @@
 -- `commit::part` meets its contract: each arm returns the part of its own file. Assumes nothing.
 use mathlib.Core.Path.{_≡_}
-use Rattle.traverse.specs.Find.{partOf}
+use Rattle.commit.specs.Find.{partOf}
 use borrow.Author.Needs.{needs}
-use Rattle.traverse.proofs.commit.part.Statement.{statement}
-use Rattle.traverse.proofs.commit.part.Tie as tie
+use Rattle.commit.proofs.part.Statement.{statement}
+use Rattle.commit.proofs.part.Tie as tie
 
 enum-known-at : tie.Need-enum-known-at
 enum-known-at c = search needs

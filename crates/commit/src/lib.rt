@@ -4,7 +4,7 @@ use commitgraph::rows;
 use commitgraph::rows::Position;
 use odb::Located;
 ghost use mathlib.Core.Path.{_≡_};
-ghost use Rattle.traverse.specs.Find.{inStore, FindsCommit, partOf};
+ghost use Rattle.commit.specs.Find.{inStore, FindsCommit, partOf};
 
 // The commit-graph file, where one is used: where its chunks stand. (In the Rust an Option of the file.)
 pub enum Cache {

@@ -1,9 +1,9 @@
 -- `commit::find` meets its contract: the row that the graph's lookup found, else what the store's lookup found. Assumes nothing.
 use mathlib.Core.Path.{_≡_, sym}
-use Rattle.traverse.proofs.Found.{by-row, past-graph, without-graph}
+use Rattle.commit.proofs.Found.{by-row, past-graph, without-graph}
 use borrow.Author.Needs.{needs}
-use Rattle.traverse.proofs.commit.find.Statement.{statement}
-use Rattle.traverse.proofs.commit.find.Tie as tie
+use Rattle.commit.proofs.find.Statement.{statement}
+use Rattle.commit.proofs.find.Tie as tie
 
 enum-known-cache : tie.Need-enum-known-cache
 enum-known-cache c = search needs

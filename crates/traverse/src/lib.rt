@@ -1,2 +1,0 @@
-// The walk over commits (gix_traverse).
-pub mod commit;
