@@ -1,0 +1,23 @@
+-- Past the end a list has its default.
+use mathlib.Core.Path.{_≡_, sym, ap, _∙_}
+use lib.ListN.{List·getD-eq-default}
+use borrow.Author.Needs.{needs}
+use Rattle.revwalk.proofs.queue.heap.slot_at.Statement.{statement}
+use Rattle.revwalk.proofs.queue.heap.slot_at.Tie as tie
+use Rattle.revwalk.proofs.queue.heap.slot_at.Reads as reads
+use Rattle.revwalk.proofs.queue.heap.slot_at.Lts as lts
+
+mul-result : tie.Need-mul-result
+mul-result c = search needs
+
+shared-slice-read-result : tie.Need-shared-slice-read-result
+shared-slice-read-result c = search needs
+
+returns : tie.Need-returns
+returns c = search needs
+
+returns-2 : tie.Need-returns-2
+returns-2 c = sym (List·getD-eq-default (c .before .args .line .now) 0 (c .if1 .left))
+
+pub slot-at-spec : {M : Type 1} → statement M
+slot-at-spec = tie.close (tie.spec mul-result shared-slice-read-result returns returns-2)

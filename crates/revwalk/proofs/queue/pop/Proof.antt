@@ -1,0 +1,30 @@
+-- By time it is the heap's pop, otherwise the ring's.
+use borrow.Author.Needs.{needs}
+use Rattle.revwalk.proofs.queue.pop.Statement.{statement}
+use Rattle.revwalk.proofs.queue.pop.Tie as tie
+use Rattle.revwalk.proofs.queue.pop.Reads as reads
+use Rattle.revwalk.proofs.queue.pop.Lts as lts
+use Rattle.revwalk.proofs.queue.heap.pop.Reads as queue-heap-pop-reads
+use Rattle.revwalk.proofs.queue.ring.pop.Reads as queue-ring-pop-reads
+
+pop-requires : tie.Need-pop-requires
+pop-requires c κs = search needs
+
+pop-requires-2 : tie.Need-pop-requires-2
+pop-requires-2 c κs = search needs
+
+same-length : tie.Need-same-length
+same-length c = search needs
+
+returns : tie.Need-returns
+returns c = search needs
+
+same-length-2 : tie.Need-same-length-2
+same-length-2 c = search needs
+
+returns-2 : tie.Need-returns-2
+returns-2 c = c .pop2 .ensures (c .before .before .before .before .args .times .now)
+
+pub pop-spec : {M : Type 1} → statement M
+pop-spec =
+    tie.close (tie.spec pop-requires pop-requires-2 same-length returns same-length-2 returns-2)
