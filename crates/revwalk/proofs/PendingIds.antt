@@ -11,7 +11,8 @@ use Rattle.hash.specs.Bytes.{ltId, compareId}
 use Rattle.hash.specs.declared.Order.the-variants.{Less, Equal, Greater}
 use Rattle.hash.proofs.Tests.{not-yes}
 use Rattle.hash.proofs.Ids.{ltId-asym, ltId-irrefl, compare-less, compare-equal, compare-greater}
-use Rattle.revwalk.specs.Pending.{idOf, notAbove, Placed, putIn, Sorts}
+use Rattle.hashtable.specs.Table.{idOf}
+use Rattle.revwalk.specs.Pending.{notAbove, Placed, putIn, Sorts}
 use Rattle.revwalk.proofs.PendingInsert.{slice-first}
 
 -- ---- the three ways in which two ids compare

@@ -6,7 +6,8 @@ use Prim.Native.Nat.{ℕ, zero, suc, _+_, _-_, _≤_, _<_}
 use native.Mathlib.Omega.{arith}
 use lib.ListN.{length, take, drop, getD, take-append-drop, length-take, drop-of-length-le}
 use lib.Seq.{slice, slice-cons, slice-empty, take-suc, take-nil, drop-cons, drop-append-le, getD-take}
-use Rattle.revwalk.specs.Pending.{insertBy, Placed}
+use Rattle.revwalk.specs.Order.{insertBy}
+use Rattle.revwalk.specs.Pending.{Placed}
 
 -- one element more at a part's end
 pub slice-snoc : (f t : ℕ) (l : List ℕ) → f ≤ t → t < length l → slice f (t + 1) l ≡ slice f t l ++ (getD l t 0 ∷ [])
@@ -77,12 +78,3 @@ module _ {lt : ℕ → ℕ → Bool} {l : List ℕ} {from to x i : ℕ} (m : Pas
   placed-last h = placed (rw (slice-none i to l h))
 
 -- ---- insertion by an order: one slot more, and the members
-
-pub length-insert : (lt : ℕ → ℕ → Bool) (x : ℕ) (l : List ℕ) → length (insertBy lt x l) ≡ suc (length l)
-unfolding insertBy
-length-insert lt x [] = refl
-length-insert lt x (y ∷ ys) = go (lt x y) (length-insert lt x ys)
-  where
-    go : (t : Bool) → length (insertBy lt x ys) ≡ suc (length ys) → length (cond t (x ∷ y ∷ ys) (y ∷ insertBy lt x ys)) ≡ suc (suc (length ys))
-    go true e = refl
-    go false e = ap suc e

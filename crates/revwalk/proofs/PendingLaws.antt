@@ -1,4 +1,5 @@
--- For callers of painting's queue: its length and members, the empty queue, and what may change elsewhere. Assumes nothing.
+-- For callers of painting's queue: its length and members, the empty queue, what may change elsewhere, and how it stands to a queue
+-- of other things than slots. Assumes nothing.
 use mathlib.Core.Path.{_≡_, refl, sym, ap, _∙_, subst}
 use mathlib.Core.Logic.{_⊎_, inl, inr, ⊎-elim}
 use mathlib.Core.List.{List, [], _∷_, map}
@@ -12,8 +13,11 @@ use Rattle.hash.specs.Bytes.{Id, ltId}
 use Rattle.hash.proofs.Tests.{clash}
 use Rattle.revwalk.specs.declared.pending.Pending.{Pending}
 use Rattle.revwalk.specs.declared.pending.Taken.{Taken}
-use Rattle.revwalk.specs.Pending.{ahead, idOf, notAbove, insertBy, In, slotsIn, Room, Entered, Waits, Took, fresh}
-use Rattle.revwalk.proofs.PendingInsert.{slice-none, slice-first, length-insert}
+use Rattle.revwalk.specs.Order.{insertBy, In}
+use Rattle.hashtable.specs.Table.{idOf}
+use Rattle.revwalk.specs.Pending.{ahead, notAbove, slotsIn, Room, Entered, Waits, Took, fresh}
+use Rattle.revwalk.proofs.QueueSorts.{in-insert, insert-in, insert-agree, length-insert}
+use Rattle.revwalk.proofs.PendingInsert.{slice-none, slice-first}
 
 -- ---- length, and the empty queue
 
@@ -24,24 +28,6 @@ pub empty-slots : (p : Pending) (line : List ℕ) → p .end ≤ p .start → sl
 empty-slots p line h = slice-none (p .start) (p .end) line h
 
 -- ---- members
-
-pub in-insert : (lt : ℕ → ℕ → Bool) (x z : ℕ) (l : List ℕ) → In z (insertBy lt x l) → (z ≡ x) ⊎ In z l
-unfolding In insertBy
-in-insert lt x z [] h = h
-in-insert lt x z (y ∷ ys) h = go (lt x y) (in-insert lt x z ys) h
-  where
-    go : (t : Bool) → (In z (insertBy lt x ys) → (z ≡ x) ⊎ In z ys) → In z (cond t (x ∷ y ∷ ys) (y ∷ insertBy lt x ys)) → (z ≡ x) ⊎ ((z ≡ y) ⊎ In z ys)
-    go true r h = h
-    go false r h = ⊎-elim (λ e. inr (inl e)) (λ m. ⊎-elim (λ e. inl e) (λ n. inr (inr n)) (r m)) h
-
-pub insert-in : (lt : ℕ → ℕ → Bool) (x z : ℕ) (l : List ℕ) → (z ≡ x) ⊎ In z l → In z (insertBy lt x l)
-unfolding In insertBy
-insert-in lt x z [] h = h
-insert-in lt x z (y ∷ ys) h = go (lt x y) (insert-in lt x z ys) h
-  where
-    go : (t : Bool) → ((z ≡ x) ⊎ In z ys → In z (insertBy lt x ys)) → (z ≡ x) ⊎ ((z ≡ y) ⊎ In z ys) → In z (cond t (x ∷ y ∷ ys) (y ∷ insertBy lt x ys))
-    go true r h = h
-    go false r h = ⊎-elim (λ e. inr (r (inl e))) (⊎-elim (λ e. inl e) (λ n. inr (r (inr n)))) h
 
 module _ {levels : List ℕ} {times : List ℤ} {x : ℕ} {p p′ : Pending} {line line′ : List ℕ} (e : Entered levels times x p line p′ line′) where
   pub length-pushed : length (slotsIn p′ line′) ≡ suc (length (slotsIn p line))
@@ -94,13 +80,9 @@ taken-room h w e = record { free = omega (arith, e .base, e .start); right = ome
 
 -- ---- levels, seconds and marks of slots that do not wait may change
 
--- insertion compares the new slot with those that wait, and looks at nothing else; `ahead-agree` says what comparing looks at
-pub insert-agree : (lt lt′ : ℕ → ℕ → Bool) (x : ℕ) (l : List ℕ) → ((y : ℕ) → In y l → lt x y ≡ lt′ x y) → insertBy lt x l ≡ insertBy lt′ x l
-unfolding In insertBy
-insert-agree lt lt′ x [] same = refl
-insert-agree lt lt′ x (y ∷ ys) same =
-    ap (λ (t : Bool). cond t (x ∷ y ∷ ys) (y ∷ insertBy lt x ys)) (same y (inl refl))
-    ∙ ap (λ (t : List ℕ). cond (lt′ x y) (x ∷ y ∷ ys) (y ∷ t)) (insert-agree lt lt′ x ys (λ z h. same z (inr h)))
+-- a level, a second or a mark given to a slot that does not wait is not that of one that does
+pub set-agree : {A : Type 0} (list : List A) (s : ℕ) (v d : A) (l : List ℕ) → (In s l → ⊥) → (y : ℕ) → In y l → getD (set list s v) y d ≡ getD list y d
+set-agree list s v d l n y h = getD-set-other list s y v d (λ e. n (subst (λ (k : ℕ). In k l) e h))
 
 pub map-agree : {B : Type 0} (f g : ℕ → B) (l : List ℕ) → ((y : ℕ) → In y l → f y ≡ g y) → map f l ≡ map g l
 unfolding In
@@ -124,10 +106,10 @@ fresh-none done (x ∷ xs) e y h = go (done x) refl (fresh-none done xs)
     go true p rec = ⊎-elim (λ q. ap done q ∙ p) (λ m. rec (rw p at e) y m) h
     go false p rec = clash refl (rw p at e)
 
--- ---- the queue beside the model's: f gives what the model holds for a slot
+-- ---- the queue beside one of other things, as pairs and ids: f says what a slot stands for
 
 module _ {B : Type 0} (f : ℕ → B) where
-  -- ins is an insertion by an order, and the slots are ordered as what the model holds for them
+  -- ins is an insertion by an order, and slots are ordered as what they stand for
   pub insert-map : (lt : ℕ → ℕ → Bool) (gt : B → B → Bool) (ins : B → List B → List B) → ((b : B) → ins b [] ≡ b ∷ [])
       → ((b c : B) (l : List B) → ins b (c ∷ l) ≡ cond (gt b c) (b ∷ (c ∷ l)) (c ∷ ins b l))
       → (x : ℕ) (l : List ℕ) → ((y : ℕ) → In y l → lt x y ≡ gt (f x) (f y)) → map f (insertBy lt x l) ≡ ins (f x) (map f l)

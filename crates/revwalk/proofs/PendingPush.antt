@@ -10,8 +10,10 @@ use lib.IntN.{ℤ}
 use lib.ListN.{length, take, drop, getD, set, length-append, length-drop}
 use lib.Seq.{slice, slice-empty, length-slice, length-take-le, drop-cons, set-at, split-at, getD-append-add, getD-drop, take-at, drop-at, take-append-le, take-take}
 use Rattle.revwalk.specs.declared.pending.Pending.{Pending}
-use Rattle.revwalk.specs.Pending.{ahead, insertBy, slotsIn, shiftedIn, Placed, Room, Pushes}
-use Rattle.revwalk.proofs.PendingInsert.{slice-snoc, drop-split, Passed, passed-none, passed-more, placed-here, placed-last, length-insert}
+use Rattle.revwalk.specs.Order.{insertBy}
+use Rattle.revwalk.specs.Pending.{ahead, slotsIn, shiftedIn, Placed, Room, Pushes}
+use Rattle.revwalk.proofs.QueueSorts.{length-insert}
+use Rattle.revwalk.proofs.PendingInsert.{slice-snoc, drop-split, Passed, passed-none, passed-more, placed-here, placed-last}
 
 -- the memory while slots move: those up to i have, and the place i - 1 holds some slot
 pub record Moving (lt : ℕ → ℕ → Bool) (old line : List ℕ) (head tail x i : ℕ) : Type 0 where

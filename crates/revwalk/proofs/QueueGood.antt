@@ -2,16 +2,16 @@
 -- a slot that is handed out from the front of the list is.
 use mathlib.Core.Path.{_≡_, refl, sym, ap, _∙_, subst}
 use mathlib.Core.Logic.{_⊎_, inl, inr, ⊎-elim}
-use mathlib.Core.List.{List, [], _∷_}
-use mathlib.Core.Bool.{Bool, true, false, cond}
-use Prim.Native.Nat.{ℕ, zero, suc, _+_, _-_, _≤_, _<_}
+use mathlib.Core.List.{List, _∷_}
+use mathlib.Core.Bool.{Bool, true, false}
+use Prim.Native.Nat.{ℕ, suc, _+_, _≤_, _<_}
 use native.Mathlib.Omega.{arith}
 use lib.ListN.{length}
 use lib.IntN.{ℤ}
 use Rattle.revwalk.specs.declared.queue.Queue.{Queue}
 use Rattle.revwalk.specs.declared.queue.Popped.{Popped}
-use Rattle.revwalk.specs.Order.{at, seqOf, ahead, goes, never, insertBy, sortAt, In}
-use Rattle.revwalk.specs.Queue.{Heap, Slots, Ring, GoodQueue, Alike, Joins, Took, Pops, ReadsSlot, queued, ringAt, before, placeOf, turnOf, slotsOf}
+use Rattle.revwalk.specs.Order.{at, seqOf, ahead, never, sortAt, In}
+use Rattle.revwalk.specs.Queue.{Heap, Slots, Ring, GoodQueue, Alike, Joins, Pops, ReadsSlot, queued, ringAt, before, placeOf, turnOf, slotsOf}
 use Rattle.revwalk.proofs.QueueSorts.{no-both, Place, in-sort, sort-in, length-sort}
 use Rattle.revwalk.proofs.QueueRoom.{room-left}
 
@@ -28,6 +28,10 @@ module _ (q : Queue) (times : List ℤ) where
   pub before-ring : q .timed ≡ false → before q times ≡ never
   unfolding before
   before-ring e = rw e
+
+pub before-alike : {q r : Queue} (times : List ℤ) → Alike q r → before r times ≡ before q times
+unfolding before
+before-alike times a = rw (a .timed, a .newest)
 
 module _ (q : Queue) (line : List ℕ) where
   pub place-timed : q .timed ≡ true → placeOf q line ≡ at line

@@ -1,16 +1,15 @@
 -- push and pop of a queue that is a heap.
 use mathlib.Core.Path.{_≡_, refl, sym, ap, _∙_, subst}
 use mathlib.Core.List.{List, _∷_}
-use mathlib.Core.Bool.{Bool, true}
+use mathlib.Core.Bool.{true}
 use Prim.Native.Nat.{ℕ, _+_, _-_, _/_, _≤_, _<_}
 use native.Mathlib.Omega.{arith}
 use lib.ListN.{length, set}
 use lib.IntN.{ℤ}
 use Rattle.revwalk.specs.declared.queue.Queue.{Queue}
-use Rattle.revwalk.specs.declared.queue.Popped.{Popped}
-use Rattle.revwalk.specs.Order.{at, ahead, goes, insertBy, In}
+use Rattle.revwalk.specs.Order.{at, goes}
 use Rattle.revwalk.specs.Sift.{Rose}
-use Rattle.revwalk.specs.Queue.{Heap, Unrooted, GoodQueue, Pushes, Pops, queued, before, placeOf, slotsOf}
+use Rattle.revwalk.specs.Queue.{Heap, Unrooted, Pushes, Pops, queued}
 use Rattle.revwalk.proofs.QueueMoves.{set-off}
 use Rattle.revwalk.proofs.QueueHeapPush.{push-heap, push-list}
 use Rattle.revwalk.proofs.QueueGood.{before-timed, place-timed, slots-timed, of-heap, slots-in, pops-first}
@@ -31,8 +30,8 @@ module _ {q : Queue} {times : List ℤ} {line out : List ℕ} (e : q .timed ≡ 
               count = refl;
               good = of-heap r times out e (push-heap (q .newest) times (q .cap) (q .count) (q .next) slot line out hc hn hs long rose (g .heap e) fresh);
               list = slots-timed r times out e
-              ∙ push-list (q .newest) times (q .cap) (q .count) (q .next) slot line out hc hn hs long rose (g .heap e) fresh
-              ∙ rw (slots-timed q times line e, before-timed q times e);
+                  ∙ push-list (q .newest) times (q .cap) (q .count) (q .next) slot line out hc hn hs long rose (g .heap e) fresh
+                  ∙ rw (slots-timed q times line e, before-timed q times e);
             };
       }
     where
@@ -49,9 +48,9 @@ module _ {q : Queue} {times : List ℤ} {line out : List ℕ} (e : q .timed ≡ 
         count = more;
         good = of-heap r times out e (u .heap (q .next) h);
         list = slots-timed q times line e
-        ∙ ap (queued (q .newest) times line (q .cap)) (sym more)
-        ∙ u .list (q .next) h
-        ∙ ap (λ (l : List ℕ). at line 0 ∷ l) (sym (slots-timed r times out e));
+            ∙ ap (queued (q .newest) times line (q .cap)) (sym more)
+            ∙ u .list (q .next) h
+            ∙ ap (λ (l : List ℕ). at line 0 ∷ l) (sym (slots-timed r times out e));
       })
     where
       more : q .count - 1 + 1 ≡ q .count

@@ -1,15 +1,15 @@
 -- The loops of sift_up and sink: what holds at their heads.
-use mathlib.Core.Path.{_≡_, refl, sym, ap, _∙_, subst}
-use mathlib.Core.Logic.{_⊎_, inl, inr, ⊎-elim}
-use mathlib.Core.List.{List, [], _∷_}
+use mathlib.Core.Path.{_≡_, refl, sym, _∙_}
+use mathlib.Core.Logic.{⊎-elim}
+use mathlib.Core.List.{List}
 use mathlib.Core.Bool.{Bool, true, false}
-use Prim.Native.Nat.{ℕ, zero, suc, _+_, _-_, _*_, _/_, _≤_, _<_}
+use Prim.Native.Nat.{ℕ, _+_, _*_, _/_, _≤_, _<_}
 use native.Mathlib.Omega.{arith}
 use lib.ListN.{length, set, length-set}
 use lib.Seq.{getD-set-same, getD-set-other}
 use Rattle.revwalk.specs.Order.{at}
-use Rattle.revwalk.specs.Sift.{par, Shuffled, Total, Heaped, Up, Down, Settled, Rose, Chosen, Sank}
-use Rattle.revwalk.proofs.QueueSorts.{same?, mix-none, mix-trans, mix-total}
+use Rattle.revwalk.specs.Sift.{par, Shuffled, Total, Up, Down, Rose, Chosen, Sank}
+use Rattle.revwalk.proofs.QueueSorts.{mix-none, mix-trans, mix-total}
 use Rattle.revwalk.proofs.QueueSifts.{Swapped, mix-swap, up-step, up-top, up-stop, down-step, down-leaf}
 
 -- an order that is transitive, and that looks at no more of the memory than what stands from cap on

@@ -1,12 +1,12 @@
 -- The order of slots: its laws.
-use mathlib.Core.Path.{_≡_, refl, sym, ap, _∙_, subst}
+use mathlib.Core.Path.{_≡_, refl, sym, _∙_, subst}
 use mathlib.Core.Logic.{_⊎_, inl, inr, ⊎-elim}
-use mathlib.Core.List.{List, [], _∷_}
+use mathlib.Core.List.{List}
 use mathlib.Core.Bool.{Bool, true, false, not, cond}
 use Prim.Native.Nat.{ℕ, _+_, _≤_, _<_}
-use native.Mathlib.Nat.{le-of-lt, le-trans}
+use native.Mathlib.Nat.{le-of-lt}
 use native.Mathlib.Omega.{arith}
-use lib.Dec.{T, ltb, leb→le, ltb→lt, le→leb}
+use lib.Dec.{T, ltb, ltb→lt, le→leb}
 use borrow.Author.Tests.{lt-ltb, le-ltb, ltb-true, ltb-false}
 use lib.IntN.{ℤ, pos, negsuc}
 use lib.Signed.{ltZ, leZ, ltZ-yes, ltZ-no, <ℤ-≤ℤ-trans, clashℤ, _<ℤ_, _≤ℤ_}
@@ -97,23 +97,17 @@ module _ (w : Bool) (times : List ℤ) (line : List ℕ) (cap : ℕ) where
       go false true p q e = no-both e refl
       go false false p q e = inr (p, q, ltb-true (seqOf line cap a) (seqOf line cap b) e)
 
-  by-time : (a b : ℕ) → ahead w times a b ≡ true → goes w times cap line a b ≡ true
+  pub goes-yes : (a b : ℕ) → ahead w times a b ≡ true → goes w times cap line a b ≡ true
   unfolding goes
-  by-time a b e = rw e
+  goes-yes a b e = rw e
 
   by-seq : (a b : ℕ) → ahead w times a b ≡ false → ahead w times b a ≡ false → seqOf line cap a < seqOf line cap b → goes w times cap line a b ≡ true
   unfolding goes
   by-seq a b p q l = rw (p, q, lt-ltb (seqOf line cap a) (seqOf line cap b) l)
 
-  pub goes-yes : (a b : ℕ) → ahead w times a b ≡ true → goes w times cap line a b ≡ true
-  goes-yes = by-time
-
-  not-time : (a b : ℕ) → ahead w times b a ≡ true → goes w times cap line a b ≡ false
-  unfolding goes
-  not-time a b e = let p = sooner-asym w (timeOf times b) (timeOf times a) e in rw (p, e)
-
   pub goes-no : (a b : ℕ) → ahead w times b a ≡ true → goes w times cap line a b ≡ false
-  goes-no = not-time
+  unfolding goes
+  goes-no a b e = let p = sooner-asym w (timeOf times b) (timeOf times a) e in rw (p, e)
 
   pub goes-seq : (a b p q : ℕ) → ahead w times a b ≡ false → ahead w times b a ≡ false → p ≡ seqOf line cap a → q ≡ seqOf line cap b → ltb p q ≡ goes w times cap line a b
   unfolding goes
@@ -125,7 +119,7 @@ module _ (w : Bool) (times : List ℤ) (line : List ℕ) (cap : ℕ) where
 
   pub goes-asym : (a b : ℕ) → goes w times cap line a b ≡ true → goes w times cap line b a ≡ false
   unfolding Told
-  goes-asym a b e = ⊎-elim (λ p. not-time b a p) (λ p. not-seq b a (p .1) (p .0) (le-of-lt (p .2))) (told a b e)
+  goes-asym a b e = ⊎-elim (λ p. goes-no b a p) (λ p. not-seq b a (p .1) (p .0) (le-of-lt (p .2))) (told a b e)
 
   pub goes-trans : (a b c : ℕ) → goes w times cap line a b ≡ true → goes w times cap line b c ≡ true → goes w times cap line a c ≡ true
   unfolding Told
@@ -133,12 +127,12 @@ module _ (w : Bool) (times : List ℤ) (line : List ℕ) (cap : ℕ) where
       ⊎-elim
       (λ p.
       ⊎-elim
-      (λ q. by-time a c (sooner-over w ta tb tc p (sooner-asym w tb tc q)))
-      (λ q. by-time a c (sooner-over w ta tb tc p (q .1)))
+      (λ q. goes-yes a c (sooner-over w ta tb tc p (sooner-asym w tb tc q)))
+      (λ q. goes-yes a c (sooner-over w ta tb tc p (q .1)))
       (told b c f))
       (λ p.
       ⊎-elim
-      (λ q. by-time a c (sooner-under w ta tb tc (p .1) q))
+      (λ q. goes-yes a c (sooner-under w ta tb tc (p .1) q))
       (λ q. by-seq a c (sooner-level w tc tb ta (q .0) (p .0)) (sooner-level w ta tb tc (p .1) (q .1)) (omega (arith, p .2, q .2)))
       (told b c f))
       (told a b e)
@@ -158,7 +152,7 @@ module _ (w : Bool) (times : List ℤ) (line : List ℕ) (cap : ℕ) where
     where
       go : (s t : Bool) → ahead w times a b ≡ s → ahead w times b a ≡ t → cond s true (cond t false (ltb (seqOf line cap a) (seqOf line cap b))) ≡ false → goes w times cap line b a ≡ true
       go true t p q e = no-both refl e
-      go false true p q e = by-time b a q
+      go false true p q e = goes-yes b a q
       go false false p q e = by-seq b a q p (let l = ltb-false (seqOf line cap a) (seqOf line cap b) e in omega arith)
 
   -- one that was queued after another goes before it by its seconds alone
@@ -166,8 +160,8 @@ module _ (w : Bool) (times : List ℤ) (line : List ℕ) (cap : ℕ) where
   goes-late a b l = go (ahead w times a b) (ahead w times b a) refl refl
     where
       go : (s t : Bool) → ahead w times a b ≡ s → ahead w times b a ≡ t → goes w times cap line a b ≡ ahead w times a b
-      go true t p q = by-time a b p ∙ sym p
-      go false true p q = not-time a b q ∙ sym p
+      go true t p q = goes-yes a b p ∙ sym p
+      go false true p q = goes-no a b q ∙ sym p
       go false false p q = not-seq a b p q l ∙ sym p
 
   pub total : (f : ℕ → ℕ) (n : ℕ) → ((i j : ℕ) → i < n → j < n → seqOf line cap (f i) ≡ seqOf line cap (f j) → i ≡ j) → Total (goes w times cap line) f n

@@ -1,7 +1,7 @@
 -- push, put_front and pop of a queue that is a ring: a place that is i places after head is told from the others, and head moves by one.
 use mathlib.Core.Path.{_≡_, refl, sym, ap, _∙_, subst}
 use mathlib.Core.Logic.{_⊎_, inl, inr, ⊎-elim}
-use mathlib.Core.List.{List, [], _∷_}
+use mathlib.Core.List.{List, _∷_}
 use mathlib.Core.Bool.{Bool, true, false, cond}
 use Prim.Native.Nat.{ℕ, zero, suc, _+_, _-_, _/_, _≤_, _<_}
 use native.Mathlib.Omega.{arith}
@@ -10,9 +10,8 @@ use lib.IntN.{ℤ}
 use lib.Dec.{ltb}
 use borrow.Author.Tests.{ltb-true, ltb-false, lt-ltb, le-ltb}
 use Rattle.revwalk.specs.declared.queue.Queue.{Queue}
-use Rattle.revwalk.specs.declared.queue.Popped.{Popped}
 use Rattle.revwalk.specs.Order.{at, never, insertBy, sortAt, In}
-use Rattle.revwalk.specs.Queue.{Slots, Ring, GoodQueue, Joins, Pushes, PutsBack, Pops, wrap, ringAt, before, placeOf, slotsOf}
+use Rattle.revwalk.specs.Queue.{Joins, Pushes, PutsBack, Pops, wrap, ringAt, slotsOf}
 use Rattle.revwalk.proofs.QueueSorts.{sort-agree}
 use Rattle.revwalk.proofs.QueueMoves.{set-at, set-off}
 use Rattle.revwalk.proofs.QueueRoom.{slots-end, slots-front, slots-tail}
@@ -58,6 +57,20 @@ module _ (cap : ℕ) where
       wrap-low (p + k) low ∙ same ∙ sym (wrap-high (h + suc k) high))
       (wraps (h + 1))
 
+  -- the place before h is the one cap - 1 places after it
+  wrap-back : (h p : ℕ) → h < cap → p ≡ wrap cap (h + (cap - 1)) → wrap cap (p + 1) ≡ h
+  wrap-back h p hh e =
+      ⊎-elim
+      (λ a.
+      let high : cap ≤ p + 1 = omega (arith, a .0, a .1) in
+      let same : p + 1 - cap ≡ h = omega (arith, a .0, a .1) in
+      wrap-high (p + 1) high ∙ same)
+      (λ a.
+      let low : p + 1 < cap = omega (arith, a .0, a .1) in
+      let same : p + 1 ≡ h = omega (arith, a .0, a .1) in
+      wrap-low (p + 1) low ∙ same)
+      (wraps (h + (cap - 1)))
+
   pub wrap-self : (h : ℕ) → h < cap → wrap cap (h + 0) ≡ h
   wrap-self h hh = let same : h + 0 ≡ h = omega arith in ap (wrap cap) same ∙ wrap-low h hh
 
@@ -102,12 +115,12 @@ module _ (q : Queue) (times : List ℤ) (line : List ℕ) (e : q .timed ≡ fals
               record {
                 count = refl;
                 good = of-ring r times (set line p slot) e
-                (record {
-                  room = rw length-set (g .ring e .room);
-                  size = omega arith;
-                  start = λ h. hh;
-                  slots = slots-end f f′ (g .ring e .slots) s (ring-fresh slot fr) old new;
-                });
+                    (record {
+                      room = rw length-set (g .ring e .room);
+                      size = omega arith;
+                      start = λ h. hh;
+                      slots = slots-end f f′ (g .ring e .slots) s (ring-fresh slot fr) old new;
+                    });
                 list = slots-ring r times (set line p slot) e ∙ list-end f f′ (q .count) slot old new ∙ rw (slots-ring q times line e, before-ring q times e);
               };
         }
@@ -127,7 +140,7 @@ module _ (q : Queue) (times : List ℤ) (line : List ℕ) (e : q .timed ≡ fals
         new : f′ (q .count) ≡ slot
         new = ap (at (set line p slot)) (sym is) ∙ set-in
 
-    pub fronts : wrap (q .cap) (p + 1) ≡ q .head → Joins q times slot (slot ∷ slotsOf q times line) line (set line p slot) (record { timed = q .timed; newest = q .newest; cap = q .cap; head = p; count = q .count + 1; next = q .next })
+    pub fronts : p ≡ wrap (q .cap) (q .head + (q .cap - 1)) → Joins q times slot (slot ∷ slotsOf q times line) line (set line p slot) (record { timed = q .timed; newest = q .newest; cap = q .cap; head = p; count = q .count + 1; next = q .next })
     fronts is =
         record {
           long = simp length-set;
@@ -139,12 +152,12 @@ module _ (q : Queue) (times : List ℤ) (line : List ℕ) (e : q .timed ≡ fals
               record {
                 count = refl;
                 good = of-ring r times (set line p slot) e
-                (record {
-                  room = rw length-set (g .ring e .room);
-                  size = omega arith;
-                  start = λ h. hp;
-                  slots = slots-front f f′ (g .ring e .slots) s (ring-fresh slot fr) old new;
-                });
+                    (record {
+                      room = rw length-set (g .ring e .room);
+                      size = omega arith;
+                      start = λ h. hp;
+                      slots = slots-front f f′ (g .ring e .slots) s (ring-fresh slot fr) old new;
+                    });
                 list = slots-ring r times (set line p slot) e ∙ list-front f f′ (q .count) old ∙ ap (λ (x : ℕ). x ∷ sortAt never f (q .count)) new ∙ rw (slots-ring q times line e);
               };
         }
@@ -161,7 +174,7 @@ module _ (q : Queue) (times : List ℤ) (line : List ℕ) (e : q .timed ≡ fals
         old : (k : ℕ) → k < q .count → f′ (suc k) ≡ f k
         old k h =
             set-off line p (wrap (q .cap) (p + suc k)) slot (λ d. let w = wrap-one (q .cap) p (suc k) 0 hp (omega arith) (omega arith) (d ∙ sym (wrap-self (q .cap) p hp)) in omega arith)
-            ∙ ap (at line) (sym (wrap-next (q .cap) p (q .head) k hp (omega arith) is))
+            ∙ ap (at line) (sym (wrap-next (q .cap) p (q .head) k hp (omega arith) (wrap-back (q .cap) (q .head) p hh is)))
 
         new : f′ 0 ≡ slot
         new = ap (at (set line p slot)) (wrap-self (q .cap) p hp) ∙ set-in
@@ -175,17 +188,17 @@ module _ (q : Queue) (times : List ℤ) (line : List ℕ) (e : q .timed ≡ fals
       record {
         count = more;
         good = of-ring r times line e
-        (record {
-          room = g .ring e .room;
-          size = omega arith;
-          start = λ h. hp;
-          slots = slots-tail f f′ (q .count - 1) (g .ring e .slots) (omega arith) old;
-        });
+            (record {
+              room = g .ring e .room;
+              size = omega arith;
+              start = λ h. hp;
+              slots = slots-tail f f′ (q .count - 1) (g .ring e .slots) (omega arith) old;
+            });
         list = slots-ring q times line e
-        ∙ ap (sortAt never f) (sym more)
-        ∙ list-front f′ f (q .count - 1) (λ k h. sym (old k h))
-        ∙ ap (λ (x : ℕ). x ∷ sortAt never f′ (q .count - 1)) (ap (at line) (wrap-self (q .cap) (q .head) hh))
-        ∙ ap (λ (l : List ℕ). at line (q .head) ∷ l) (sym (slots-ring r times line e));
+            ∙ ap (sortAt never f) (sym more)
+            ∙ list-front f′ f (q .count - 1) (λ k h. sym (old k h))
+            ∙ ap (λ (x : ℕ). x ∷ sortAt never f′ (q .count - 1)) (ap (at line) (wrap-self (q .cap) (q .head) hh))
+            ∙ ap (λ (l : List ℕ). at line (q .head) ∷ l) (sym (slots-ring r times line e));
       })
     where
       r : Queue

@@ -1,14 +1,14 @@
 -- Lists that rise by an order, and what sorting is told by: the members alone.
 use mathlib.Core.Path.{_≡_, refl, sym, ap, _∙_, subst}
 use mathlib.Core.Logic.{_⊎_, inl, inr, ⊎-elim}
-use mathlib.Core.List.{List, [], _∷_}
+use mathlib.Core.List.{List, [], _∷_, _++_, List·Permᴰ, List·Permᴰ·nil, List·Permᴰ·cons, List·Permᴰ·swap, List·Permᴰ·trans, Permᴰ·refl, Permᴰ·middle, Permᴰ·append-nil}
 use mathlib.Core.Bool.{Bool, true, false, cond}
-use Prim.Native.Nat.{ℕ, zero, suc, _+_, _-_, _≤_, _<_}
+use Prim.Native.Nat.{ℕ, zero, suc, _<_}
 use native.Mathlib.Omega.{arith}
 use lib.ListN.{length}
 use lib.Dec.{T, eqb}
 use borrow.Author.Tests.{eqb-true, eqb-false}
-use Rattle.revwalk.specs.Order.{insertBy, sortAt, In}
+use Rattle.revwalk.specs.Order.{never, insertBy, sortAt, listed, In, Once}
 use Rattle.revwalk.specs.Sift.{Shuffled, Total}
 
 -- equal or not
@@ -87,6 +87,47 @@ pub length-sort : (lt : ℕ → ℕ → Bool) (f : ℕ → ℕ) (n : ℕ) → le
 unfolding sortAt
 length-sort lt f zero = refl
 length-sort lt f (suc n) = length-insert lt (f n) (sortAt lt f n) ∙ ap suc (length-sort lt f n)
+
+-- ---- different ones stay different, and the list is a rearrangement of what was put in
+once-insert : (lt : ℕ → ℕ → Bool) (x : ℕ) (ys : List ℕ) → (In x ys → ⊥) → Once ys → Once (insertBy lt x ys)
+unfolding Once In insertBy
+once-insert lt x [] d o = (d, o)
+once-insert lt x (y ∷ ys) d o = go (lt x y) (once-insert lt x ys (λ h. d (inr h)) (o .1))
+  where
+    go : (t : Bool) → Once (insertBy lt x ys) → Once (cond t (x ∷ y ∷ ys) (y ∷ insertBy lt x ys))
+    go true r = (d, o)
+    go false r = ((λ h. ⊎-elim (λ e. d (inl (sym e))) (o .0) (in-insert lt x y ys h)), r)
+
+pub once-sort : (lt : ℕ → ℕ → Bool) (f : ℕ → ℕ) (n : ℕ) → ((i j : ℕ) → i < n → j < n → f i ≡ f j → i ≡ j) → Once (sortAt lt f n)
+unfolding Once sortAt
+once-sort lt f zero apart = tt
+once-sort lt f (suc n) apart =
+    once-insert lt (f n) (sortAt lt f n)
+    (λ h. let p = in-sort lt f n (f n) h in let e = apart (p .k) n (omega arith) (omega arith) (p .is) in absurd (omega arith))
+    (once-sort lt f n (λ i j hi hj. apart i j (omega arith) (omega arith)))
+
+perm-insert : (lt : ℕ → ℕ → Bool) (x : ℕ) (ys : List ℕ) → List·Permᴰ (x ∷ ys) (insertBy lt x ys)
+unfolding insertBy
+perm-insert lt x [] = Permᴰ·refl (x ∷ [])
+perm-insert lt x (y ∷ ys) = go (lt x y) (perm-insert lt x ys)
+  where
+    go : (t : Bool) → List·Permᴰ (x ∷ ys) (insertBy lt x ys) → List·Permᴰ (x ∷ y ∷ ys) (cond t (x ∷ y ∷ ys) (y ∷ insertBy lt x ys))
+    go true r = Permᴰ·refl (x ∷ y ∷ ys)
+    go false r = List·Permᴰ·trans (List·Permᴰ·swap refl refl) (List·Permᴰ·cons refl r)
+
+pub perm-sort : (lt : ℕ → ℕ → Bool) (f : ℕ → ℕ) (n : ℕ) → List·Permᴰ (listed f n) (sortAt lt f n)
+unfolding listed sortAt
+perm-sort lt f zero = List·Permᴰ·nil
+perm-sort lt f (suc n) =
+    List·Permᴰ·trans (Permᴰ·middle (f n) (listed f n) [])
+    (List·Permᴰ·trans (List·Permᴰ·cons refl (Permᴰ·append-nil (listed f n)))
+    (List·Permᴰ·trans (List·Permᴰ·cons refl (perm-sort lt f n)) (perm-insert lt (f n) (sortAt lt f n))))
+
+-- where nothing goes before anything, what is put in stands at the end
+pub insert-never : (x : ℕ) (ys : List ℕ) → insertBy never x ys ≡ ys ++ (x ∷ [])
+unfolding insertBy
+insert-never x [] = refl
+insert-never x (y ∷ ys) = ap (λ (l : List ℕ). y ∷ l) (insert-never x ys)
 
 -- ---- the order decides the list
 module _ (lt : ℕ → ℕ → Bool) (asym : (a b : ℕ) → lt a b ≡ true → lt b a ≡ false) where
@@ -185,18 +226,6 @@ mix-trans {f} {g} {h} {n} a b =
       to-back = λ k l. ap (a .to) (b .to-back (a .back k) (a .back-low k l)) ∙ a .to-back k l;
       back-to = λ k l. ap (b .back) (a .back-to (b .to k) (b .to-low k l)) ∙ b .back-to k l;
       is = λ k l. b .is k l ∙ a .is (b .to k) (b .to-low k l);
-    }
-
-pub mix-agree : (f g : ℕ → ℕ) (n : ℕ) → ((k : ℕ) → k < n → g k ≡ f k) → Shuffled f g n
-mix-agree f g n h =
-    record {
-      to = λ k. k;
-      back = λ k. k;
-      to-low = λ k l. l;
-      back-low = λ k l. l;
-      to-back = λ k l. refl;
-      back-to = λ k l. refl;
-      is = h;
     }
 
 pub mix-apart : {f g : ℕ → ℕ} {n : ℕ} (q : ℕ → ℕ) → Shuffled f g n → ((i j : ℕ) → i < n → j < n → q (f i) ≡ q (f j) → i ≡ j) → (i j : ℕ) → i < n → j < n → q (g i) ≡ q (g j) → i ≡ j

@@ -56,3 +56,8 @@ listed f (suc n) = listed f n ++ (f n ∷ [])
 unfoldable pub In : ℕ → List ℕ → Type 0
 In x [] = ⊥
 In x (y ∷ ys) = (x ≡ y) ⊎ In x ys
+
+-- none stands twice
+unfoldable pub Once : List ℕ → Type 0
+Once [] = Unit {0}
+Once (y ∷ ys) = (In y ys → ⊥) × Once ys

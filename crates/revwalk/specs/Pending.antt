@@ -10,7 +10,10 @@ use lib.Seq.{slice}
 use lib.Dec.{eqb, ltb}
 use lib.IntN.{ℤ, pos}
 use lib.Signed.{ltZ}
-use Rattle.hash.specs.Bytes.{Id, idBytes, ltId, at}
+use Rattle.hash.specs.Bytes.{ltId}
+use Rattle.hashtable.specs.Marks.{stale}
+use Rattle.hashtable.specs.Table.{idOf}
+use Rattle.revwalk.specs.Order.{insertBy, In}
 use Rattle.revwalk.specs.declared.pending.Pending.{Pending}
 use Rattle.revwalk.specs.declared.pending.Taken.{Taken}
 
@@ -30,22 +33,9 @@ ahead levels times a b =
     let r : Bool = cond (eqb (levelOf levels b) (levelOf levels a)) (ltZ (secondsOf times b) (secondsOf times a)) false in
     cond (ltb (levelOf levels b) (levelOf levels a)) true r
 
--- the id in a slot
-abbrev pub idOf : List ℕ → ℕ → Id
-idOf names s = at names (idBytes * s) idBytes
-
 -- the id of slot a is not above that of slot b
 unfoldable pub notAbove : List ℕ → ℕ → ℕ → Bool
 notAbove names a b = not (ltId (idOf names b) (idOf names a))
-
--- x before the first of the list that it goes strictly before, so after its equals
-unfoldable pub insertBy : (ℕ → ℕ → Bool) → ℕ → List ℕ → List ℕ
-insertBy lt x [] = x ∷ []
-insertBy lt x (y ∷ ys) = cond (lt x y) (x ∷ y ∷ ys) (y ∷ insertBy lt x ys)
-
-unfoldable pub In : ℕ → List ℕ → Type 0
-In x [] = ⊥
-In x (y ∷ ys) = (x ≡ y) ⊎ In x ys
 
 -- ---- the queue
 
@@ -94,10 +84,7 @@ pub record Pops (p : Pending) (line : List ℕ) (r : Taken) : Type 0 where
 
 -- ---- STALE
 
--- a mark has STALE, the bit 4
-unfoldable pub stale : ℕ → Bool
-stale m = eqb (m / 4 % 2) 1
-
+-- the mark of a slot has STALE
 abbrev pub staleAt : List ℕ → ℕ → Bool
 staleAt marks s = stale (getD marks s 0)
 

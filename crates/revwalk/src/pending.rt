@@ -141,8 +141,7 @@ pub fn pop(p: Pending, line: &[u32]) -> Taken
 fn is_stale(marks: &[u8], slot: u32) -> bool
     ensures { λ r. ⌜ r ≡ staleAt (now (marks .entry)) slot ⌝ }
 {
-    let m = hash::byte_at(marks, slot as usize);
-    m / 4 % 2 == 1
+    hashtable::marks::has_stale(hash::byte_at(marks, slot as usize))
 }
 
 // Whether a waiting slot lacks STALE: from the front up to the first that does.

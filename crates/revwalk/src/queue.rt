@@ -34,26 +34,42 @@ pub struct Popped {
 pub fn push(q: Queue, line: &mut [u32], times: &[i64], slot: u32) -> Queue
     ensures { λ r. ⌜ Pushes q (now (times .entry)) slot (now (line .entry)) (now (line .exit)) r ⌝ }
 {
-    if q.timed { heap::push(q, line, times, slot) } else { ring::push(q, line, slot) }
+    if q.timed {
+        heap::push(q, line, times, slot)
+    } else {
+        ring::push(q, line, slot)
+    }
 }
 
 // Puts a slot back that was handed out: by time as if it were new, otherwise to the front.
 pub fn put_back(q: Queue, line: &mut [u32], times: &[i64], slot: u32) -> Queue
     ensures { λ r. ⌜ PutsBack q (now (times .entry)) slot (now (line .entry)) (now (line .exit)) r ⌝ }
 {
-    if q.timed { heap::push(q, line, times, slot) } else { ring::put_front(q, line, slot) }
+    if q.timed {
+        heap::push(q, line, times, slot)
+    } else {
+        ring::put_front(q, line, slot)
+    }
 }
 
 // Hands out the first slot.
 pub fn pop(q: Queue, line: &mut [u32], times: &[i64]) -> Popped
     ensures { λ r. ⌜ Pops q (now (times .entry)) (now (line .entry)) (now (line .exit)) r ⌝ }
 {
-    if q.timed { heap::pop(q, line, times) } else { ring::pop(q, line) }
+    if q.timed {
+        heap::pop(q, line, times)
+    } else {
+        ring::pop(q, line)
+    }
 }
 
 // The slot at the i-th place of the queue's memory, to visit all that wait, in the order of their places.
 pub fn slot_at(q: Queue, line: &[u32], i: usize) -> u32
     ensures { λ r. ⌜ ReadsSlot q (now (line .entry)) i r ⌝ }
 {
-    if q.timed { heap::slot_at(line, i) } else { ring::slot_at(q.cap, q.head, line, i) }
+    if q.timed {
+        heap::slot_at(line, i)
+    } else {
+        ring::slot_at(q.cap, q.head, line, i)
+    }
 }

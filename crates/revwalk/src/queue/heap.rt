@@ -6,7 +6,6 @@ ghost use lib.ListN.{length};
 ghost use Rattle.revwalk.specs.Order.{at, timeOf, seqOf, sooner, ahead, goes};
 ghost use Rattle.revwalk.specs.Sift.{Rose, Chosen, Sank};
 ghost use Rattle.revwalk.specs.Queue.{Unrooted, Pushes, Pops};
-
 use super::Popped;
 use super::Queue;
 
@@ -158,20 +157,36 @@ pub(super) fn pop(q: Queue, line: &mut [u32], times: &[i64]) -> Popped
     let cap = q.cap;
     let n = q.count;
     if line.len() / 2 < cap {
-        return Popped { found: false, slot: 0, queue: q };
+        return Popped {
+            found: false,
+            slot: 0,
+            queue: q,
+        };
     }
     if cap < n {
-        return Popped { found: false, slot: 0, queue: q };
+        return Popped {
+            found: false,
+            slot: 0,
+            queue: q,
+        };
     }
     if n == 0 {
-        return Popped { found: false, slot: 0, queue: q };
+        return Popped {
+            found: false,
+            slot: 0,
+            queue: q,
+        };
     }
     let top = line[0];
     let m = n - 1;
     take_root(line, times, cap, q.newest, m);
     let mut rest = q;
     rest.count = m;
-    Popped { found: true, slot: top, queue: rest }
+    Popped {
+        found: true,
+        slot: top,
+        queue: rest,
+    }
 }
 
 // The slot at place i of the heap, 0 past the end.

@@ -5,7 +5,6 @@ ghost use mathlib.Core.Bool.{false};
 ghost use Prim.Native.Nat.{_+_, _<_, _≤_};
 ghost use lib.IntN.{ℤ};
 ghost use Rattle.revwalk.specs.Queue.{wrap, ringAt, Pushes, PutsBack, Pops};
-
 use super::Popped;
 use super::Queue;
 
@@ -16,14 +15,6 @@ fn place(cap: usize, head: usize, i: usize) -> usize
 {
     let rest = cap - head;
     if i < rest { head + i } else { i - rest }
-}
-
-// The place before head.
-fn before_head(cap: usize, head: usize) -> usize
-    requires { ⌜ head < cap ⌝ }
-    ensures { λ r. ⌜ (wrap cap (r + 1) ≡ head) × (r < cap) ⌝ }
-{
-    if head == 0 { cap - 1 } else { head - 1 }
 }
 
 // Queues a slot at the end.
@@ -50,7 +41,7 @@ pub(super) fn push(q: Queue, line: &mut [u32], slot: u32) -> Queue
     grown
 }
 
-// Puts a slot in front of all that wait.
+// Puts a slot in front of all that wait: the place before head is the one cap - 1 places after it.
 pub(super) fn put_front(q: Queue, line: &mut [u32], slot: u32) -> Queue
     requires { ⌜ q .timed ≡ false ⌝ }
     ensures { λ r. ⌜ ((times : List ℤ) → PutsBack q times slot (now (line .entry)) (now (line .exit)) r) ⌝ }
@@ -67,7 +58,8 @@ pub(super) fn put_front(q: Queue, line: &mut [u32], slot: u32) -> Queue
     if cap <= head {
         return q;
     }
-    let p = before_head(cap, head);
+    let last = cap - 1;
+    let p = place(cap, head, last);
     line[p] = slot;
     let mut grown = q;
     grown.head = p;
@@ -84,20 +76,36 @@ pub(super) fn pop(q: Queue, line: &[u32]) -> Popped
     let head = q.head;
     let n = q.count;
     if line.len() / 2 < cap {
-        return Popped { found: false, slot: 0, queue: q };
+        return Popped {
+            found: false,
+            slot: 0,
+            queue: q,
+        };
     }
     if n == 0 {
-        return Popped { found: false, slot: 0, queue: q };
+        return Popped {
+            found: false,
+            slot: 0,
+            queue: q,
+        };
     }
     if cap <= head {
-        return Popped { found: false, slot: 0, queue: q };
+        return Popped {
+            found: false,
+            slot: 0,
+            queue: q,
+        };
     }
-    let slot = line[head];
     let p = place(cap, head, 1);
+    let slot = line[head];
     let mut rest = q;
     rest.head = p;
     rest.count = n - 1;
-    Popped { found: true, slot: slot, queue: rest }
+    Popped {
+        found: true,
+        slot: slot,
+        queue: rest,
+    }
 }
 
 // The i-th of the slots that wait, 0 where there is no such place.

@@ -1,5 +1,5 @@
--- `pending::shift_in` meets its contract: up to place i the slots have moved down by one and none of them goes behind the new slot;
--- the gap at i - 1 takes it. What is left of the part grows shorter. Assumes nothing.
+-- `pending::shift_in` meets its contract: up to place i the slots have moved down by one, and the new slot goes strictly before none
+-- of them; the gap at i - 1 takes it. Assumes nothing.
 use borrow.Author.Needs.{needs}
 use mathlib.Core.Path.{_≡_, refl, sym, _∙_}
 use mathlib.Core.Bool.{true, false}

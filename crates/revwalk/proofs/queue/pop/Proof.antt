@@ -2,10 +2,6 @@
 use borrow.Author.Needs.{needs}
 use Rattle.revwalk.proofs.queue.pop.Statement.{statement}
 use Rattle.revwalk.proofs.queue.pop.Tie as tie
-use Rattle.revwalk.proofs.queue.pop.Reads as reads
-use Rattle.revwalk.proofs.queue.pop.Lts as lts
-use Rattle.revwalk.proofs.queue.heap.pop.Reads as queue-heap-pop-reads
-use Rattle.revwalk.proofs.queue.ring.pop.Reads as queue-ring-pop-reads
 
 pop-requires : tie.Need-pop-requires
 pop-requires c κs = search needs

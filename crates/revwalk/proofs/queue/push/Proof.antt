@@ -2,10 +2,6 @@
 use borrow.Author.Needs.{needs}
 use Rattle.revwalk.proofs.queue.push.Statement.{statement}
 use Rattle.revwalk.proofs.queue.push.Tie as tie
-use Rattle.revwalk.proofs.queue.push.Reads as reads
-use Rattle.revwalk.proofs.queue.push.Lts as lts
-use Rattle.revwalk.proofs.queue.heap.push.Reads as queue-heap-push-reads
-use Rattle.revwalk.proofs.queue.ring.push.Reads as queue-ring-push-reads
 
 push-requires : tie.Need-push-requires
 push-requires c κs = search needs

@@ -3,10 +3,6 @@ use Rattle.revwalk.proofs.QueueRing.{back-timed}
 use borrow.Author.Needs.{needs}
 use Rattle.revwalk.proofs.queue.put_back.Statement.{statement}
 use Rattle.revwalk.proofs.queue.put_back.Tie as tie
-use Rattle.revwalk.proofs.queue.put_back.Reads as reads
-use Rattle.revwalk.proofs.queue.put_back.Lts as lts
-use Rattle.revwalk.proofs.queue.heap.push.Reads as push-reads
-use Rattle.revwalk.proofs.queue.ring.put_front.Reads as put-front-reads
 
 push-requires : tie.Need-push-requires
 push-requires c κs = search needs

@@ -3,10 +3,6 @@ use Rattle.revwalk.proofs.QueueGood.{reads-timed, reads-ring}
 use borrow.Author.Needs.{needs}
 use Rattle.revwalk.proofs.queue.slot_at.Statement.{statement}
 use Rattle.revwalk.proofs.queue.slot_at.Tie as tie
-use Rattle.revwalk.proofs.queue.slot_at.Reads as reads
-use Rattle.revwalk.proofs.queue.slot_at.Lts as lts
-use Rattle.revwalk.proofs.queue.heap.slot_at.Reads as queue-heap-slot-at-reads
-use Rattle.revwalk.proofs.queue.ring.slot_at.Reads as queue-ring-slot-at-reads
 
 slot-at-requires : tie.Need-slot-at-requires
 slot-at-requires c κs = search needs

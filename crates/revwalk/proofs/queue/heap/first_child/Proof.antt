@@ -1,12 +1,10 @@
+-- The child that the test picks goes before the other, by what is_before answers.
 use mathlib.Core.Path.{refl, sym, _∙_}
 use mathlib.Core.Logic.{inl, inr}
 use native.Mathlib.Omega.{arith}
 use borrow.Author.Needs.{needs}
 use Rattle.revwalk.proofs.queue.heap.first_child.Statement.{statement}
 use Rattle.revwalk.proofs.queue.heap.first_child.Tie as tie
-use Rattle.revwalk.proofs.queue.heap.first_child.Reads as reads
-use Rattle.revwalk.proofs.queue.heap.first_child.Lts as lts
-use Rattle.revwalk.proofs.queue.heap.is_before.Reads as is-before-reads
 
 add-r : tie.Need-add-r
 add-r c = search needs

@@ -1,15 +1,8 @@
-use mathlib.Core.Path.{_≡_, _∙_}
-use mir.Facts.{toZ-ofZ}
-use mir.Syntax.{w64}
-use mir.Val.{SFits, toZ, ofZ}
+-- The seconds are those of the two slots.
 use Rattle.revwalk.proofs.QueueOrders.{told-times}
 use borrow.Author.Needs.{needs}
 use Rattle.revwalk.proofs.queue.heap.is_ahead.Statement.{statement}
 use Rattle.revwalk.proofs.queue.heap.is_ahead.Tie as tie
-use Rattle.revwalk.proofs.queue.heap.is_ahead.Reads as reads
-use Rattle.revwalk.proofs.queue.heap.is_ahead.Lts as lts
-use Rattle.revwalk.proofs.queue.heap.is_sooner.Reads as is-sooner-reads
-use Rattle.revwalk.proofs.queue.heap.time_of.Reads as time-of-reads
 
 time-of-requires : tie.Need-time-of-requires
 time-of-requires c κs = search needs

@@ -1,12 +1,9 @@
+-- The tests are those of the order, in its own turn: seconds, seconds the other way round, numbers.
 use mathlib.Core.Path.{sym, _∙_}
 use Rattle.revwalk.proofs.QueueOrders.{goes-yes, goes-no, goes-seq}
 use borrow.Author.Needs.{needs}
 use Rattle.revwalk.proofs.queue.heap.is_before.Statement.{statement}
 use Rattle.revwalk.proofs.queue.heap.is_before.Tie as tie
-use Rattle.revwalk.proofs.queue.heap.is_before.Reads as reads
-use Rattle.revwalk.proofs.queue.heap.is_before.Lts as lts
-use Rattle.revwalk.proofs.queue.heap.is_ahead.Reads as is-ahead-reads
-use Rattle.revwalk.proofs.queue.heap.seq_of.Reads as seq-of-reads
 
 is-ahead-requires : tie.Need-is-ahead-requires
 is-ahead-requires c κs = search needs

@@ -1,8 +1,7 @@
+-- Signed locals read back as themselves.
 use mir.Facts.{toZ-ofZ}
 use Rattle.revwalk.proofs.queue.heap.is_sooner.Statement.{statement}
 use Rattle.revwalk.proofs.queue.heap.is_sooner.Tie as tie
-use Rattle.revwalk.proofs.queue.heap.is_sooner.Reads as reads
-use Rattle.revwalk.proofs.queue.heap.is_sooner.Lts as lts
 
 returns : tie.Need-returns
 returns c = rw (c .if1 .taken, toZ-ofZ (c .before .fits .u), toZ-ofZ (c .before .fits .v))

@@ -1,14 +1,10 @@
 -- A queue that is refused is not good, or empty; else the root is the first of the list.
-use mathlib.Core.Path.{_≡_, sym, ap, _∙_}
 use native.Mathlib.Omega.{arith}
 use Rattle.revwalk.proofs.QueueGood.{good-room, good-size, pops-none}
 use Rattle.revwalk.proofs.QueueHeap.{pops}
 use borrow.Author.Needs.{needs}
 use Rattle.revwalk.proofs.queue.heap.pop.Statement.{statement}
 use Rattle.revwalk.proofs.queue.heap.pop.Tie as tie
-use Rattle.revwalk.proofs.queue.heap.pop.Reads as reads
-use Rattle.revwalk.proofs.queue.heap.pop.Lts as lts
-use Rattle.revwalk.proofs.queue.heap.take_root.Reads as take-root-reads
 
 returns : tie.Need-returns
 returns c = pops-none (λ g. absurd (omega (arith, good-room g)))

@@ -1,5 +1,5 @@
 -- Each test that refuses contradicts a good queue with room for the slot; else sift_up has put the slot in.
-use mathlib.Core.Path.{_≡_, sym, ap, _∙_}
+use mathlib.Core.Path.{_∙_}
 use native.Mathlib.Omega.{arith}
 use lib.ListN.{length-set}
 use Rattle.revwalk.proofs.QueueGood.{good-room, good-left, refused}
@@ -7,9 +7,6 @@ use Rattle.revwalk.proofs.QueueHeap.{pushes}
 use borrow.Author.Needs.{needs}
 use Rattle.revwalk.proofs.queue.heap.push.Statement.{statement}
 use Rattle.revwalk.proofs.queue.heap.push.Tie as tie
-use Rattle.revwalk.proofs.queue.heap.push.Reads as reads
-use Rattle.revwalk.proofs.queue.heap.push.Lts as lts
-use Rattle.revwalk.proofs.queue.heap.sift_up.Reads as sift-up-reads
 
 returns : tie.Need-returns
 returns c = refused (λ g s f n. omega (arith, good-room g))

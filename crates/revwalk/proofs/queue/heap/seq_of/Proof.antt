@@ -1,11 +1,10 @@
+-- Past the end a list has its default.
 use mathlib.Core.Path.{sym}
 use native.Mathlib.Omega.{arith}
 use lib.ListN.{List·getD-eq-default}
 use borrow.Author.Needs.{needs}
 use Rattle.revwalk.proofs.queue.heap.seq_of.Statement.{statement}
 use Rattle.revwalk.proofs.queue.heap.seq_of.Tie as tie
-use Rattle.revwalk.proofs.queue.heap.seq_of.Reads as reads
-use Rattle.revwalk.proofs.queue.heap.seq_of.Lts as lts
 
 sub-if2 : tie.Need-sub-if2
 sub-if2 c = search needs

@@ -1,6 +1,7 @@
+-- With x put into the hole, a turn exchanges it with the one above; it stops where x goes after the one above, or at the root.
 use borrow.Author.Needs.{needs}
 use borrow.Author.Tests.{not-true, not-false}
-use mathlib.Core.Path.{_≡_, sym, _∙_}
+use mathlib.Core.Path.{sym, _∙_}
 use native.Mathlib.Omega.{arith}
 use lib.ListN.{length-set}
 use Rattle.revwalk.specs.Order.{goes}
@@ -8,9 +9,6 @@ use Rattle.revwalk.proofs.QueueShares.{lawful}
 use Rattle.revwalk.proofs.QueueMoves.{Rising, rise-begin, rise-step, rise-stop, rise-top}
 use Rattle.revwalk.proofs.queue.heap.sift_up.Statement.{statement}
 use Rattle.revwalk.proofs.queue.heap.sift_up.Tie as tie
-use Rattle.revwalk.proofs.queue.heap.sift_up.Reads as reads
-use Rattle.revwalk.proofs.queue.heap.sift_up.Lts as lts
-use Rattle.revwalk.proofs.queue.heap.is_before.Reads as is-before-reads
 
 abbrev Inv-loop : tie.InvT-loop
 Inv-loop line₀ times cap newest hole x i₀ line i = Rising (goes newest times cap) cap hole x line₀ line i

@@ -1,16 +1,12 @@
+-- A turn exchanges the hole with the child that goes first, whatever is to fill it; it ends at a leaf.
 use borrow.Author.Needs.{needs}
-use mathlib.Core.Path.{_≡_, sym, _∙_}
 use Prim.Native.Nat.{_-_}
 use native.Mathlib.Omega.{arith}
-use lib.ListN.{length-set}
 use Rattle.revwalk.specs.Order.{goes}
 use Rattle.revwalk.proofs.QueueShares.{lawful}
 use Rattle.revwalk.proofs.QueueMoves.{Sinking, sink-begin, sink-step, sink-less, sink-end}
 use Rattle.revwalk.proofs.queue.heap.sink.Statement.{statement}
 use Rattle.revwalk.proofs.queue.heap.sink.Tie as tie
-use Rattle.revwalk.proofs.queue.heap.sink.Reads as reads
-use Rattle.revwalk.proofs.queue.heap.sink.Lts as lts
-use Rattle.revwalk.proofs.queue.heap.first_child.Reads as first-child-reads
 
 abbrev Inv-loop : tie.InvT-loop
 Inv-loop line₀ times cap newest n i₀ line i = Sinking (goes newest times cap) cap n line₀ line i

@@ -1,11 +1,9 @@
 -- Past the end a list has its default.
-use mathlib.Core.Path.{_≡_, sym, ap, _∙_}
+use mathlib.Core.Path.{sym}
 use lib.ListN.{List·getD-eq-default}
 use borrow.Author.Needs.{needs}
 use Rattle.revwalk.proofs.queue.heap.slot_at.Statement.{statement}
 use Rattle.revwalk.proofs.queue.heap.slot_at.Tie as tie
-use Rattle.revwalk.proofs.queue.heap.slot_at.Reads as reads
-use Rattle.revwalk.proofs.queue.heap.slot_at.Lts as lts
 
 mul-result : tie.Need-mul-result
 mul-result c = search needs

@@ -1,14 +1,10 @@
 -- One slot leaves nothing; else the last slot has gone in at the leaf to which the hole went down.
-use mathlib.Core.Path.{_≡_, sym, ap, _∙_}
+use mathlib.Core.Path.{_∙_}
 use native.Mathlib.Omega.{arith}
 use Rattle.revwalk.proofs.QueueHeapPop.{unrooted-one, unrooted}
 use borrow.Author.Needs.{needs}
 use Rattle.revwalk.proofs.queue.heap.take_root.Statement.{statement}
 use Rattle.revwalk.proofs.queue.heap.take_root.Tie as tie
-use Rattle.revwalk.proofs.queue.heap.take_root.Reads as reads
-use Rattle.revwalk.proofs.queue.heap.take_root.Lts as lts
-use Rattle.revwalk.proofs.queue.heap.sift_up.Reads as sift-up-reads
-use Rattle.revwalk.proofs.queue.heap.sink.Reads as sink-reads
 
 returns : tie.Need-returns
 returns c = let s = c .before .before in unrooted-one (s .args .newest) (s .args .times .now) (s .args .cap) (s .args .line .now) _ (c .if1 .taken)

@@ -1,11 +1,10 @@
+-- Past the end a list has its default.
 use mathlib.Core.Path.{sym}
 use lib.ListN.{List·getD-eq-default}
 use lib.IntN.{pos}
 use borrow.Author.Needs.{needs}
 use Rattle.revwalk.proofs.queue.heap.time_of.Statement.{statement}
 use Rattle.revwalk.proofs.queue.heap.time_of.Tie as tie
-use Rattle.revwalk.proofs.queue.heap.time_of.Reads as reads
-use Rattle.revwalk.proofs.queue.heap.time_of.Lts as lts
 
 mul-result : tie.Need-mul-result
 mul-result c = search needs

@@ -1,13 +1,11 @@
 -- Which side of cap the sum lies on is what the code tests.
-use mathlib.Core.Path.{_≡_, sym, ap, _∙_}
+use mathlib.Core.Path.{_≡_, sym, _∙_}
 use Prim.Native.Nat.{_+_, _-_, _<_, _≤_}
 use native.Mathlib.Omega.{arith}
 use Rattle.revwalk.proofs.QueueRing.{wrap-low, wrap-high}
 use borrow.Author.Needs.{needs}
 use Rattle.revwalk.proofs.queue.ring.place.Statement.{statement}
 use Rattle.revwalk.proofs.queue.ring.place.Tie as tie
-use Rattle.revwalk.proofs.queue.ring.place.Reads as reads
-use Rattle.revwalk.proofs.queue.ring.place.Lts as lts
 
 sub-rest : tie.Need-sub-rest
 sub-rest c = search needs

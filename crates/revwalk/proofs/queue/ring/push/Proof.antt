@@ -1,14 +1,10 @@
 -- Each test that refuses contradicts a good queue with room for the slot; else the slot stands at the place after the last.
-use mathlib.Core.Path.{_≡_, sym, ap, _∙_}
 use native.Mathlib.Omega.{arith}
 use Rattle.revwalk.proofs.QueueGood.{good-room, good-left, refused}
 use Rattle.revwalk.proofs.QueueRing.{pushes}
 use borrow.Author.Needs.{needs}
 use Rattle.revwalk.proofs.queue.ring.push.Statement.{statement}
 use Rattle.revwalk.proofs.queue.ring.push.Tie as tie
-use Rattle.revwalk.proofs.queue.ring.push.Reads as reads
-use Rattle.revwalk.proofs.queue.ring.push.Lts as lts
-use Rattle.revwalk.proofs.queue.ring.place.Reads as place-reads
 
 returns : tie.Need-returns
 returns c = λ times. refused (λ g s f n. omega (arith, good-room g))

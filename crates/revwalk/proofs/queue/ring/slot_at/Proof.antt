@@ -1,14 +1,10 @@
 -- The place is that of the ring; past the end a list has its default.
-use mathlib.Core.Path.{_≡_, sym, ap, _∙_}
-use native.Mathlib.Omega.{arith}
+use mathlib.Core.Path.{sym, ap, _∙_}
 use lib.ListN.{List·getD-eq-default}
 use Rattle.revwalk.specs.Order.{at}
 use borrow.Author.Needs.{needs}
 use Rattle.revwalk.proofs.queue.ring.slot_at.Statement.{statement}
 use Rattle.revwalk.proofs.queue.ring.slot_at.Tie as tie
-use Rattle.revwalk.proofs.queue.ring.slot_at.Reads as reads
-use Rattle.revwalk.proofs.queue.ring.slot_at.Lts as lts
-use Rattle.revwalk.proofs.queue.ring.place.Reads as place-reads
 
 returns : tie.Need-returns
 returns c = search needs
