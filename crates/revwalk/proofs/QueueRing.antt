@@ -11,7 +11,9 @@ use lib.Dec.{ltb}
 use borrow.Author.Tests.{ltb-true, ltb-false, lt-ltb, le-ltb}
 use Rattle.revwalk.specs.declared.queue.Queue.{Queue}
 use Rattle.revwalk.specs.Order.{at, never, insertBy, sortAt, In}
-use Rattle.revwalk.specs.Queue.{Joins, Pushes, PutsBack, Pops, wrap, ringAt, slotsOf}
+use Rattle.hashtable.specs.Table.{wrap}
+use Rattle.hashtable.proofs.TableProbe as TableProbe
+use Rattle.revwalk.specs.Queue.{Joins, Pushes, PutsBack, Pops, ringAt, slotsOf}
 use Rattle.revwalk.proofs.QueueSorts.{sort-agree}
 use Rattle.revwalk.proofs.QueueMoves.{set-at, set-off}
 use Rattle.revwalk.proofs.QueueRoom.{slots-end, slots-front, slots-tail}
@@ -20,12 +22,10 @@ use Rattle.revwalk.proofs.QueueGood.{before-ring, place-ring, slots-rin
 -- ---- places
 module _ (cap : ℕ) where
   pub wrap-low : (k : ℕ) → k < cap → wrap cap k ≡ k
-  unfolding wrap
-  wrap-low k h = rw (lt-ltb k cap h)
+  wrap-low k h = TableProbe.wrap-low cap k h
 
   pub wrap-high : (k : ℕ) → cap ≤ k → wrap cap k ≡ k - cap
-  unfolding wrap
-  wrap-high k h = rw (le-ltb k cap h)
+  wrap-high k h = TableProbe.wrap-high cap k h
 
   wraps : (k : ℕ) → ((k < cap) × (wrap cap k ≡ k)) ⊎ ((cap ≤ k) × (wrap cap k ≡ k - cap))
   wraps k = go (ltb k cap) refl

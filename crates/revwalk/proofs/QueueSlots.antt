@@ -12,7 +12,8 @@ use Rattle.revwalk.specs.declared.queue.Queue.{Queue}
 use Rattle.revwalk.specs.declared.queue.Popped.{Popped}
 use Rattle.revwalk.specs.Order.{at, timeOf, seqOf, goes, sortAt, never, listed, In, Once}
 use Rattle.revwalk.specs.Sift.{par}
-use Rattle.revwalk.specs.Queue.{Heap, Ring, GoodQueue, Pops, queued, wrap, ringAt, placeOf, turnOf, slotsOf}
+use Rattle.hashtable.specs.Table.{wrap}
+use Rattle.revwalk.specs.Queue.{Heap, Ring, GoodQueue, Pops, queued, ringAt, placeOf, turnOf, slotsOf}
 use Rattle.revwalk.proofs.QueueSorts.{no-both, sort-agree, once-sort, perm-sort}
 use Rattle.revwalk.proofs.QueueShares.{heap-as}
 use Rattle.revwalk.proofs.QueueGood.{First, either, place-timed, slots-timed, slots-ring, slots-in, in-slots, good-slots}

@@ -8,6 +8,7 @@ use lib.Dec.{ltb}
 use lib.IntN.{ℤ}
 use Rattle.revwalk.specs.declared.queue.Queue.{Queue}
 use Rattle.revwalk.specs.declared.queue.Popped.{Popped}
+use Rattle.hashtable.specs.Table.{wrap}
 use Rattle.revwalk.specs.Order.{at, seqOf, ahead, goes, never, insertBy, sortAt, In}
 use Rattle.revwalk.specs.Sift.{Heaped}
 
@@ -32,10 +33,6 @@ pub record Unrooted (newest : Bool) (times : List ℤ) (cap m : ℕ) (line out :
   pub list : (next : ℕ) → Heap newest times line cap (m + 1) next → queued newest times line cap (m + 1) ≡ at line 0 ∷ queued newest times out cap m
 
 -- ---- the ring
--- the place k of cap places, where k is below 2 cap: after place cap - 1 comes place 0
-unfoldable pub wrap : ℕ → ℕ → ℕ
-wrap cap k = cond (ltb k cap) k (k - cap)
-
 -- the i-th slot of the ring that begins at head
 abbrev pub ringAt : List ℕ → ℕ → ℕ → ℕ → ℕ
 ringAt line cap head i = at line (wrap cap (head + i))

@@ -4,7 +4,8 @@ ghost use mathlib.Core.List.{List};
 ghost use mathlib.Core.Bool.{false};
 ghost use Prim.Native.Nat.{_+_, _<_, _≤_};
 ghost use lib.IntN.{ℤ};
-ghost use Rattle.revwalk.specs.Queue.{wrap, ringAt, Pushes, PutsBack, Pops};
+ghost use Rattle.hashtable.specs.Table.{wrap};
+ghost use Rattle.revwalk.specs.Queue.{ringAt, Pushes, PutsBack, Pops};
 use super::Popped;
 use super::Queue;
 
