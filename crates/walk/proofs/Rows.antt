@@ -1,0 +1,105 @@
+-- The rows of a commit-graph file with a good layout: positions of parents are below N, and an id's row is found at its position, since
+-- ids rise strictly; so the seconds that a row gives its parents are those of their own rows. Assumes nothing.
+use mathlib.Core.Path.{_≡_, refl, sym, _∙_, ap, subst}
+use mathlib.Core.Logic.{_⊎_, inl, inr, ⊎-elim}
+use Prim.Native.Nat.{ℕ, zero, suc, _≤_, _<_}
+use mathlib.Core.Bool.{true}
+use mathlib.Core.Option.{Option, none, some}
+use mathlib.Core.List.{List, [], _∷_, map, List·Memᴰ·head, List·Memᴰ·tail, List·Memᴰ·cases-cons, List·Memᴰ·not-nil}
+use native.Mathlib.Omega.{arith}
+use native.Mathlib.Nat.{eq-or-lt-of-le}
+use lib.ListN.{length}
+use lib.IntN.{ℤ}
+use Rattle.hash.specs.Bytes.{Id, ifSome}
+use Rattle.hash.proofs.Tests.{no-some}
+use Rattle.idlist.specs.IdList.{findIn}
+use Rattle.idlist.proofs.Answer.{find-at}
+use Rattle.commitgraph.specs.Graph.{graphCount, graphIds, graphId, graphFind, graphParents, graphSeconds, generation, graphOk}
+use Rattle.walk.specs.Lookup.{no-row, corrupt, row, rowAt, worldOf}
+use Rattle.walk.specs.Reach.{Mem}
+use Rattle.walk.proofs.Laws.{Coherent}
+use Rattle.commitgraph.proofs.LayoutRight.{right}
+use Rattle.commitgraph.proofs.Edges.{parents-below}
+
+-- the id at a position is found there
+pub row-found : (g : List ℕ) → graphOk g ≡ true → (q : ℕ) → q < graphCount g → graphFind g (graphId g q) ≡ some q
+unfolding graphFind graphId
+row-found g ok q l = find-at (graphIds g) (graphId g q) (graphCount g) q (right g ok .idsRise) l refl
+
+pub mem-of-map : {A B : Type 0} (f : A → B) (l : List A) (b : B) → Mem b (map f l) → (a : A) × Mem a l × (b ≡ f a)
+mem-of-map f [] b m = absurd (List·Memᴰ·not-nil m)
+mem-of-map f (x ∷ xs) b m =
+    ⊎-elim (λ e. (x, List·Memᴰ·head refl, e)) (λ k. let r = mem-of-map f xs b k in (r .0, List·Memᴰ·tail (r .1), r .2)) (List·Memᴰ·cases-cons m)
+
+-- a row of the world is a row of the file
+pub record IsRow (g : List ℕ) (x : Id) (ps : List (Id × ℤ)) : Type 0 where
+  pub place : ℕ
+  pub found : graphFind g x ≡ some place
+  pub places : List ℕ
+  pub listed : graphParents g place ≡ some places
+  pub same : ps ≡ map (λ q. (graphId g q, graphSeconds g q)) places
+
+pub is-row : (b g : List ℕ) (x : Id) (ps : List (Id × ℤ)) (l : ℕ) (s : ℤ) → worldOf b g .graph x ≡ row ps l s → IsRow g x ps
+unfolding worldOf rowAt
+is-row b g x ps l s e = go (graphFind g x) refl e
+  where
+    on : (p : ℕ) → graphFind g x ≡ some p → (o : Option (List ℕ)) → graphParents g p ≡ o
+        → ifSome o corrupt (λ qs. row (map (λ q. (graphId g q, graphSeconds g q)) qs) (generation g p) (graphSeconds g p)) ≡ row ps l s → IsRow g x ps
+    on p f none k e′ = let z : _≡_ {A = ℕ} 0 1 = cc in absurd (omega arith)
+    on p f (some qs) k e′ = record { place = p; found = f; places = qs; listed = k; same = cc }
+
+    go : (o : Option ℕ) → graphFind g x ≡ o → ifSome o no-row (λ p. rowAt g p) ≡ row ps l s → IsRow g x ps
+    go none k e′ = let z : _≡_ {A = ℕ} 0 1 = cc in absurd (omega arith)
+    go (some p) k e′ = on p k (graphParents g p) refl e′
+
+row-or-corrupt : (b g : List ℕ) (x : Id) (p : ℕ) → graphFind g x ≡ some p
+    → (worldOf b g .graph x ≡ corrupt) ⊎ ((qs : List (Id × ℤ)) × (m : ℕ) × (worldOf b g .graph x ≡ row qs m (graphSeconds g p)))
+unfolding worldOf rowAt
+row-or-corrupt b g x p f = go (graphParents g p) refl
+  where
+    go : (o : Option (List ℕ)) → graphParents g p ≡ o → (worldOf b g .graph x ≡ corrupt) ⊎ ((qs : List (Id × ℤ)) × (m : ℕ) × (worldOf b g .graph x ≡ row qs m (graphSeconds g p)))
+    go none k = inl (rw (f, k))
+    go (some l) k = inr (map (λ q. (graphId g q, graphSeconds g q)) l, generation g p, rw (f, k))
+
+pub coherent-world : (b g : List ℕ) → graphOk g ≡ true → Coherent (worldOf b g)
+unfolding Coherent
+coherent-world b g ok x ps l s e t m =
+    let r = is-row b g x ps l s e in
+    let q = mem-of-map (λ q. (graphId g q, graphSeconds g q)) (r .places) t (rw (r .same) at m) in
+    let f = row-found g ok (q .0) (parents-below g (r .place) (r .places) (r .listed) (q .0) (q .1)) in
+    rw (q .2) (row-or-corrupt b g (graphId g (q .0)) (q .0) f)
+
+pub find-nil : (y : Id) → graphFind [] y ≡ none
+unfolding graphFind graphCount findIn
+find-nil y = refl
+
+-- a zero-length graph has no rows
+pub no-rows : (b : List ℕ) → Coherent (worldOf b [])
+unfolding Coherent
+no-rows b x ps l s e t m = no-some (sym (find-nil x) ∙ is-row b [] x ps l s e .found)
+
+-- the ids of k rows
+unfoldable pub rowIds : List ℕ → ℕ → List Id
+rowIds g zero = []
+rowIds g (suc k) = graphId g k ∷ rowIds g k
+
+rowIds-in : (g : List ℕ) (k q : ℕ) → q < k → Mem (graphId g q) (rowIds g k)
+unfolding rowIds
+rowIds-in g zero q l = absurd (omega arith)
+rowIds-in g (suc k) q l = ⊎-elim (λ e. List·Memᴰ·head (ap (graphId g) e)) (λ h. List·Memᴰ·tail (rowIds-in g k q h)) (eq-or-lt-of-le le)
+  where
+    le : q ≤ k
+    le = omega arith
+
+pub rowIds-length : (g : List ℕ) (k : ℕ) → length (rowIds g k) ≡ k
+unfolding rowIds
+rowIds-length g zero = refl
+rowIds-length g (suc k) = ap suc (rowIds-length g k)
+
+pub rows-in : (b g : List ℕ) (x p : Id) (ps : List (Id × ℤ)) (l : ℕ) (s : ℤ) → worldOf b g .graph x ≡ row ps l s → Mem p (map (λ q. q .0) ps) → Mem p (rowIds g (graphCount g))
+rows-in b g x p ps l s e m =
+    let r = is-row b g x ps l s e in
+    let t = mem-of-map (λ (q : Id × ℤ). q .0) ps p m in
+    let q = mem-of-map (λ q. (graphId g q, graphSeconds g q)) (r .places) (t .0) (subst (λ (l : List (Id × ℤ)). Mem (t .0) l) (r .same) (t .1)) in
+    let e₁ : p ≡ graphId g (q .0) = t .2 ∙ ap (λ (u : Id × ℤ). u .0) (q .2) in
+    rw e₁ (rowIds-in g (graphCount g) (q .0) (parents-below g (r .place) (r .places) (r .listed) (q .0) (q .1)))

@@ -1,0 +1,15 @@
+pub mod Refusals
+pub mod Settings
+pub mod Lookup
+pub mod State
+pub mod Opening
+pub mod Painting
+pub mod Next
+pub mod Calls
+pub mod Given
+pub mod Reach
+pub mod Demand
+pub mod Sums
+pub mod AnyInput
+pub mod Runs
+pub mod Slips

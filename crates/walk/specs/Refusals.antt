@@ -1,0 +1,20 @@
+-- Document 01's refusals: the number of each case.
+-- Assumes nothing.
+use Prim.Native.Nat.{ℕ}
+use Rattle.walk.specs.declared.Refusal.{Refusal}
+use Rattle.walk.specs.declared.Refusal.the-variants.{BufferTooSmall, InputTooLarge, PartialId, CorruptStore, UnknownGraph, CorruptGraph, TipNotFound, TipUnreadable, CommitNotFound, CommitUnreadable, TooManyParents, Closed}
+
+-- "no. | word | when"
+abbrev pub numberOf : Refusal → ℕ
+numberOf BufferTooSmall = 1  -- short memory: a lent buffer below its size
+numberOf InputTooLarge = 2  -- oversize: book or graph over 16,777,216 bytes, or a list over 1,024 ids (20,480 bytes)
+numberOf PartialId = 3  -- ragged list: list bytes not a multiple of 20
+numberOf CorruptStore = 4  -- torn book: the layout broken
+numberOf UnknownGraph = 5  -- foreign graph: first 8 bytes absent or other (C is free)
+numberOf CorruptGraph = 6  -- torn graph: the rest of its layout
+numberOf TipNotFound = 7  -- lost tip: time order, tip not in the book
+numberOf TipUnreadable = 8  -- blurred tip: its header not good through committer
+numberOf CommitNotFound = 9  -- lost commit: in neither file
+numberOf CommitUnreadable = 10  -- blurred commit: header line bad
+numberOf TooManyParents = 11  -- crowded commit: a good 257th parent line; of 10 and 11 the earlier line decides
+numberOf Closed = 12  -- closed: record closed, or memory touched

@@ -1,0 +1,193 @@
+-- Document 01's runs, as theorems over the bytes of a commit store: its starred runs in one joint statement, the skewed clock, the absent
+-- parent. Assumes nothing.
+use mathlib.Core.Path.{_≡_, refl}
+use Prim.Native.Nat.{ℕ, _+_, _/_, _%_}
+use mathlib.Core.Bool.{cond}
+use mathlib.Core.List.{List, [], _∷_, _++_}
+use lib.ListN.{length, getD, replicate}
+use lib.Dec.{ltb}
+use lib.IntN.{pos}
+use Rattle.hash.specs.Bytes.{Id, bytesAll}
+use Rattle.idlist.specs.IdList.{idListAll}
+use Rattle.object.specs.Header.{treeWord, parentWord, authorWord, committerWord, headerAll}
+use Rattle.odb.specs.Store.{storeAll}
+use Rattle.commitgraph.specs.Graph.{graphAll}
+use Rattle.walk.specs.declared.Settings.{Settings}
+use Rattle.walk.specs.declared.Sorting.{Sorting}
+use Rattle.walk.specs.declared.Sorting.the-variants.{BreadthFirst, ByCommitTime, ByCommitTimeCutoff}
+use Rattle.walk.specs.declared.CommitTimeOrder.the-variants.{NewestFirst, OldestFirst}
+use Rattle.walk.specs.declared.Parents.the-variants.{All, First}
+use Rattle.walk.specs.Refusals.{numberOf}
+use Rattle.walk.specs.Opening.{Input}
+use Rattle.walk.specs.Next.{Kind, end, refused, handed, Answer}
+use Rattle.walk.specs.Calls.{answers, walkAll}
+
+-- ---- a commit store from a history
+
+-- a commit: a number below 256 that stands for its id, its seconds below 100, its parents' numbers
+pub record Commit : Type 0 where
+  pub name : ℕ
+  pub time : ℕ
+  pub from : List ℕ
+
+-- the id that stands for a number: 20 times this byte
+unfoldable pub idFor : ℕ → Id
+idFor n = replicate 20 n
+
+-- hexadecimal digits in lower case
+unfoldable pub digit : ℕ → ℕ
+digit d = cond (ltb d 10) (d + 48) (d + 87)
+
+unfoldable pub hexes : List ℕ → List ℕ
+unfolding digit
+hexes [] = []
+hexes (x ∷ xs) = digit (x / 16) ∷ digit (x % 16) ∷ hexes xs
+
+-- a big-endian u32
+unfoldable pub u32 : ℕ → List ℕ
+u32 n = n / 16777216 % 256 ∷ (n / 65536 % 256) ∷ (n / 256 % 256) ∷ (n % 256) ∷ []
+
+-- `A <a> `, and after the seconds ` +0000`
+unfoldable pub who : List ℕ
+who = 65 ∷ 32 ∷ 60 ∷ 97 ∷ 62 ∷ 32 ∷ []
+
+unfoldable pub zone : List ℕ
+zone = 32 ∷ 43 ∷ 48 ∷ 48 ∷ 48 ∷ 48 ∷ []
+
+-- one or two decimal digits
+unfoldable pub decimal : ℕ → List ℕ
+unfolding digit
+decimal n = cond (ltb n 10) (digit n ∷ []) (digit (n / 10) ∷ digit (n % 10) ∷ [])
+
+unfoldable pub parentsText : List ℕ → List ℕ
+unfolding idFor hexes
+parentsText [] = []
+parentsText (p ∷ ps) = parentWord ++ (hexes (idFor p) ++ (10 ∷ parentsText ps))
+
+-- a commit's body: a tree of zeros, its parents, author and committer `A <a> SECONDS +0000`, a blank line
+unfoldable pub bodyOf : Commit → List ℕ
+unfolding parentsText idFor hexes who zone decimal
+bodyOf c =
+    treeWord ++ (hexes (idFor 0) ++ (10 ∷ (parentsText (c .from)
+    ++ (authorWord ++ (who ++ (decimal (c .time) ++ (zone ++ (10 ∷ (committerWord ++ (who ++ (decimal (c .time) ++ (zone ++ (10 ∷ 10 ∷ [])))))))))))))
+
+unfoldable pub bodiesOf : List Commit → List ℕ
+unfolding bodyOf
+bodiesOf [] = []
+bodiesOf (c ∷ cs) = bodyOf c ++ bodiesOf cs
+
+unfoldable pub entriesOf : ℕ → List Commit → List ℕ
+unfolding bodyOf u32 idFor
+entriesOf e [] = []
+entriesOf e (c ∷ cs) = let f = e + length (bodyOf c) in idFor (c .name) ++ (u32 f ++ entriesOf f cs)
+
+-- the commit store of commits by rising name
+unfoldable pub storeOf : List Commit → List ℕ
+unfolding bodiesOf entriesOf u32
+storeOf cs = let b = bodiesOf cs in b ++ (entriesOf 0 cs ++ (u32 (length b) ++ u32 (length cs)))
+
+-- ---- what a run says
+
+unfoldable pub names : List ℕ → List ℕ
+unfolding idFor
+names [] = []
+names (n ∷ ns) = idFor n ++ names ns
+
+unfoldable pub input : List ℕ → List ℕ → List ℕ → List ℕ → Settings → Input
+unfolding names
+input store tips hidden excluded s =
+    record { store = store; graph = []; tips = names tips; hidden = names hidden; excluded = names excluded; settings = s }
+
+-- what an answer says: the number of the commit handed out, 0 for end, 100 and the number of a refusal
+unfoldable pub said : Kind → ℕ
+said end = 0
+said (refused r) = 100 + numberOf r
+said (handed x g t) = getD x 0 0
+
+unfoldable pub saidAll : List Answer → List ℕ
+unfolding said
+saidAll [] = []
+saidAll (a ∷ rest) = said (a .kind) ∷ saidAll rest
+
+-- k calls on a store with tips, hidden tips and excluded ids
+unfoldable pub says : List ℕ → List ℕ → List ℕ → List ℕ → Settings → ℕ → List ℕ
+unfolding saidAll input
+says store tips hidden excluded s k = saidAll (answers (input store tips hidden excluded s) k)
+
+unfoldable pub all : Sorting → Settings
+all s = record { sorting = s; parents = All }
+
+unfoldable pub firstOnly : Sorting → Settings
+firstOnly s = record { sorting = s; parents = First }
+
+abbrev pub newest : Sorting
+newest = ByCommitTime NewestFirst
+
+abbrev pub oldest : Sorting
+oldest = ByCommitTime OldestFirst
+
+abbrev pub newestFrom : ℕ → Sorting
+newestFrom c = ByCommitTimeCutoff NewestFirst (record { 0 = pos c })
+
+-- ---- the eight starred runs
+
+-- "8→6,7; 7→4; 6→5; 5→3; 4→2; 3→1; 2→1", "numbers as seconds"
+unfoldable pub sample : List ℕ
+unfolding storeOf
+sample = storeOf (
+    record { name = 1; time = 1; from = [] } ∷ record { name = 2; time = 2; from = 1 ∷ [] } ∷ record { name = 3; time = 3; from = 1 ∷ [] }
+    ∷ record { name = 4; time = 4; from = 2 ∷ [] } ∷ record { name = 5; time = 5; from = 3 ∷ [] } ∷ record { name = 6; time = 6; from = 5 ∷ [] }
+    ∷ record { name = 7; time = 7; from = 4 ∷ [] } ∷ record { name = 8; time = 8; from = 6 ∷ 7 ∷ [] } ∷ [])
+
+-- "*breadth 8 6 7 5 4 3 2 1; *newest 8 7 6 5 4 3 2 1; *oldest 8 6 5 3 1 7 4 2; *cutoff 4 newest 8 7 6 5 4; *First 8 6 5 3 1; *hide 5,
+-- breadth 8 6 7 4 2; *bar 6, breadth 8 7 4 2 1; *tips 7, 6, 7: 7 6 4 5 2 3 1." Each is followed by end, and end again
+pub record Runs : Type 0 where
+  pub breadth-run : says sample (8 ∷ []) [] [] (all BreadthFirst) 10 ≡ 8 ∷ 6 ∷ 7 ∷ 5 ∷ 4 ∷ 3 ∷ 2 ∷ 1 ∷ 0 ∷ 0 ∷ []
+  pub newest-run : says sample (8 ∷ []) [] [] (all newest) 10 ≡ 8 ∷ 7 ∷ 6 ∷ 5 ∷ 4 ∷ 3 ∷ 2 ∷ 1 ∷ 0 ∷ 0 ∷ []
+  pub oldest-run : says sample (8 ∷ []) [] [] (all oldest) 10 ≡ 8 ∷ 6 ∷ 5 ∷ 3 ∷ 1 ∷ 7 ∷ 4 ∷ 2 ∷ 0 ∷ 0 ∷ []
+  pub cutoff-run : says sample (8 ∷ []) [] [] (all (newestFrom 4)) 7 ≡ 8 ∷ 7 ∷ 6 ∷ 5 ∷ 4 ∷ 0 ∷ 0 ∷ []
+  pub first-run : says sample (8 ∷ []) [] [] (firstOnly BreadthFirst) 7 ≡ 8 ∷ 6 ∷ 5 ∷ 3 ∷ 1 ∷ 0 ∷ 0 ∷ []
+  pub hide-run : says sample (8 ∷ []) (5 ∷ []) [] (all BreadthFirst) 7 ≡ 8 ∷ 6 ∷ 7 ∷ 4 ∷ 2 ∷ 0 ∷ 0 ∷ []
+  pub exclude-run : says sample (8 ∷ []) [] (6 ∷ []) (all BreadthFirst) 7 ≡ 8 ∷ 7 ∷ 4 ∷ 2 ∷ 1 ∷ 0 ∷ 0 ∷ []
+  pub tips-run : says sample (7 ∷ 6 ∷ 7 ∷ []) [] [] (all BreadthFirst) 9 ≡ 7 ∷ 6 ∷ 4 ∷ 5 ∷ 2 ∷ 3 ∷ 1 ∷ 0 ∷ 0 ∷ []
+
+pub runs : Runs
+unfolding says all firstOnly sample bytesAll idListAll headerAll storeAll graphAll walkAll
+runs = record {
+  breadth-run = refl;
+  newest-run = refl;
+  oldest-run = refl;
+  cutoff-run = refl;
+  first-run = refl;
+  hide-run = refl;
+  exclude-run = refl;
+  tips-run = refl;
+}
+
+-- ---- further runs
+
+-- "Seconds a 10, h 9, c 8, m 3, s 1; a→c,m; h→m; m→s; s→c": 1 is a, 2 h, 3 c, 4 m, 5 s; the pair doesn't fall from s to c
+unfoldable pub skewed : List ℕ
+unfolding storeOf
+skewed = storeOf (
+    record { name = 1; time = 10; from = 3 ∷ 4 ∷ [] } ∷ record { name = 2; time = 9; from = 4 ∷ [] } ∷ record { name = 3; time = 8; from = [] }
+    ∷ record { name = 4; time = 3; from = 5 ∷ [] } ∷ record { name = 5; time = 1; from = 3 ∷ [] } ∷ [])
+
+-- "Tip at second 5, its parent absent"
+unfoldable pub lost : List ℕ
+unfolding storeOf
+lost = storeOf (record { name = 1; time = 5; from = 9 ∷ [] } ∷ [])
+
+pub record Further : Type 0 where
+  -- "Hide 8, or no tips: end."
+  pub hide-tip : says sample (8 ∷ []) (8 ∷ []) [] (all BreadthFirst) 2 ≡ 0 ∷ 0 ∷ []
+  pub no-tips : says sample [] [] [] (all BreadthFirst) 2 ≡ 0 ∷ 0 ∷ []
+  -- "Tip a, hide h: a, c come out though h reaches c."
+  pub skewed-run : says skewed (1 ∷ []) (2 ∷ []) [] (all BreadthFirst) 4 ≡ 1 ∷ 3 ∷ 0 ∷ 0 ∷ []
+  -- "newest, cutoff 0: the tip, then refusal 9; cutoff 1: silently dropped"
+  pub lost-run : says lost (1 ∷ []) [] [] (all (newestFrom 0)) 3 ≡ 1 ∷ 109 ∷ 0 ∷ []
+  pub dropped-run : says lost (1 ∷ []) [] [] (all (newestFrom 1)) 3 ≡ 1 ∷ 0 ∷ 0 ∷ []
+
+pub further : Further
+unfolding says all sample skewed lost bytesAll idListAll headerAll storeAll graphAll walkAll
+further = record { hide-tip = refl; no-tips = refl; skewed-run = refl; lost-run = refl; dropped-run = refl }

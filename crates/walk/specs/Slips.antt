@@ -1,0 +1,208 @@
+-- Runs that tell the walk from what it is easily mistaken for (document 01: "Slips in this trade"), some over the bytes of a commit-graph
+-- file; each is a theorem by computation. Assumes nothing.
+use mathlib.Core.Path.{_≡_, refl}
+use Prim.Native.Nat.{ℕ, zero, suc, _+_, _*_}
+use mathlib.Core.Bool.{cond}
+use mathlib.Core.Option.{none, some}
+use mathlib.Core.List.{List, [], _∷_, _++_}
+use lib.ListN.{length, replicate}
+use lib.Dec.{leb}
+use lib.IntN.{pos}
+use Rattle.hash.specs.Bytes.{Id, bytesAll}
+use Rattle.idlist.specs.IdList.{idListAll}
+use Rattle.object.specs.Header.{headerAll}
+use Rattle.odb.specs.Store.{storeAll}
+use Rattle.commitgraph.specs.Graph.{OIDF, OIDL, CDAT, EDGE, graphAll}
+use Rattle.walk.specs.declared.Settings.{Settings}
+use Rattle.walk.specs.declared.Sorting.the-variants.{BreadthFirst}
+use Rattle.walk.specs.Opening.{Input}
+use Rattle.walk.specs.declared.Refusal.the-variants.{CommitNotFound, Closed}
+use Rattle.walk.specs.Next.{Kind, end, refused, handed, Answer}
+use Rattle.walk.specs.Calls.{answers, walkAll}
+use Rattle.walk.specs.Runs.{idFor, u32, storeOf, names, saidAll, says, all, firstOnly, newest, newestFrom, sample, lost}
+
+-- ---- a commit-graph file from rows
+
+-- a row: the commit's number, its two u32 parents, generation and seconds
+pub record GraphRow : Type 0 where
+  pub name : ℕ
+  pub first : ℕ
+  pub second : ℕ
+  pub level : ℕ
+  pub time : ℕ
+
+-- how many rows have a number of at most x
+unfoldable pub counted : ℕ → List GraphRow → ℕ
+counted x [] = 0
+counted x (r ∷ rs) = cond (leb (r .name) x) 1 0 + counted x rs
+
+-- the fan-out's entries from x on, k of them
+unfoldable pub fanFrom : ℕ → ℕ → List GraphRow → List ℕ
+unfolding counted u32
+fanFrom zero x rs = []
+fanFrom (suc k) x rs = u32 (counted x rs) ++ fanFrom k (suc x) rs
+
+unfoldable pub idBytesOf : List GraphRow → List ℕ
+unfolding idFor
+idBytesOf [] = []
+idBytesOf (r ∷ rs) = idFor (r .name) ++ idBytesOf rs
+
+-- 36 bytes for each row; the tree id is of zeros
+unfoldable pub rowBytesOf : List GraphRow → List ℕ
+unfolding u32
+rowBytesOf [] = []
+rowBytesOf (r ∷ rs) = replicate 20 0 ++ (u32 (r .first) ++ (u32 (r .second) ++ (u32 (r .level * 4) ++ (u32 (r .time) ++ rowBytesOf rs))))
+
+unfoldable pub edgeBytesOf : List ℕ → List ℕ
+unfolding u32
+edgeBytesOf [] = []
+edgeBytesOf (e ∷ es) = u32 e ++ edgeBytesOf es
+
+-- one row of the table of chunks; offsets are below 2 to the power 32
+unfoldable pub chunkRow : ℕ → ℕ → List ℕ
+unfolding u32
+chunkRow c o = u32 c ++ (u32 0 ++ u32 o)
+
+-- rows by rising number, and the entries of EDGE
+unfoldable pub graphOf : List GraphRow → List ℕ → List ℕ
+unfolding fanFrom idBytesOf rowBytesOf edgeBytesOf chunkRow
+graphOf rs es =
+    let n = length rs in
+    67 ∷ 71 ∷ 80 ∷ 72 ∷ 1 ∷ 1 ∷ 4 ∷ 0
+    ∷ (chunkRow OIDF 68 ++ (chunkRow OIDL 1092 ++ (chunkRow CDAT (1092 + 20 * n) ++ (chunkRow EDGE (1092 + 56 * n) ++ (chunkRow 0 (1092 + 56 * n + 4 * length es)
+    ++ (fanFrom 256 0 rs ++ (idBytesOf rs ++ (rowBytesOf rs ++ (edgeBytesOf es ++ replicate 20 0)))))))))
+
+unfoldable pub saysWith : List ℕ → List ℕ → List ℕ → Settings → ℕ → List ℕ
+unfolding saidAll names
+saysWith store graph tips s k =
+    saidAll (answers (record { store = store; graph = graph; tips = names tips; hidden = []; excluded = []; settings = s }) k)
+
+abbrev noneThere : ℕ
+noneThere = 0x70000000
+
+abbrev lastOf : ℕ → ℕ
+lastOf p = 0x80000000 + p
+
+-- ---- histories
+
+-- 1 at 30 from 3 and 4; 2 at 25 from 4; 3 at 20; 4 at 7 from 5; 5 at 10 from 3: 4 stands twice in painting's queue when it is taken with
+-- both marks, and 5 is taken before its second turn
+unfoldable pub twoTurns : List ℕ
+unfolding storeOf
+twoTurns = storeOf (
+    record { name = 1; time = 30; from = 3 ∷ 4 ∷ [] } ∷ record { name = 2; time = 25; from = 4 ∷ [] } ∷ record { name = 3; time = 20; from = [] }
+    ∷ record { name = 4; time = 7; from = 5 ∷ [] } ∷ record { name = 5; time = 10; from = 3 ∷ [] } ∷ [])
+
+-- 1 at 30 from 2 and 3; 2 at 20; 3 at 7 from 4; 4 at 6 from 2; 5 at 5 from 3
+unfoldable pub lentTwice : List ℕ
+unfolding storeOf
+lentTwice = storeOf (
+    record { name = 1; time = 30; from = 2 ∷ 3 ∷ [] } ∷ record { name = 2; time = 20; from = [] } ∷ record { name = 3; time = 7; from = 4 ∷ [] }
+    ∷ record { name = 4; time = 6; from = 2 ∷ [] } ∷ record { name = 5; time = 5; from = 3 ∷ [] } ∷ [])
+
+-- 1 at 9 from 2, 3 and 4; 2 at 5, 3 at 6, 4 at 6
+unfoldable pub fork : List ℕ
+unfolding storeOf
+fork = storeOf (
+    record { name = 1; time = 9; from = 2 ∷ 3 ∷ 4 ∷ [] } ∷ record { name = 2; time = 5; from = [] } ∷ record { name = 3; time = 6; from = [] }
+    ∷ record { name = 4; time = 6; from = [] } ∷ [])
+
+-- a graph file of its parents alone, where 2 has other seconds
+unfoldable pub stale : List ℕ
+unfolding graphOf
+stale = graphOf (
+    record { name = 2; first = noneThere; second = noneThere; level = 1; time = 8 } ∷ record { name = 3; first = noneThere; second = noneThere; level = 1; time = 6 }
+    ∷ record { name = 4; first = noneThere; second = noneThere; level = 1; time = 6 } ∷ []) []
+
+-- a graph file of the whole fork: the second parent onward stands in EDGE
+unfoldable pub listing : List ℕ
+unfolding graphOf
+listing = graphOf (
+    record { name = 1; first = 1; second = lastOf 0; level = 2; time = 9 } ∷ record { name = 2; first = noneThere; second = noneThere; level = 1; time = 5 }
+    ∷ record { name = 3; first = noneThere; second = noneThere; level = 1; time = 6 } ∷ record { name = 4; first = noneThere; second = noneThere; level = 1; time = 6 } ∷ [])
+    (2 ∷ lastOf 3 ∷ [])
+
+-- the same, but EDGE runs out
+unfoldable pub cut : List ℕ
+unfolding graphOf
+cut = graphOf (
+    record { name = 1; first = 1; second = lastOf 0; level = 2; time = 9 } ∷ record { name = 2; first = noneThere; second = noneThere; level = 1; time = 5 }
+    ∷ record { name = 3; first = noneThere; second = noneThere; level = 1; time = 6 } ∷ record { name = 4; first = noneThere; second = noneThere; level = 1; time = 6 } ∷ [])
+    (2 ∷ [])
+
+-- ---- what tells them apart
+
+pub record Slips : Type 0 where
+  -- a commit taken with both marks does not get STALE itself: 4 has its second turn, 5 comes before it and passes HIDDEN on to 3
+  pub not-itself : says twoTurns (1 ∷ []) (2 ∷ []) [] (all BreadthFirst) 3 ≡ 1 ∷ 0 ∷ 0 ∷ []
+  -- under First painting goes through all parents of a hidden tip: 8 hides 7, its second parent
+  pub hides-all : says sample (7 ∷ []) (8 ∷ []) [] (firstOnly BreadthFirst) 2 ≡ 0 ∷ 0 ∷ []
+  -- a hidden tip lent twice is queued twice
+  pub once : says lentTwice (1 ∷ []) (5 ∷ []) [] (all BreadthFirst) 4 ≡ 1 ∷ 2 ∷ 0 ∷ 0 ∷ []
+  pub twice : says lentTwice (1 ∷ []) (5 ∷ 5 ∷ []) [] (all BreadthFirst) 3 ≡ 1 ∷ 0 ∷ 0 ∷ []
+  -- among equals the first queued: 3 before 4
+  pub equals : says fork (1 ∷ []) [] [] (all newest) 6 ≡ 1 ∷ 3 ∷ 4 ∷ 2 ∷ 0 ∷ 0 ∷ []
+  -- under First the cutoff does not act after the tips, but a tip that it turned away is seen: 8 does not lead to 6
+  pub turned-away : says sample (8 ∷ 6 ∷ []) [] [] (firstOnly (newestFrom 7)) 3 ≡ 8 ∷ 0 ∷ 0 ∷ []
+  -- 1 comes from the store, so its parents' seconds do too, and 2 is the oldest
+  pub store-child : saysWith fork stale (1 ∷ []) (all newest) 6 ≡ 1 ∷ 3 ∷ 4 ∷ 2 ∷ 0 ∷ 0 ∷ []
+
+pub slips : Slips
+unfolding says saysWith all firstOnly sample twoTurns lentTwice fork stale bytesAll idListAll headerAll storeAll graphAll walkAll
+slips = record {
+  not-itself = refl;
+  hides-all = refl;
+  once = refl;
+  twice = refl;
+  equals = refl;
+  turned-away = refl;
+  store-child = refl;
+}
+
+-- ---- answers in all their fields
+
+unfoldable pub idsFor : List ℕ → List Id
+unfolding idFor
+idsFor [] = []
+idsFor (n ∷ ns) = idFor n ∷ idsFor ns
+
+-- a kind, parents, and the numbers of commits admitted, struck and waiting
+abbrev pub whole : Kind → List ℕ → ℕ → ℕ → ℕ → Answer
+whole k ps a s w = record { kind = k; parents = idsFor ps; admitted = a; struck = s; waiting = w }
+
+unfoldable pub inputWith : List ℕ → List ℕ → List ℕ → List ℕ → Settings → Input
+unfolding names
+inputWith store graph tips hidden s =
+    record { store = store; graph = graph; tips = names tips; hidden = names hidden; excluded = []; settings = s }
+
+pub record Fields : Type 0 where
+  -- tips 8 and 5, hide 5: 5 waited and is struck
+  pub struck : answers (inputWith sample [] (8 ∷ 5 ∷ []) (5 ∷ []) (all BreadthFirst)) 2
+      ≡ whole (handed (idFor 8) none none) (6 ∷ 7 ∷ []) 4 1 2 ∷ whole (handed (idFor 6) none none) (5 ∷ []) 4 1 1 ∷ []
+  -- from a graph row come the level and the parents, in EDGE from the second on; under a time order the seconds that a commit was queued with
+  pub graph-row : answers (inputWith fork listing (1 ∷ []) [] (all newest)) 2
+      ≡ whole (handed (idFor 1) (some 2) (some (pos 9))) (2 ∷ 3 ∷ 4 ∷ []) 4 0 3 ∷ whole (handed (idFor 3) (some 1) (some (pos 6))) [] 4 0 2 ∷ []
+  -- a corrupt list drops the graph for good
+  pub no-graph : answers (inputWith fork cut (1 ∷ []) [] (all newest)) 2
+      ≡ whole (handed (idFor 1) none (some (pos 9))) (2 ∷ 3 ∷ 4 ∷ []) 4 0 3 ∷ whole (handed (idFor 3) none (some (pos 6))) [] 4 0 2 ∷ []
+  -- under First neither the other parents nor the seconds
+  pub first-parent : answers (inputWith fork [] (1 ∷ []) [] (firstOnly newest)) 1 ≡ whole (handed (idFor 1) none none) (2 ∷ []) 2 0 1 ∷ []
+  -- a refused commit is used up
+  pub not-found : answers (inputWith lost [] (1 ∷ []) [] (all BreadthFirst)) 3
+      ≡ whole (handed (idFor 1) none none) (9 ∷ []) 2 0 1 ∷ whole (refused CommitNotFound) [] 2 0 0 ∷ whole end [] 2 0 0 ∷ []
+  -- painting's own refusal strikes all that waits
+  pub not-painted : answers (inputWith lost [] (1 ∷ []) (1 ∷ []) (all BreadthFirst)) 2 ≡ whole (refused CommitNotFound) [] 1 1 0 ∷ whole end [] 1 1 0 ∷ []
+  -- a refused opening: 12, and zeros
+  pub closed-record : answers (inputWith lost [] (9 ∷ []) [] (all newest)) 1 ≡ whole (refused Closed) [] 0 0 0 ∷ []
+
+pub fields : Fields
+unfolding inputWith idsFor all firstOnly sample fork lost listing cut bytesAll idListAll headerAll storeAll graphAll walkAll
+fields = record {
+  struck = refl;
+  graph-row = refl;
+  no-graph = refl;
+  first-parent = refl;
+  not-found = refl;
+  not-painted = refl;
+  closed-record = refl;
+}

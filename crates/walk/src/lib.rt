@@ -1,0 +1,143 @@
+// The walk's settings, answers and refusals (gix_traverse::commit: `Sorting`, `Parents`, `Info`); specs/ says what a walk is.
+ghost use mathlib.Core.Path.{_≡_};
+ghost use lib.Dec.{ltb};
+ghost use Rattle.walk.specs.Refusals.{numberOf};
+ghost use Rattle.walk.specs.Lookup.{pairOf, ltPair};
+use commitgraph::Level;
+use date::Seconds;
+
+// Which of two commits a time order takes first (document 01: newest, oldest).
+pub enum CommitTimeOrder {
+    NewestFirst,
+    OldestFirst,
+}
+
+// The order of a walk (document 01: breadth order, time order, a cutoff).
+pub enum Sorting {
+    BreadthFirst,
+    ByCommitTime(CommitTimeOrder),
+    ByCommitTimeCutoff {
+        order: CommitTimeOrder,
+        seconds: Seconds,
+    },
+}
+
+// Which parents a walk follows (document 01: the mode).
+pub enum Parents {
+    All,
+    First,
+}
+
+// The settings of a walk.
+pub struct Settings {
+    pub sorting: Sorting,
+    pub parents: Parents,
+}
+
+// A commit's place in the painting's order (document 01: the pair of level and seconds).
+pub struct GenThenTime {
+    pub generation: Level,
+    pub time: Seconds,
+}
+
+// Why an opening or a call is refused; `number` gives document 01's number.
+pub enum Refusal {
+    BufferTooSmall,
+    InputTooLarge,
+    PartialId,
+    CorruptStore,
+    UnknownGraph,
+    CorruptGraph,
+    TipNotFound,
+    TipUnreadable,
+    CommitNotFound,
+    CommitUnreadable,
+    TooManyParents,
+    Closed,
+}
+
+// What a call gives: a commit, the end, or a refusal.
+pub enum Outcome {
+    Commit,
+    End,
+    Refused(Refusal),
+}
+
+// A generation, where the commit came from the commit-graph file.
+pub enum MaybeLevel {
+    Generation(Level),
+    NoGeneration,
+}
+
+// The seconds that a commit was queued with, under a time order.
+pub enum MaybeSeconds {
+    Time(Seconds),
+    NoTime,
+}
+
+// The answer of a call (gix_traverse::commit::Info, and the walk's running numbers). The parents' ids stand at the start of the lent
+// buffer `parents`; here is their number.
+pub struct Answer {
+    pub outcome: Outcome,
+    pub id: [u8; 20],
+    pub parents: usize,
+    pub generation: MaybeLevel,
+    pub time: MaybeSeconds,
+    pub admitted: usize,
+    pub struck: usize,
+    pub waiting: usize,
+}
+
+// What an opening gives.
+pub enum OpenOutcome {
+    Accepted,
+    NotOpened(Refusal),
+}
+
+// The answer of an opening: its outcome and the walk's running numbers.
+pub struct OpenAnswer {
+    pub outcome: OpenOutcome,
+    pub admitted: usize,
+    pub struck: usize,
+    pub waiting: usize,
+}
+
+// Document 01's number of a refusal.
+pub fn number(r: Refusal) -> u8
+    ensures { λ n. ⌜ n ≡ numberOf r ⌝ }
+{
+    match r {
+        Refusal::BufferTooSmall => 1,
+        Refusal::InputTooLarge => 2,
+        Refusal::PartialId => 3,
+        Refusal::CorruptStore => 4,
+        Refusal::UnknownGraph => 5,
+        Refusal::CorruptGraph => 6,
+        Refusal::TipNotFound => 7,
+        Refusal::TipUnreadable => 8,
+        Refusal::CommitNotFound => 9,
+        Refusal::CommitUnreadable => 10,
+        Refusal::TooManyParents => 11,
+        Refusal::Closed => 12,
+    }
+}
+
+// Whether a generation lies below another.
+fn lower(a: Level, b: Level) -> bool
+    ensures { λ r. ⌜ r ≡ ltb (a .0) (b .0) ⌝ }
+{
+    a.0 < b.0
+}
+
+// Whether a comes after b in the painting's order: generations are set against generations, then seconds against seconds.
+pub fn less(a: GenThenTime, b: GenThenTime) -> bool
+    ensures { λ r. ⌜ r ≡ ltPair (pairOf a) (pairOf b) ⌝ }
+{
+    if lower(a.generation, b.generation) {
+        return true;
+    }
+    if lower(b.generation, a.generation) {
+        return false;
+    }
+    date::before(a.time, b.time)
+}
