@@ -214,10 +214,10 @@ module _ (q : Queue) (times : List ℤ) (line : List ℕ) (e : q .timed ≡ fals
       more = omega arith
 
 -- ---- put_back, by time and otherwise
-pick-yes : {b : Bool} (x y : List ℕ) → b ≡ true → x ≡ cond b x y
+pub pick-yes : {b : Bool} (x y : List ℕ) → b ≡ true → x ≡ cond b x y
 pick-yes x y e = rw e
 
-pick-no : {b : Bool} (x y : List ℕ) → b ≡ false → y ≡ cond b x y
+pub pick-no : {b : Bool} (x y : List ℕ) → b ≡ false → y ≡ cond b x y
 pick-no x y e = rw e
 
 pub back-timed : {q : Queue} {times : List ℤ} {slot : ℕ} {line out : List ℕ} {r : Queue} → q .timed ≡ true → Pushes q times slot line out r → PutsBack q times slot line out r

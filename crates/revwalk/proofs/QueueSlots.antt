@@ -13,11 +13,11 @@ use Rattle.revwalk.specs.declared.queue.Popped.{Popped}
 use Rattle.revwalk.specs.Order.{at, timeOf, seqOf, goes, sortAt, never, listed, In, Once}
 use Rattle.revwalk.specs.Sift.{par}
 use Rattle.hashtable.specs.Table.{wrap}
-use Rattle.revwalk.specs.Queue.{Heap, Ring, GoodQueue, Pops, queued, ringAt, placeOf, turnOf, slotsOf}
+use Rattle.revwalk.specs.Queue.{Heap, Ring, GoodQueue, Joins, Pushes, PutsBack, Pops, queued, ringAt, placeOf, turnOf, slotsOf}
 use Rattle.revwalk.proofs.QueueSorts.{no-both, sort-agree, once-sort, perm-sort}
 use Rattle.revwalk.proofs.QueueShares.{heap-as}
 use Rattle.revwalk.proofs.QueueGood.{First, either, place-timed, slots-timed, slots-ring, slots-in, in-slots, good-slots}
-use Rattle.revwalk.proofs.QueueRing.{wrap-in}
+use Rattle.revwalk.proofs.QueueRing.{wrap-in, pick-yes, pick-no}
 
 -- ---- the empty queue
 pub emptied : (q : Queue) (times : List ℤ) (line : List ℕ) → q .count ≡ 0 → q .head ≡ 0 → q .cap + q .cap ≤ length line → GoodQueue q times line
@@ -217,3 +217,17 @@ module _ {q : Queue} {times : List ℤ} {line out : List ℕ} {r : Popped} (p : 
   pop-low found =
       let first : In (r .slot) (slotsOf q times line) = subst (In (r .slot)) (sym (pop-found found .list)) (inl refl) in
       subst (λ (c : ℕ). r .slot < c) (sym (p .same .cap)) (slots-low g (r .slot) first)
+
+-- where nothing was found nothing has changed
+pub pop-still : {q : Queue} {times : List ℤ} {line out : List ℕ} {r : Popped} (P : Queue → List ℕ → Type 0) → Pops q times line out r → r .found ≡ false → P q line → P (r .queue) out
+pop-still {line = line} {r = r} P p none h =
+    let s = p .still none in
+    subst (P (r .queue)) (sym (s .1)) (subst (λ (x : Queue). P x line) (sym (s .0)) h)
+
+-- ---- what put_back did
+module _ {q : Queue} {times : List ℤ} {slot : ℕ} {line out : List ℕ} {r : Queue} (b : PutsBack q times slot line out r) where
+  pub back-push : q .timed ≡ true → Pushes q times slot line out r
+  back-push e = subst (λ (l : List ℕ). Joins q times slot l line out r) (sym (pick-yes _ _ e)) b
+
+  pub back-front : q .timed ≡ false → Joins q times slot (slot ∷ slotsOf q times line) line out r
+  back-front e = subst (λ (l : List ℕ). Joins q times slot l line out r) (sym (pick-no _ _ e)) b

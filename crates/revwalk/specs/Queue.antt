@@ -93,7 +93,7 @@ pub record Joins (q : Queue) (times : List ℤ) (slot : ℕ) (l line out : List 
   pub still : r .count ≡ q .count → (r ≡ q) × (out ≡ line)
   pub joined : GoodQueue q times line → slot < q .cap → (In slot (slotsOf q times line) → ⊥) → q .next + 1 < 4294967296 → Joined q times l out r
 
--- push: after all that do not go strictly after it
+-- push: before the first that it goes strictly before, so after its equals
 abbrev pub Pushes : Queue → List ℤ → ℕ → List ℕ → List ℕ → Queue → Type 0
 Pushes q times slot line out r = Joins q times slot (insertBy (before q times) slot (slotsOf q times line)) line out r
 
