@@ -90,7 +90,7 @@ module _ (v : Walk) (tips : List Id) (front : Id → Bool) where
   -- one parent p of a commit x that was handed out
   module _ (l : List Id) (x : Id) (away : Away x) where
     pub record Went (st : State) (p : Id) (st′ : State) : Type 0 where
-      pub now : Walked st′ l
+      pub after-it : Walked st′ l
       pub seen-old : (y : Id) → st .seen y ≡ true → st′ .seen y ≡ true
       pub seen-new : front p ≡ false → st′ .seen p ≡ true
 
@@ -99,7 +99,7 @@ module _ (v : Walk) (tips : List Id) (front : Id → Bool) where
     visit-went st p t i f e =
         byCases (st .frontier p || st .seen p)
         (λ h. rw h (record {
-          now = i;
+          after-it = i;
           seen-old = λ y k. k;
           seen-new = λ o. ⊎-elim (λ k. clash k (i .is-front p ∙ o)) (λ k. k) (or-cases {a = st .frontier p} {b = st .seen p} h);
         }))
@@ -113,7 +113,7 @@ module _ (v : Walk) (tips : List Id) (front : Id → Bool) where
         let q : Id × ℤ = (p, cond (byTime (v .settings)) t (pos 0)) in
         let b = admits-both v p t a in
         rw (h, a) (record {
-          now = record {
+          after-it = record {
             is-front = i .is-front;
             queue-away = λ y k. ⊎-elim
                 (λ j. rw j (link away (record { follows = f; not-excluded = b .0; not-turned = not-turned; in-time = rw e at (b .1) }) out))
@@ -134,7 +134,7 @@ module _ (v : Walk) (tips : List Id) (front : Id → Bool) where
         }))
         (λ a.
         rw (h, a) (record {
-          now = record {
+          after-it = record {
             is-front = i .is-front;
             queue-away = i .queue-away;
             queue-once = i .queue-once;
@@ -157,19 +157,19 @@ module _ (v : Walk) (tips : List Id) (front : Id → Bool) where
     Due ps = (p : Id × ℤ) → Mem p ps → Mem (p .0) (followed (v .settings) (links (v .world) x)) × (p .1 ≡ secondsFor (v .world) (p .0))
 
     pub record AllWent (st : State) (ps : List (Id × ℤ)) (st′ : State) : Type 0 where
-      pub now : Walked st′ l
+      pub after-it : Walked st′ l
       pub seen-old : (y : Id) → st .seen y ≡ true → st′ .seen y ≡ true
       pub seen-all : (p : Id) → Mem p (map (λ q. q .0) ps) → front p ≡ false → st′ .seen p ≡ true
 
     pub visitAll-went : (ps : List (Id × ℤ)) (st : State) → Walked st l → Due ps → AllWent st ps (visitAll v st ps)
     unfolding visitAll
-    visitAll-went [] st i d = record { now = i; seen-old = λ y k. k; seen-all = λ p k. absurd (List·Memᴰ·not-nil k) }
+    visitAll-went [] st i d = record { after-it = i; seen-old = λ y k. k; seen-all = λ p k. absurd (List·Memᴰ·not-nil k) }
     visitAll-went (p ∷ ps) st i d =
         let dp = d p (List·Memᴰ·head refl) in
         let a = visit-went st (p .0) (p .1) i (dp .0) (dp .1) in
-        let b = visitAll-went ps (visit v st (p .0) (p .1)) (a .now) (λ q k. d q (List·Memᴰ·tail k)) in
+        let b = visitAll-went ps (visit v st (p .0) (p .1)) (a .after-it) (λ q k. d q (List·Memᴰ·tail k)) in
         record {
-          now = b .now;
+          after-it = b .after-it;
           seen-old = λ y k. b .seen-old y (a .seen-old y k);
           seen-all = λ q k o. ⊎-elim (λ j. b .seen-old q (rw j (a .seen-new (rw j at o)))) (λ j. b .seen-all q j o) (List·Memᴰ·cases-cons k);
         }

@@ -176,7 +176,7 @@ pub next-roomy : (i : Input) (st : State) → Roomy i st → Roomy i (next (walk
 next-roomy i st r = record {
   out = handedBy (next (walkOf i) st .answer .kind) ++ r .out;
   held = next-held (walkOf i) st (r .out) (r .held);
-  named = next-named (walkOf i) (universe i) (row-in i) (body-in i) (hidden-in i) (kid-in i) st (r .named) .now;
+  named = next-named (walkOf i) (universe i) (row-in i) (body-in i) (hidden-in i) (kid-in i) st (r .named) .after-it;
   counted = omega (arith, next-owed (walkOf i) (names i) (names-rows i) (names-store i) st, r .counted);
 }
 

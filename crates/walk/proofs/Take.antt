@@ -247,7 +247,7 @@ module _ (v : Walk) (tips : List Id) (pre : Premises v tips) (coherent : Coheren
           generation-of = g .0;
           seconds-of = g .1;
           says = refl;
-          walked = a .now;
+          walked = a .after-it;
           closed = λ y k p m o. ⊎-elim
               (λ e. a .seen-all p (rw (g .5) (rw e at m)) o)
               (λ j. a .seen-old p (c y j p m o))

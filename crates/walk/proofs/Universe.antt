@@ -50,7 +50,7 @@ pub record Tells (us : List Id) (a : Answer) : Type 0 where
   pub parents-in : (p : Id) → Mem p (a .parents) → Mem p us
 
 pub record StepNamed (us : List Id) (r : Step) : Type 0 where
-  pub now : Named us (r .state)
+  pub after-it : Named us (r .state)
   pub tells : Tells us (r .answer)
 
 module _ (v : Walk) (us : List Id) where
@@ -115,16 +115,16 @@ module _ (v : Walk) (us : List Id) where
 
     takes-named : {st : State} {r : Step} → Takes v st r → Named us st → StepNamed us r
     unfolding step handedBy withQueue dropped kindOf
-    takes-named (nothing e) n = record { now = n; tells = record { id-in = λ x k. absurd (List·Memᴰ·not-nil k); parents-in = λ p k. absurd (List·Memᴰ·not-nil k) } }
+    takes-named (nothing e) n = record { after-it = n; tells = record { id-in = λ x k. absurd (List·Memᴰ·not-nil k); parents-in = λ p k. absurd (List·Memᴰ·not-nil k) } }
     takes-named (absent x q e k) n = record {
-      now = rest-named x q e n;
+      after-it = rest-named x q e n;
       tells = record { id-in = λ y j. absurd (List·Memᴰ·not-nil j); parents-in = λ p j. absurd (List·Memᴰ·not-nil j) };
     }
     takes-named {st} (from-store x q h e k) n =
         let f = followed (v .settings) (h .ids) in
         let i : (p : Id) → Mem p f → Mem p us = λ p j. in-store (x .0) p h k (followed-sub (v .settings) p (h .ids) j) in
         record {
-          now = visitAll-named (withSeconds v f) (withQueue q st) (λ p j. i (p .0) (with-seconds v f p j .0)) (rest-named x q e n);
+          after-it = visitAll-named (withSeconds v f) (withQueue q st) (λ p j. i (p .0) (with-seconds v f p j .0)) (rest-named x q e n);
           tells = record { id-in = kind-in (ending (v .settings) h) (x .0) none (queuedSeconds v (x .1)) (head-in x q e n); parents-in = i };
         }
     takes-named {st} (from-row x q ps generation s e k) n =
@@ -132,7 +132,7 @@ module _ (v : Walk) (us : List Id) where
         let j : (p : Id) → Mem p (map (λ (q : Id × ℤ). q .0) f) → Mem p us =
         λ p m. in-rows (x .0) p ps generation s k (followed-sub (v .settings) p (map (λ (q : Id × ℤ). q .0) ps) (rw (followed-map (v .settings) (λ (q : Id × ℤ). q .0) ps) at m)) in
         record {
-          now = visitAll-named f (withQueue q st) (λ p m. j (p .0) (mem-map (λ (q : Id × ℤ). q .0) p f m)) (rest-named x q e n);
+          after-it = visitAll-named f (withQueue q st) (λ p m. j (p .0) (mem-map (λ (q : Id × ℤ). q .0) p f m)) (rest-named x q e n);
           tells = record { id-in = kind-in none (x .0) (some generation) (queuedSeconds v (x .1)) (head-in x q e n); parents-in = j };
         }
     takes-named (drops x q e t) n = takes-named t (dropped-named x q e n)
@@ -150,7 +150,7 @@ module _ (v : Walk) (us : List Id) where
       moves-named {st} (strikes p u e t) n =
           takes-named t (painted-named st (outside (bothMarks p) (st .queue)) (bothMarks p) (λ x k. outside-out (bothMarks p) (st .queue) x k .0) (front-named st p e n) n)
       moves-named {st} (stops m u e) n = record {
-        now = painted-named st [] nobody (λ x k. absurd (List·Memᴰ·not-nil k)) (λ x k. clash k refl) n;
+        after-it = painted-named st [] nobody (λ x k. absurd (List·Memᴰ·not-nil k)) (λ x k. clash k refl) n;
         tells = record { id-in = λ x k. absurd (List·Memᴰ·not-nil k); parents-in = λ p k. absurd (List·Memᴰ·not-nil k) };
       }
 
@@ -162,7 +162,7 @@ module _ (v : Walk) (us : List Id) where
       calls-tell zero st n a m = absurd (List·Memᴰ·not-nil m)
       calls-tell (suc k) st n a m =
           let s = next-named st n in
-          ⊎-elim (λ e. subst (Tells us) (sym e) (s .tells)) (calls-tell k (next v st .state) (s .now) a) (List·Memᴰ·cases-cons m)
+          ⊎-elim (λ e. subst (Tells us) (sym e) (s .tells)) (calls-tell k (next v st .state) (s .after-it) a) (List·Memᴰ·cases-cons m)
 
 -- ---- of an input
 
@@ -245,7 +245,7 @@ open-named i st e =
 pub all-named : (i : Input) (st : State) → openWalk i true ≡ opened st → (k : ℕ) → Named (universe i) (stateAfter i k)
 unfolding stateAfter stateOf
 all-named i st e zero = subst (λ (o : Opening). Named (universe i) (stateOf o)) (sym e) (open-named i st e)
-all-named i st e (suc k) = next-named (walkOf i) (universe i) (row-in i) (body-in i) (hidden-in i) (kid-in i) (stateAfter i k) (all-named i st e k) .now
+all-named i st e (suc k) = next-named (walkOf i) (universe i) (row-in i) (body-in i) (hidden-in i) (kid-in i) (stateAfter i k) (all-named i st e k) .after-it
 
 -- every id in an answer, handed out or as a parent, lies in the universe
 pub all-told : (i : Input) (st : State) → openWalk i true ≡ opened st → (k : ℕ) (a : Answer) → Mem a (answers i k) → Tells (universe i) a

@@ -1,0 +1,4 @@
+pub mod Ids
+pub mod Input
+pub mod Tips
+pub mod Opened

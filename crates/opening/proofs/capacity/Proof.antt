@@ -1,0 +1,26 @@
+-- `opening::capacity` meets its contract: the sum is P, and fits, as N is a 32-bit number. Assumes nothing.
+use native.Mathlib.Omega.{arith}
+use Rattle.walk.specs.Opening.{P}
+use Rattle.opening.proofs.Input.{count-of, count-fits}
+use borrow.Author.Needs.{needs}
+use Rattle.opening.proofs.capacity.Statement.{statement}
+use Rattle.opening.proofs.capacity.Tie as tie
+
+parse-requires : tie.Need-parse-requires
+parse-requires c κs = search needs
+
+add-result : tie.Need-add-result
+add-result c = search needs
+
+add-result-2 : tie.Need-add-result-2
+add-result-2 c = search needs
+
+add-result-3 : tie.Need-add-result-3
+add-result-3 c = omega (arith, count-of (c .before .before .before .before .before .before .args .graph .now) (c .before .parse .ensures), count-fits (c .before .before .before .before .before .before .args .graph .now) (λ k. omega (arith, c .before .before .before .before .shared-slice-known2 .given k)))
+
+returns : tie.Need-returns
+unfolding P
+returns c = λ excluded s. omega (arith, count-of (c .before .before .before .before .before .before .args .graph .now) (c .before .parse .ensures))
+
+pub capacity-spec : {M : Type 1} → statement M
+capacity-spec = tie.close (tie.spec parse-requires add-result add-result-2 add-result-3 returns)

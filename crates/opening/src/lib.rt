@@ -1,0 +1,258 @@
+// The tests of an opening: document 01's refusals 1 to 8, in order 2 to 6, 1, 7, 8. No function here writes a byte, and each is total on
+// any bytes and lengths.
+use object::SecondsRead;
+use walk::Refusal;
+use walk::Settings;
+use walk::Sorting;
+ghost use mathlib.Core.Path.{_≡_};
+ghost use mathlib.Core.Bool.{true};
+ghost use mathlib.Core.List.{List, [], _∷_};
+ghost use mathlib.Core.Option.{none};
+ghost use Prim.Native.Nat.{ℕ, _%_};
+ghost use lib.Dec.{eqb};
+ghost use lib.ListN.{length};
+ghost use Rattle.hash.specs.Bytes.{among, idBytes};
+ghost use Rattle.odb.specs.Store.{storeOk};
+ghost use Rattle.walk.specs.Settings.{timed};
+ghost use Rattle.walk.specs.Lookup.{worldOf};
+ghost use Rattle.walk.specs.Opening.{Input, listIds, P, sizesOk, wholeIds, refusal, roomFor, openTips, openWalk};
+ghost use Rattle.opening.specs.Checks.{inputOf, lengthsOf, checkedOf, checkedBy, faultOr, firstFault};
+
+// What a test of an opening gives: no fault, or the refusal of the first fault.
+pub enum Checked {
+    Fine,
+    Refused(Refusal),
+}
+
+// The most bytes of the commit store and of the commit-graph file.
+const MOST_FILE: usize = 16777216;
+
+// The most bytes of a list: 1,024 ids.
+const MOST_LIST: usize = 20480;
+
+// The length of a parent line.
+const PARENT_LINE: usize = 48;
+
+// The bytes of 256 parents.
+const PARENTS_BYTES: usize = 5120;
+
+// Whether the files and the lists have at most their sizes.
+fn sizes_fit(store: &[u8], graph: &[u8], tips: &[u8], hidden: &[u8], excluded: &[u8]) -> bool
+    ensures { λ r. ⌜ ((s : Settings) → r ≡ sizesOk (inputOf (now (store .entry)) (now (graph .entry)) (now (tips .entry)) (now (hidden .entry)) (now (excluded .entry)) s)) ⌝ }
+{
+    if MOST_FILE < store.len() {
+        return false;
+    }
+    if MOST_FILE < graph.len() {
+        return false;
+    }
+    if MOST_LIST < tips.len() {
+        return false;
+    }
+    if MOST_LIST < hidden.len() {
+        return false;
+    }
+    excluded.len() <= MOST_LIST
+}
+
+// Whether a list is of whole ids.
+fn is_whole(list: &[u8]) -> bool
+    ensures { λ r. ⌜ r ≡ eqb (length (now (list .entry)) % idBytes) 0 ⌝ }
+{
+    list.len() % hash::ID_BYTES == 0
+}
+
+// Whether the lists are of whole ids.
+fn lists_whole(tips: &[u8], hidden: &[u8], excluded: &[u8]) -> bool
+    ensures { λ r. ⌜ ((store graph : List ℕ) (s : Settings) → r ≡ wholeIds (inputOf store graph (now (tips .entry)) (now (hidden .entry)) (now (excluded .entry)) s)) ⌝ }
+{
+    if !is_whole(tips) {
+        return false;
+    }
+    if !is_whole(hidden) {
+        return false;
+    }
+    is_whole(excluded)
+}
+
+// Refusals 2 to 6: the sizes, the lists, the layout of the store, and of the graph file, if one is lent, its header and its layout.
+pub fn check_input(
+    store: &[u8],
+    graph: &[u8],
+    tips: &[u8],
+    hidden: &[u8],
+    excluded: &[u8],
+) -> Checked
+    ensures { λ r. ⌜ ((s : Settings) → r ≡ checkedOf (refusal (inputOf (now (store .entry)) (now (graph .entry)) (now (tips .entry)) (now (hidden .entry)) (now (excluded .entry)) s))) ⌝ }
+{
+    if !sizes_fit(store, graph, tips, hidden, excluded) {
+        return Checked::Refused(Refusal::InputTooLarge);
+    }
+    if !lists_whole(tips, hidden, excluded) {
+        return Checked::Refused(Refusal::PartialId);
+    }
+    if !odb::is_good(store) {
+        return Checked::Refused(Refusal::CorruptStore);
+    }
+    if graph.len() == 0 {
+        return Checked::Fine;
+    }
+    if !commitgraph::has_header(graph) {
+        return Checked::Refused(Refusal::UnknownGraph);
+    }
+    if !commitgraph::is_good(graph) {
+        return Checked::Refused(Refusal::CorruptGraph);
+    }
+    Checked::Fine
+}
+
+// How many places a walk needs (document 01's P).
+pub fn capacity(store: &[u8], graph: &[u8], tips: &[u8], hidden: &[u8]) -> usize
+    ensures { λ r. ⌜ ((excluded : List ℕ) (s : Settings) → r ≡ P (inputOf (now (store .entry)) (now (graph .entry)) (now (tips .entry)) (now (hidden .entry)) excluded s)) ⌝ }
+{
+    let l = commitgraph::parse(graph);
+    tips.len() / hash::ID_BYTES
+        + hidden.len() / hash::ID_BYTES
+        + store.len() / PARENT_LINE
+        + l.count
+}
+
+// Refusal 1: whether every lent buffer has its size, for this many places. The lengths are in the buffers' own elements.
+pub fn has_room(
+    cap: usize,
+    names: usize,
+    marks: usize,
+    levels: usize,
+    times: usize,
+    line: usize,
+    parents: usize,
+) -> bool
+    ensures { λ r. ⌜ ((i : Input) → cap ≡ P i → r ≡ roomFor i (lengthsOf names marks levels times line parents)) ⌝ }
+{
+    if names / hash::ID_BYTES < cap {
+        return false;
+    }
+    if marks < cap {
+        return false;
+    }
+    if levels < cap {
+        return false;
+    }
+    if times < cap {
+        return false;
+    }
+    if line / 5 < cap {
+        return false;
+    }
+    PARENTS_BYTES <= parents
+}
+
+// Whether an id is among the excluded.
+fn is_excluded(excluded: &[u8], id: &[u8]) -> bool
+    ensures { λ r. ⌜ r ≡ among (now (id .entry)) (listIds (now (excluded .entry))) ⌝ }
+{
+    let n = excluded.len() / hash::ID_BYTES;
+    let mut k = 0;
+    while k < n {
+        if hash::same(id, hash::id_at(excluded, hash::ID_BYTES * k)) {
+            return true;
+        }
+        k += 1;
+    }
+    false
+}
+
+// What is wrong with one tip: the store lacks it, or its header is not good through committer. Its parents are not counted.
+fn read_tip(store: &[u8], id: &[u8]) -> Checked
+    ensures { λ r. ⌜ (storeOk (now (store .entry)) ≡ true → (graph : List ℕ) → r ≡ checkedOf (faultOr (worldOf (now (store .entry)) graph .store (now (id .entry))) none)) ⌝ }
+{
+    let mut found = false;
+    let body = odb::try_find(store, id, &mut found);
+    if !found {
+        return Checked::Refused(Refusal::TipNotFound);
+    }
+    match object::seconds_only(body) {
+        SecondsRead::Good(_) => Checked::Fine,
+        SecondsRead::Bad => Checked::Refused(Refusal::TipUnreadable),
+    }
+}
+
+// The same of a tip that may be excluded: then it is not read.
+fn check_tip(store: &[u8], excluded: &[u8], id: &[u8]) -> Checked
+    ensures { λ r. ⌜ (storeOk (now (store .entry)) ≡ true → (graph : List ℕ) → r ≡ checkedOf (firstFault (worldOf (now (store .entry)) graph) (listIds (now (excluded .entry))) (now (id .entry) ∷ []))) ⌝ }
+{
+    if is_excluded(excluded, id) {
+        return Checked::Fine;
+    }
+    read_tip(store, id)
+}
+
+// The first fault of the tips, in list order. A repeated tip has the fault of its first place.
+fn read_tips(store: &[u8], tips: &[u8], excluded: &[u8]) -> Checked
+    ensures { λ r. ⌜ (storeOk (now (store .entry)) ≡ true → (graph : List ℕ) → r ≡ checkedOf (firstFault (worldOf (now (store .entry)) graph) (listIds (now (excluded .entry))) (listIds (now (tips .entry))))) ⌝ }
+{
+    let n = tips.len() / hash::ID_BYTES;
+    let mut k = 0;
+    while k < n {
+        match check_tip(store, excluded, hash::id_at(tips, hash::ID_BYTES * k)) {
+            Checked::Refused(r) => {
+                return Checked::Refused(r);
+            }
+            Checked::Fine => {}
+        }
+        k += 1;
+    }
+    Checked::Fine
+}
+
+// Whether an order is a time order.
+fn is_timed(sorting: Sorting) -> bool
+    ensures { λ r. ⌜ r ≡ timed sorting ⌝ }
+{
+    match sorting {
+        Sorting::BreadthFirst => false,
+        Sorting::ByCommitTime(_) => true,
+        Sorting::ByCommitTimeCutoff { .. } => true,
+    }
+}
+
+// Refusals 7 and 8: under a time order each tip that is not excluded is in the store, with a header that is good through committer.
+pub fn check_tips(store: &[u8], tips: &[u8], excluded: &[u8], sorting: Sorting) -> Checked
+    ensures { λ r. ⌜ (storeOk (now (store .entry)) ≡ true → (graph hidden : List ℕ) (s : Settings) → s .sorting ≡ sorting → r ≡ checkedBy (openTips (inputOf (now (store .entry)) graph (now (tips .entry)) hidden (now (excluded .entry)) s) true)) ⌝ }
+{
+    if !is_timed(sorting) {
+        return Checked::Fine;
+    }
+    read_tips(store, tips, excluded)
+}
+
+// All tests of an opening, in order.
+pub fn check(
+    store: &[u8],
+    graph: &[u8],
+    tips: &[u8],
+    hidden: &[u8],
+    excluded: &[u8],
+    settings: Settings,
+    names: usize,
+    marks: usize,
+    levels: usize,
+    times: usize,
+    line: usize,
+    parents: usize,
+) -> Checked
+    ensures { λ r. ⌜ (let i = inputOf (now (store .entry)) (now (graph .entry)) (now (tips .entry)) (now (hidden .entry)) (now (excluded .entry)) settings in r ≡ checkedBy (openWalk i (roomFor i (lengthsOf names marks levels times line parents)))) ⌝ }
+{
+    match check_input(store, graph, tips, hidden, excluded) {
+        Checked::Refused(r) => Checked::Refused(r),
+        Checked::Fine => {
+            let cap = capacity(store, graph, tips, hidden);
+            if has_room(cap, names, marks, levels, times, line, parents) {
+                let sorting = settings.sorting;
+                check_tips(store, tips, excluded, sorting)
+            } else {
+                Checked::Refused(Refusal::BufferTooSmall)
+            }
+        }
+    }
+}

@@ -1,0 +1,6 @@
+pub mod IdBytes
+pub mod World
+pub mod Tips
+pub mod Rows
+pub mod Lines
+pub mod Whole

@@ -1,0 +1,182 @@
+-- Laws of rows: a row of the walk's world is a row of the file, its parents those at the positions that the file lists, each with the
+-- seconds of its own row. Assumes nothing.
+use mathlib.Core.Path.{_≡_, refl, sym, _∙_, ap, subst}
+use Prim.Native.Nat.{ℕ, zero, suc, _+_, _*_, _≤_, _<_}
+use mathlib.Core.Bool.{true}
+use mathlib.Core.Option.{Option, none, some}
+use mathlib.Core.List.{List, [], _∷_, map}
+use native.Mathlib.Omega.{arith}
+use native.Mathlib.Nat.{le-of-suc-le-suc, not-suc-le-zero}
+use lib.ListN.{length, getD, length-map}
+use lib.IntN.{ℤ, pos}
+use Rattle.hash.specs.Bytes.{Id, idBytes, ifSome}
+use Rattle.hash.proofs.Bytes.{length-at}
+use Rattle.idlist.specs.IdList.{idOf}
+use Rattle.date.specs.declared.Seconds.{Seconds}
+use Rattle.commitgraph.specs.Graph.{chunkStart, OIDL, graphOk, graphCount, graphIds, graphId, graphFind, graphSeconds, generation, graphParents, layoutOf, idIn, secondsIn, parentsIn, mostParents, Looks, positionOf, parentListOf}
+use Rattle.commitgraph.specs.declared.Layout.{Layout}
+use Rattle.commitgraph.specs.declared.Level.{Level}
+use Rattle.commitgraph.specs.declared.rows.Position.{Position}
+use Rattle.commitgraph.specs.declared.rows.Position.the-variants.{At, Absent}
+use Rattle.commitgraph.specs.declared.parents.ParentList.the-variants.{Good, Corrupt as Broken}
+use Rattle.commitgraph.proofs.LayoutRight.{right}
+use Rattle.commitgraph.proofs.Edges.{good-list, parents-few, parents-at-below}
+use Rattle.commit.specs.Find.{GoodCache, rowOf}
+use Rattle.commit.specs.declared.Cache.{Cache}
+use Rattle.commit.specs.declared.Cache.the-variants.{Graph, NoGraph}
+use Rattle.walk.specs.Lookup.{Row, no-row, corrupt, row, rowAt}
+use Rattle.reading.specs.Files.{layoutUnder, worldUnder}
+use Rattle.reading.specs.Row.{levelOf, rowReadOf, TellsRow, rowParents, ReadsRow, GivesRowParent, GivesRowParentSeconds}
+use Rattle.reading.specs.declared.row.RowRead.the-variants.{NoRow, Corrupt, Row as RowAt}
+use Rattle.reading.proofs.World.{graph-under, row-found, RowFound}
+
+-- ---- the parents of a row
+
+-- a parent of the world's row at a position
+abbrev pub parentAt : List ℕ → ℕ → Id × ℤ
+parentAt g q = (graphId g q, graphSeconds g q)
+
+pub record RowParts (g : List ℕ) (p : ℕ) (ps : List (Id × ℤ)) (v : ℕ) (t : ℤ) : Type 0 where
+  pub places : List ℕ
+  pub listed : graphParents g p ≡ some places
+  pub same : ps ≡ map (parentAt g) places
+  pub level : v ≡ generation g p
+  pub seconds : t ≡ graphSeconds g p
+
+pub row-parts : (g : List ℕ) (p : ℕ) (ps : List (Id × ℤ)) (v : ℕ) (t : ℤ) → rowAt g p ≡ row ps v t → RowParts g p ps v t
+unfolding rowAt
+row-parts g p ps v t e = go (graphParents g p) refl e
+  where
+    go : (o : Option (List ℕ)) → graphParents g p ≡ o → ifSome o corrupt (λ qs. row (map (parentAt g) qs) (generation g p) (graphSeconds g p)) ≡ row ps v t → RowParts g p ps v t
+    go none k e′ = let z : _≡_ {A = ℕ} 0 1 = cc in absurd (omega arith)
+    go (some qs) k e′ = record { places = qs; listed = k; same = cc; level = cc; seconds = cc }
+
+-- an element of a list that was mapped
+mapped : {A B : Type 0} (f : A → B) (l : List A) (k : ℕ) (d : A) (e : B) → k < length l → getD (map f l) k e ≡ f (getD l k d)
+mapped f [] k d e h = absurd (not-suc-le-zero h)
+mapped f (x ∷ xs) zero d e h = refl
+mapped f (x ∷ xs) (suc k) d e h = mapped f xs k d e (le-of-suc-le-suc h)
+
+module _ (g : List ℕ) (p : ℕ) (ps : List (Id × ℤ)) (v : ℕ) (t : ℤ) (e : rowAt g p ≡ row ps v t) where
+  parts : RowParts g p ps v t
+  parts = row-parts g p ps v t e
+
+  many : length ps ≡ length (parts .places)
+  many = ap length (parts .same) ∙ length-map (parts .places) (parentAt g)
+
+  pub row-few : length ps ≤ mostParents
+  row-few = omega (arith, many, parents-few g p (parts .places) (parts .listed))
+
+  -- parent k, from the position that the file lists
+  row-parent : (k : ℕ) → k < length ps → getD ps k ([], pos 0) ≡ parentAt g (getD (parts .places) k 0)
+  row-parent k h =
+      ap (λ (l : List (Id × ℤ)). getD l k ([], pos 0)) (parts .same) ∙ mapped (parentAt g) (parts .places) k 0 ([], pos 0) (omega (arith, many))
+
+  -- the id of a parent has 20 bytes
+  pub row-width : graphOk g ≡ true → (k : ℕ) → k < length ps → length (getD ps k ([], pos 0) .0) ≡ idBytes
+  unfolding graphId graphIds idOf
+  row-width ok k h =
+      let b : getD (parts .places) k 0 < graphCount g = parents-at-below g p (parts .places) (parts .listed) k (omega (arith, many)) in
+      ap (λ (q : Id × ℤ). length (q .0)) (row-parent k h) ∙ length-at g (chunkStart g OIDL + 20 * getD (parts .places) k 0) 20 (omega (arith, right g ok .places .ids))
+
+  -- a position that was read as parent k is its
+  module _ {l : Layout} {k q : ℕ} (own : l ≡ layoutOf g) (read : (qs : List ℕ) → parentsIn g l p ≡ some qs → k < length qs → q ≡ getD qs k 0) where
+    pub parent-there : k < length ps → (idIn g l q, secondsIn g l q) ≡ getD ps k ([], pos 0)
+    unfolding graphParents graphId graphIds idOf graphSeconds idIn layoutOf
+    parent-there h =
+        let n = read (parts .places) (ap (λ (m : Layout). parentsIn g m p) own ∙ parts .listed) (omega (arith, many)) in
+        ap (λ (m : Layout). (idIn g m q, secondsIn g m q)) own ∙ ap (parentAt g) n ∙ sym (row-parent k h)
+
+pub gives-parent : (g : List ℕ) (l : Layout) (p k : ℕ) {q : ℕ} {y : Id} → ((qs : List ℕ) → parentsIn g l p ≡ some qs → k < length qs → q ≡ getD qs k 0) → y ≡ idIn g l q
+    → GivesRowParent g l p k y
+gives-parent g l p k read e = record {
+  right = λ own ps v t f h. e ∙ ap (λ (a : Id × ℤ). a .0) (parent-there g p ps v t f own read h);
+}
+
+pub gives-parent-seconds : (g : List ℕ) (l : Layout) (p k : ℕ) {q : ℕ} {y : Seconds} → ((qs : List ℕ) → parentsIn g l p ≡ some qs → k < length qs → q ≡ getD qs k 0) → y .0 ≡ secondsIn g l q
+    → GivesRowParentSeconds g l p k y
+gives-parent-seconds g l p k read e = record {
+  right = λ own ps v t f h. e ∙ ap (λ (a : Id × ℤ). a .1) (parent-there g p ps v t f own read h);
+}
+
+-- ---- one row
+
+-- a parent list that was read
+pub list-good : (o : Option (List ℕ)) (n : ℕ) → Good n ≡ parentListOf o → (ps : List ℕ) × (o ≡ some ps) × (n ≡ length ps)
+list-good none n e = let z : _≡_ {A = ℕ} 0 1 = cc in absurd (omega arith)
+list-good (some ps) n e = (ps, refl, cc)
+
+pub list-broken : (o : Option (List ℕ)) → Broken ≡ parentListOf o → o ≡ none
+list-broken none e = refl
+list-broken (some ps) e = let z : _≡_ {A = ℕ} 0 1 = cc in absurd (omega arith)
+
+pub row-read : (p : ℕ) {n : ℕ} {v : Level} (w : Level) (o : Option (List ℕ)) → Good n ≡ parentListOf o → v .0 ≡ w .0 → RowAt p n v ≡ rowReadOf p w o
+row-read p {n} {v} w o e f =
+    let r = list-good o n e in
+    ap (λ (m : ℕ). RowAt p m v) (r .2) ∙ ap (λ (u : Level). RowAt p (length (r .0)) u) same ∙ ap (rowReadOf p w) (sym (r .1))
+  where
+    same : v ≡ w
+    same = λ i. record { 0 = f i }
+
+pub row-corrupt : (p : ℕ) (w : Level) (o : Option (List ℕ)) → Broken ≡ parentListOf o → Corrupt ≡ rowReadOf p w o
+row-corrupt p w o e = ap (rowReadOf p w) (sym (list-broken o e))
+
+-- a count of a row's parents, 0 where the list is corrupt, is at most 256 on any bytes
+pub list-few : (g : List ℕ) (l : Layout) (p : ℕ) (count : Option (List ℕ) → ℕ) → count none ≡ 0 → ((ps : List ℕ) → count (some ps) ≡ length ps) → count (parentsIn g l p) ≤ mostParents
+list-few g l p count z n = go (parentsIn g l p) refl
+  where
+    go : (o : Option (List ℕ)) → parentsIn g l p ≡ o → count o ≤ mostParents
+    go none e = omega (arith, z)
+    go (some ps) e = omega (arith, n ps, good-list g l p ps e .few)
+
+tells-row : (c : Cache) (g : List ℕ) (p : ℕ) → graphOk g ≡ true → layoutUnder c ≡ layoutOf g → TellsRow c g (rowReadOf p (levelOf g (layoutOf g) p) (graphParents g p)) (rowAt g p)
+unfolding rowAt generation
+tells-row c g p ok e = go (graphParents g p) refl
+  where
+    go : (o : Option (List ℕ)) → graphParents g p ≡ o → TellsRow c g (rowReadOf p (levelOf g (layoutOf g) p) o) (rowAt g p)
+    go none k = rw k
+    go (some qs) k = record {
+      file = ok;
+      layout = e;
+      place = refl;
+      parents = map (parentAt g) qs;
+      seconds = graphSeconds g p;
+      is = rw k;
+      count = sym (length-map qs (parentAt g));
+    }
+
+-- a row that was found, as it is read
+pub row-told : {c : Cache} {g s : List ℕ} {x : Id} {p : ℕ} → RowFound c g s x p
+    → TellsRow c g (rowReadOf p (levelOf g (layoutUnder c) p) (parentsIn g (layoutUnder c) p)) (worldUnder c g s .graph x)
+unfolding graphParents
+row-told {c} {g} {s} {x} {p} f =
+    subst (λ (d : Row). TellsRow c g (rowReadOf p (levelOf g (layoutUnder c) p) (parentsIn g (layoutUnder c) p)) d) (sym (f .says))
+    (subst (λ (m : Layout). TellsRow c g (rowReadOf p (levelOf g m p) (parentsIn g m p)) (rowAt g p)) (sym (f .layout)) (tells-row c g p (f .file) (f .layout)))
+
+position-at : (o : Option ℕ) (p : ℕ) → At p ≡ positionOf o → o ≡ some p
+position-at none p e = let z : _≡_ {A = ℕ} 0 1 = cc in absurd (omega arith)
+position-at (some q) p e = cc
+
+position-none : (o : Option ℕ) → Absent ≡ positionOf o → o ≡ none
+position-none none e = refl
+position-none (some q) e = let z : _≡_ {A = ℕ} 0 1 = cc in absurd (omega arith)
+
+-- the file lists x at position p
+pub reads-row : {g : List ℕ} {l : Layout} {x : Id} {q : Position} (p : ℕ) → Looks g l x q → q ≡ At p → ReadsRow (Graph l) g x (rowReadOf p (levelOf g l p) (parentsIn g l p))
+unfolding GoodCache rowOf
+reads-row {g} {l} {x} p k e = record {
+  right = λ t s. row-told (row-found (Graph l) g s x p t (position-at (graphFind g x) p (sym e ∙ k .right (t .0) (t .1))));
+  few = list-few g l p (λ o. rowParents (rowReadOf p (levelOf g l p) o)) refl (λ ps. refl);
+}
+
+-- it does not list x, or no file is used
+pub no-row-listed : {g : List ℕ} {l : Layout} {x : Id} {q : Position} → Looks g l x q → q ≡ Absent → ReadsRow (Graph l) g x NoRow
+unfolding GoodCache rowOf
+no-row-listed {g} {l} {x} k e = record {
+  right = λ t s. graph-under (Graph l) g s x ∙ ap (λ (o : Option ℕ). ifSome o no-row (λ q. rowAt g q)) (position-none (graphFind g x) (sym e ∙ k .right (t .0) (t .1)));
+  few = omega arith;
+}
+
+pub no-row-used : (g : List ℕ) (x : Id) → ReadsRow NoGraph g x NoRow
+unfolding worldUnder
+no-row-used g x = record { right = λ t s. refl; few = omega arith }

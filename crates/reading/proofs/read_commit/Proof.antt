@@ -1,0 +1,50 @@
+-- `reading::read_commit` meets its contract: what `find` finds is read, a row or a body. Assumes nothing.
+use Rattle.reading.proofs.Whole.{reads-row, reads-body, reads-none}
+use borrow.Author.Needs.{needs}
+use Rattle.reading.proofs.read_commit.Statement.{statement}
+use Rattle.reading.proofs.read_commit.Tie as tie
+
+find-requires : tie.Need-find-requires
+find-requires c κs = search needs
+
+enum-known-p : tie.Need-enum-known-p
+enum-known-p c = search needs
+
+layout-of-requires : tie.Need-layout-of-requires
+layout-of-requires c κs = search needs
+
+row-commit-requires : tie.Need-row-commit-requires
+row-commit-requires c κs = search needs
+
+enum-known-start : tie.Need-enum-known-start
+enum-known-start c = search needs
+
+body-commit-requires : tie.Need-body-commit-requires
+body-commit-requires c κs = search needs
+
+enum-told : tie.Need-enum-told
+enum-told c = search needs
+
+returns : tie.Need-returns
+returns c = rw (c .row-commit .ensures, c .before .layout-of .ensures) (reads-row _ (c .before .before .before .before .before .find .ensures) (c .before .before .before .p .given .1))
+
+returns-2 : tie.Need-returns-2
+returns-2 c = rw (c .body-commit .ensures) (reads-body _ _ (c .before .before .before .before .find .ensures) (c .before .before .start .given .1))
+
+returns-3 : tie.Need-returns-3
+returns-3 c = reads-none (c .before .before .find .ensures) (c .enum-told .given .1)
+
+pub read-commit-spec : {M : Type 1} → statement M
+read-commit-spec =
+    tie.close
+    (tie.spec
+    find-requires
+    enum-known-p
+    layout-of-requires
+    row-commit-requires
+    enum-known-start
+    body-commit-requires
+    enum-told
+    returns
+    returns-2
+    returns-3)

@@ -1,0 +1,46 @@
+-- `reading::row_commit` meets its contract: the parent list decides, and the pair is the row's. Assumes nothing.
+use mathlib.Core.Path.{sym, _∙_}
+use Rattle.commitgraph.specs.Graph.{parentsIn}
+use Rattle.reading.specs.Whole.{pairIn}
+use Rattle.reading.proofs.Whole.{row-good, row-bad}
+use borrow.Author.Needs.{needs}
+use Rattle.reading.proofs.row_commit.Statement.{statement}
+use Rattle.reading.proofs.row_commit.Tie as tie
+
+parents-requires : tie.Need-parents-requires
+parents-requires c κs = search needs
+
+enum-known-n : tie.Need-enum-known-n
+enum-known-n c = search needs
+
+level-requires : tie.Need-level-requires
+level-requires c κs = search needs
+
+seconds-requires : tie.Need-seconds-requires
+seconds-requires c κs = search needs
+
+enum-told : tie.Need-enum-told
+enum-told c = search needs
+
+returns : tie.Need-returns
+returns c =
+    let x = c .before .before .before .before .before .before .before .args in
+    row-good (x .position) (pairIn (x .graph .now) (x .l) (x .position)) (parentsIn (x .graph .now) (x .l) (x .position))
+    (sym (c .before .before .before .n .given .1) ∙ c .before .before .before .before .before .parents .ensures) (c .before .level .ensures) (c .seconds .ensures)
+
+returns-2 : tie.Need-returns-2
+returns-2 c =
+    let x = c .before .before .before .before .args in
+    row-bad (x .position) (pairIn (x .graph .now) (x .l) (x .position)) (parentsIn (x .graph .now) (x .l) (x .position)) (sym (c .enum-told .given .1) ∙ c .before .before .parents .ensures)
+
+pub row-commit-spec : {M : Type 1} → statement M
+row-commit-spec =
+    tie.close
+    (tie.spec
+    parents-requires
+    enum-known-n
+    level-requires
+    seconds-requires
+    enum-told
+    returns
+    returns-2)

@@ -1,0 +1,79 @@
+-- One commit read whole, as painting reads it: `read` of the walk, told by what the two files have. Assumes nothing.
+use Prim.Native.Nat.{ℕ, _≤_, _<_}
+use mathlib.Core.Path.{_≡_}
+use mathlib.Core.Bool.{true}
+use mathlib.Core.Option.{Option, none, some}
+use mathlib.Core.List.{List, []}
+use lib.ListN.{length, getD}
+use Rattle.hash.specs.Bytes.{Id}
+use Rattle.object.specs.declared.ObjectId.{ObjectId}
+use Rattle.object.specs.declared.Reading.{Reading}
+use Rattle.object.specs.declared.Reading.the-variants.{Readable, Bad, Crowded}
+use Rattle.odb.specs.Store.{storeOk}
+use Rattle.commitgraph.specs.Graph.{levelIn, secondsIn, mostParents}
+use Rattle.commitgraph.specs.declared.Layout.{Layout}
+use Rattle.commit.specs.Find.{GoodCache, foundIn}
+use Rattle.commit.specs.declared.Cache.{Cache}
+use Rattle.commit.specs.declared.Either.{Either}
+use Rattle.commit.specs.declared.Either.the-variants.{CachedCommit, CommitRefIter}
+use Rattle.walk.specs.Lookup.{Pair, pairOf, noGeneration, Read, fail, good, read}
+use Rattle.walk.specs.declared.GenThenTime.{GenThenTime}
+use Rattle.walk.specs.declared.Refusal.the-variants.{CommitUnreadable, TooManyParents}
+use Rattle.reading.specs.declared.Commit.{Commit}
+use Rattle.reading.specs.declared.Commit.the-variants.{Row, Body, Failed}
+use Rattle.reading.specs.Files.{worldUnder}
+
+-- the pair of the row at position p
+abbrev pub pairIn : List ℕ → Layout → ℕ → GenThenTime
+pairIn g l p = record { generation = record { 0 = levelIn g l p }; time = record { 0 = secondsIn g l p } }
+
+-- the commit of that row, given its pair and its parent list: "a corrupt list (here 10)"
+abbrev pub rowCommit : ℕ → GenThenTime → Option (List ℕ) → Commit
+rowCommit p q none = Failed CommitUnreadable
+rowCommit p q (some ps) = Row p (length ps) q
+
+-- the commit of the body from a to e, given what its header reads as: "unreadable (10) or crowded (11)"; "Without a graph row the level
+-- is 0xFFFFFFFF"
+abbrev pub bodyCommit : ℕ → ℕ → Reading → Commit
+bodyCommit a e (Readable n s) = Body a e n (record { generation = record { 0 = noGeneration }; time = s })
+bodyCommit a e Bad = Failed CommitUnreadable
+bodyCommit a e Crowded = Failed TooManyParents
+
+-- a commit that was read has n parents and the pair q
+pub record Has (n : ℕ) (q : GenThenTime) (d : Read) : Type 0 where
+  pub parents : List Id
+  pub is : d ≡ good parents (pairOf q)
+  pub count : n ≡ length parents
+
+-- what an answer says of a commit that was read
+abbrev pub Tells : Commit → Read → Type 0
+Tells (Row p n q) d = Has n q d
+Tells (Body a e n q) d = Has n q d
+Tells (Failed r) d = d ≡ fail r
+
+-- an answer names the row or the body that `find` finds
+abbrev pub Names : Commit → Either → Type 0
+Names (Row p n q) e = e ≡ CachedCommit p
+Names (Body a b n q) e = e ≡ CommitRefIter a b
+Names (Failed r) e = Unit {0}
+
+-- on good files r is what is read of the commit x
+pub record IsRead (c : Cache) (g s : List ℕ) (x : Id) (r : Commit) : Type 0 where
+  pub tells : Tells r (read (worldUnder c g s) x)
+  pub names : Names r (foundIn c g s x)
+
+-- how many parents an answer has
+abbrev pub parentCount : Commit → ℕ
+parentCount (Row p n q) = n
+parentCount (Body a e n q) = n
+parentCount (Failed r) = 0
+
+-- what `read_commit` answers for the commit x: on good files what they have; on any bytes at most 256 parents
+pub record ReadsCommit (c : Cache) (g s : List ℕ) (x : Id) (r : Commit) : Type 0 where
+  pub right : storeOk s ≡ true → GoodCache c g → IsRead c g s x r
+  pub few : parentCount r ≤ mostParents
+
+-- what `parent_of` answers: parent k of a commit m that was read
+pub record GivesParent (c : Cache) (g s : List ℕ) (m : Commit) (k : ℕ) (r : ObjectId) : Type 0 where
+  pub right : storeOk s ≡ true → GoodCache c g → (x : Id) → IsRead c g s x m
+      → (ps : List Id) (q : Pair) → read (worldUnder c g s) x ≡ good ps q → k < length ps → r .bytes ≡ getD ps k []

@@ -1,0 +1,94 @@
+// A next call's reading of a commit's body, line by line.
+use object::Line;
+use object::ObjectId;
+use object::person;
+ghost use mathlib.Core.Path.{_≡_};
+ghost use Rattle.object.specs.Header.{header};
+ghost use Rattle.reading.specs.Body.{endAt, endStep, GivesBodyParent, StepsBody};
+
+// How the reading of a body ends after its parents: the author line is good, or it is bad, or a parent line too many stands there.
+pub enum BodyEnd {
+    Whole,
+    Unreadable,
+    Crowded,
+}
+
+// One step of the reading: the next parent; or there is none more, and the reading ends.
+pub struct BodyStep {
+    pub taken: bool,
+    pub id: ObjectId,
+    pub ends: BodyEnd,
+}
+
+// The lengths of a tree line and of a parent line.
+const TREE_LINE: usize = 46;
+
+const PARENT_LINE: usize = 48;
+
+// The most parents of a commit.
+const MOST_PARENTS: usize = 256;
+
+// Whether the tree line is good.
+pub fn body_tree_ok(body: &[u8]) -> bool
+    ensures { λ r. ⌜ r ≡ header (now (body .entry)) .tree ⌝ }
+{
+    match object::tree_line(body, 0) {
+        Line::Good(_) => true,
+        Line::Bad => false,
+    }
+}
+
+// The id of parent k of a body with a good tree line.
+pub fn body_parent(body: &[u8], k: usize) -> ObjectId
+    ensures { λ r. ⌜ GivesBodyParent (now (body .entry)) k r ⌝ }
+{
+    if MOST_PARENTS <= k {
+        return ObjectId { bytes: [0u8; 20] };
+    }
+    let read = object::parent_line(body, TREE_LINE + PARENT_LINE * k);
+    read.id
+}
+
+// How the reading ends at a place where no parent line stands.
+fn end_at(body: &[u8], at: usize) -> BodyEnd
+    ensures { λ r. ⌜ r ≡ endAt (now (body .entry)) at ⌝ }
+{
+    match person::author_line(body, at) {
+        Line::Good(_) => BodyEnd::Whole,
+        Line::Bad => BodyEnd::Unreadable,
+    }
+}
+
+// An end of the reading.
+fn ended(ends: BodyEnd) -> BodyStep
+    ensures { λ r. ⌜ r ≡ endStep ends ⌝ }
+{
+    BodyStep {
+        taken: false,
+        id: ObjectId { bytes: [0u8; 20] },
+        ends,
+    }
+}
+
+// The step after k parents of a body with a good tree line.
+pub fn body_step(body: &[u8], k: usize) -> BodyStep
+    ensures { λ r. ⌜ StepsBody (now (body .entry)) k r ⌝ }
+{
+    if MOST_PARENTS < k {
+        return ended(BodyEnd::Crowded);
+    }
+    let at = TREE_LINE + PARENT_LINE * k;
+    let read = object::parent_line(body, at);
+    if !read.good {
+        return ended(end_at(body, at));
+    }
+    if k == MOST_PARENTS {
+        return ended(BodyEnd::Crowded);
+    }
+    let id = read.id;
+    BodyStep {
+        taken: true,
+        id,
+        ends: BodyEnd::Whole,
+    }
+}

@@ -1,0 +1,154 @@
+// What the walk and the painting read of one commit, in the commit-graph file and in the commit store. Every function is total and
+// safe on any bytes.
+mod body;
+mod ids;
+mod row;
+mod tip;
+
+pub use body::BodyEnd;
+pub use body::BodyStep;
+pub use body::body_parent;
+pub use body::body_step;
+pub use body::body_tree_ok;
+use commit::Cache;
+use commit::Either;
+use commitgraph::Layout;
+use commitgraph::Level;
+use commitgraph::parents;
+use commitgraph::parents::ParentList;
+use commitgraph::rows;
+pub use ids::id_by_value;
+pub use ids::id_of;
+pub use ids::is_among;
+use object::ObjectId;
+use object::Reading;
+use odb::Located;
+pub use row::RowRead;
+pub use row::row_at;
+pub use row::row_of;
+pub use row::row_parent;
+pub use row::row_parent_seconds;
+pub use tip::TipRead;
+pub use tip::read_tip;
+pub use tip::seconds_for;
+use walk::GenThenTime;
+use walk::Refusal;
+ghost use mathlib.Core.Path.{_≡_};
+ghost use Rattle.object.specs.Header.{header};
+ghost use Rattle.object.specs.Read.{readingOf};
+ghost use Rattle.odb.specs.Lookup.{partOf};
+ghost use Rattle.odb.specs.declared.Located.the-variants.{Body as BodyAt};
+ghost use Rattle.commitgraph.specs.Graph.{parentsIn};
+ghost use Rattle.reading.specs.Files.{cacheOf, layoutUnder};
+ghost use Rattle.reading.specs.Whole.{pairIn, rowCommit, bodyCommit, ReadsCommit, GivesParent};
+
+// A commit that was read whole, as painting does: where it stands, how many parents it has, and its place in the painting's order; or why
+// it cannot be read.
+pub enum Commit {
+    Row {
+        position: usize,
+        parents: usize,
+        pair: GenThenTime,
+    },
+    Body {
+        start: usize,
+        end: usize,
+        parents: usize,
+        pair: GenThenTime,
+    },
+    Failed(Refusal),
+}
+
+// The generation of a commit without a graph row.
+const NO_GENERATION: u32 = 0xFFFFFFFF;
+
+// The commit-graph file as it is used: not at all where it is empty or was dropped.
+pub fn cache_of(graph: &[u8], kept: bool) -> Cache
+    ensures { λ r. ⌜ r ≡ cacheOf (now (graph .entry)) kept ⌝ }
+{
+    if kept {
+        if graph.len() == 0 {
+            return Cache::NoGraph;
+        }
+        return Cache::Graph(commitgraph::parse(graph));
+    }
+    Cache::NoGraph
+}
+
+// Where the chunks of the file stand; without a file all is 0.
+pub fn layout_of(cache: Cache) -> Layout
+    ensures { λ r. ⌜ r ≡ layoutUnder cache ⌝ }
+{
+    match cache {
+        Cache::Graph(l) => l,
+        Cache::NoGraph => Layout {
+            fan: 0,
+            ids: 0,
+            rows: 0,
+            edge: 0,
+            edges: 0,
+            count: 0,
+        },
+    }
+}
+
+// The commit of the row at a position.
+fn row_commit(graph: &[u8], l: Layout, position: usize) -> Commit
+    ensures { λ r. ⌜ r ≡ rowCommit position (pairIn (now (graph .entry)) l position) (parentsIn (now (graph .entry)) l position) ⌝ }
+{
+    match parents::parents(graph, l, position) {
+        ParentList::Good(n) => Commit::Row {
+            position,
+            parents: n,
+            pair: GenThenTime {
+                generation: rows::level(graph, l, position),
+                time: rows::seconds(graph, l, position),
+            },
+        },
+        ParentList::Corrupt => Commit::Failed(Refusal::CommitUnreadable),
+    }
+}
+
+// The commit of a body.
+fn body_commit(store: &[u8], start: usize, end: usize) -> Commit
+    ensures { λ r. ⌜ r ≡ bodyCommit start end (readingOf (header (partOf (now (store .entry)) (BodyAt start end)))) ⌝ }
+{
+    match object::readable(odb::body(store, Located::Body { start, end })) {
+        Reading::Readable { parents, seconds } => Commit::Body {
+            start,
+            end,
+            parents,
+            pair: GenThenTime {
+                generation: Level(NO_GENERATION),
+                time: seconds,
+            },
+        },
+        Reading::Bad => Commit::Failed(Refusal::CommitUnreadable),
+        Reading::Crowded => Commit::Failed(Refusal::TooManyParents),
+    }
+}
+
+// One commit, read whole: its graph row, else its body.
+pub fn read_commit(cache: Cache, graph: &[u8], store: &[u8], id: &[u8]) -> Commit
+    ensures { λ r. ⌜ ReadsCommit cache (now (graph .entry)) (now (store .entry)) (now (id .entry)) r ⌝ }
+{
+    match commit::find(cache, graph, store, id) {
+        Either::CachedCommit(p) => row_commit(graph, layout_of(cache), p),
+        Either::CommitRefIter { start, end } => body_commit(store, start, end),
+        Either::Absent => Commit::Failed(Refusal::CommitNotFound),
+    }
+}
+
+// The id of parent k of a commit that `read_commit` gave.
+pub fn parent_of(commit: Commit, k: usize, cache: Cache, graph: &[u8], store: &[u8]) -> ObjectId
+    ensures { λ r. ⌜ GivesParent cache (now (graph .entry)) (now (store .entry)) commit k r ⌝ }
+{
+    match commit {
+        Commit::Row { position, .. } => id_of(row_parent(graph, layout_of(cache), position, k)),
+        Commit::Body { start, end, .. } => body_parent(
+            odb::body(store, Located::Body { start, end }),
+            k,
+        ),
+        Commit::Failed(_) => ObjectId { bytes: [0u8; 20] },
+    }
+}
