@@ -7,7 +7,7 @@ use mathlib.Core.List.{List, [], _∷_}
 use native.Mathlib.Omega.{arith}
 use lib.ListN.{length, drop}
 use lib.Seq.{drop-drop}
-use Rattle.hash.specs.Bytes.{Id, idBytes, at, idsOf, among, eqId}
+use Rattle.hash.specs.Bytes.{Id, idBytes, at, idsOf}
 use Rattle.walk.specs.Opening.{listIds}
 
 -- of n ids those from number k on
@@ -29,15 +29,3 @@ module _ (b : List ℕ) (n k : ℕ) where
   pub ids-end : n ≤ k → idsFrom n k b ≡ []
   unfolding idsFrom idsOf
   ids-end h = let m : n - k ≡ 0 = omega arith in rw m
-
-  pub among-hit : (x : Id) → k < n → eqId x (at b (idBytes * k) idBytes) ≡ true → among x (idsFrom n k b) ≡ true
-  unfolding among
-  among-hit x h e = rw (ids-next h, e)
-
-  pub among-miss : (x : Id) → k < n → eqId x (at b (idBytes * k) idBytes) ≡ false → among x (idsFrom n k b) ≡ among x (idsFrom n (k + 1) b)
-  unfolding among
-  among-miss x h e = rw (ids-next h, e)
-
-  pub among-end : (x : Id) → n ≤ k → among x (idsFrom n k b) ≡ false
-  unfolding among
-  among-end x h = rw (ids-end h)

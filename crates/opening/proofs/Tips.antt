@@ -12,13 +12,8 @@ use lib.IntN.{ℤ, pos}
 use Rattle.hash.specs.Bytes.{Id, idBytes, at, eqId, among, ifSome}
 use Rattle.hash.proofs.Tests.{byCases, clash, or-right, no-some}
 use Rattle.hash.proofs.Ids.{eqId-eq}
-use Rattle.object.specs.Header.{Header, header, idLine, treeWord, withTree, secondsOf}
+use Rattle.object.specs.Header.{Header}
 use Rattle.object.specs.Read.{secondsRead}
-use Rattle.date.specs.declared.Seconds.{Seconds}
-use Rattle.object.specs.declared.SecondsRead.{SecondsRead}
-use Rattle.object.specs.declared.SecondsRead.the-variants.{Good, Bad}
-use Rattle.odb.specs.Store.{storeOk, storeFind}
-use Rattle.odb.specs.Lookup.{optionOf, TriesFind}
 use Rattle.walk.specs.declared.Refusal.{Refusal}
 use Rattle.walk.specs.declared.Refusal.the-variants.{TipNotFound, TipUnreadable}
 use Rattle.walk.specs.Settings.{timed, cutoffOf, notBefore}
@@ -28,7 +23,8 @@ use Rattle.walk.specs.Opening.{Input, walkOf, listIds, distinct, Opening, close
 use Rattle.walk.specs.Reach.{Mem}
 use Rattle.opening.specs.declared.Checked.{Checked}
 use Rattle.opening.specs.declared.Checked.the-variants.{Fine, Refused}
-use Rattle.opening.specs.Checks.{checkedOf, checkedBy, faultOr, firstFault}
+use Rattle.reading.specs.Tip.{tipOf, tipSeconds}
+use Rattle.opening.specs.Checks.{checkedOf, checkedBy, faultOf, faultOr, firstFault}
 use Rattle.opening.proofs.Ids.{idsFrom, ids-next, ids-end}
 
 -- ---- answers
@@ -64,40 +60,15 @@ module _ (o : Option Header) where
   pub fault-none : faultOr o none ≡ none → (rest : Option Refusal) → faultOr o rest ≡ rest
   fault-none e rest = ⊎-elim (λ a. no-some (sym e ∙ a .1 none)) (λ b. b .2 rest) (fault-cases o)
 
-header-seconds : (b : List ℕ) → header b .seconds ≡ secondsOf b
-unfolding header secondsOf
-header-seconds b = go (idLine treeWord b) refl
+-- what reading a tip told is its fault
+pub tip-told : (o : Option Header) → faultOf (tipOf o) ≡ checkedOf (faultOr o none)
+unfolding faultOr
+tip-told none = refl
+tip-told (some h) = go (h .seconds)
   where
-    go : (o : Option (Id × List ℕ)) → idLine treeWord b ≡ o → withTree b o .seconds ≡ secondsOf b
-    go none e = rw e
-    go (some t) e = refl
-
--- what the store's lookup and the header's reader answer of a tip
-module _ (store graph : List ℕ) (x : Id) (ok : storeOk store ≡ true) where
-  pub tip-absent : {body : List ℕ} {found : Bool} → TriesFind store x found body → found ≡ false → Refused TipNotFound ≡ checkedOf (faultOr (worldOf store graph .store x) none)
-  unfolding worldOf faultOr
-  tip-absent {body} f n = let e : none ≡ storeFind store x = ap (λ (t : Bool). optionOf t body) (sym n) ∙ f .good ok in rw (sym e)
-
-  module _ {body : List ℕ} {found : Bool} (f : TriesFind store x found body) (y : found ≡ true) where
-    there : worldOf store graph .store x ≡ some (header body)
-    unfolding worldOf
-    there = let e : some body ≡ storeFind store x = ap (λ (t : Bool). optionOf t body) (sym y) ∙ f .good ok in rw (sym e)
-
-    pub tip-read : {s : SecondsRead} {t : Seconds} → s ≡ secondsRead (secondsOf body) → s ≡ Good t → Fine ≡ checkedOf (faultOr (worldOf store graph .store x) none)
-    unfolding faultOr
-    tip-read {s} {t} e n = rw (there, header-seconds body) (go (secondsOf body) (sym e ∙ n))
-      where
-        go : (o : Option ℤ) → secondsRead o ≡ Good t → Fine ≡ checkedOf (ifSome o (some TipUnreadable) (λ u. none))
-        go none k = let z : _≡_ {A = ℕ} 0 1 = cc in absurd (omega arith)
-        go (some u) k = refl
-
-    pub tip-unreadable : {s : SecondsRead} → s ≡ secondsRead (secondsOf body) → s ≡ Bad → Refused TipUnreadable ≡ checkedOf (faultOr (worldOf store graph .store x) none)
-    unfolding faultOr
-    tip-unreadable {s} e n = rw (there, header-seconds body) (go (secondsOf body) (sym e ∙ n))
-      where
-        go : (o : Option ℤ) → secondsRead o ≡ Bad → Refused TipUnreadable ≡ checkedOf (ifSome o (some TipUnreadable) (λ t. none))
-        go none k = refl
-        go (some t) k = let z : _≡_ {A = ℕ} 0 1 = cc in absurd (omega arith)
+    go : (s : Option ℤ) → faultOf (tipSeconds (secondsRead s)) ≡ checkedOf (ifSome s (some TipUnreadable) (λ t. none))
+    go none = refl
+    go (some t) = refl
 
 -- ---- the first fault
 

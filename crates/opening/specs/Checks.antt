@@ -11,6 +11,8 @@ use Rattle.walk.specs.declared.Refusal.{Refusal}
 use Rattle.walk.specs.declared.Refusal.the-variants.{TipNotFound, TipUnreadable}
 use Rattle.walk.specs.Lookup.{World}
 use Rattle.walk.specs.Opening.{Input, Lengths, Opening, closed, opened}
+use Rattle.reading.specs.declared.tip.TipRead.{TipRead}
+use Rattle.reading.specs.declared.tip.TipRead.the-variants.{Good, Missing, Unreadable}
 use Rattle.opening.specs.declared.Checked.{Checked}
 use Rattle.opening.specs.declared.Checked.the-variants.{Fine, Refused}
 
@@ -44,6 +46,12 @@ checkedOf (some r) = Refused r
 abbrev pub checkedBy : Opening → Checked
 checkedBy (closed r) = Refused r
 checkedBy (opened st) = Fine
+
+-- the answer where a tip reads so
+abbrev pub faultOf : TipRead → Checked
+faultOf (Good t) = Fine
+faultOf Missing = Refused TipNotFound
+faultOf Unreadable = Refused TipUnreadable
 
 -- 7: "time order, tip not in the book", 8: "its header not good through committer"; of a tip, by what the store has under it, else rest
 unfoldable pub faultOr : Option Header → Option Refusal → Option Refusal

@@ -1,6 +1,6 @@
 // The tests of an opening: document 01's refusals 1 to 8, in order 2 to 6, 1, 7, 8. No function here writes a byte, and each is total on
 // any bytes and lengths.
-use object::SecondsRead;
+use reading::TipRead;
 use walk::Refusal;
 use walk::Settings;
 use walk::Sorting;
@@ -11,12 +11,12 @@ ghost use mathlib.Core.Option.{none};
 ghost use Prim.Native.Nat.{ℕ, _%_};
 ghost use lib.Dec.{eqb};
 ghost use lib.ListN.{length};
-ghost use Rattle.hash.specs.Bytes.{among, idBytes};
+ghost use Rattle.hash.specs.Bytes.{idBytes};
 ghost use Rattle.odb.specs.Store.{storeOk};
 ghost use Rattle.walk.specs.Settings.{timed};
 ghost use Rattle.walk.specs.Lookup.{worldOf};
 ghost use Rattle.walk.specs.Opening.{Input, listIds, P, sizesOk, wholeIds, refusal, roomFor, openTips, openWalk};
-ghost use Rattle.opening.specs.Checks.{inputOf, lengthsOf, checkedOf, checkedBy, faultOr, firstFault};
+ghost use Rattle.opening.specs.Checks.{inputOf, lengthsOf, checkedOf, checkedBy, faultOf, firstFault};
 
 // What a test of an opening gives: no fault, or the refusal of the first fault.
 pub enum Checked {
@@ -147,44 +147,25 @@ pub fn has_room(
     PARENTS_BYTES <= parents
 }
 
-// Whether an id is among the excluded.
-fn is_excluded(excluded: &[u8], id: &[u8]) -> bool
-    ensures { λ r. ⌜ r ≡ among (now (id .entry)) (listIds (now (excluded .entry))) ⌝ }
+// What is wrong with a tip that was read: the store lacks it, or its header is not good through committer.
+fn tip_fault(read: TipRead) -> Checked
+    ensures { λ r. ⌜ r ≡ faultOf read ⌝ }
 {
-    let n = excluded.len() / hash::ID_BYTES;
-    let mut k = 0;
-    while k < n {
-        if hash::same(id, hash::id_at(excluded, hash::ID_BYTES * k)) {
-            return true;
-        }
-        k += 1;
-    }
-    false
-}
-
-// What is wrong with one tip: the store lacks it, or its header is not good through committer. Its parents are not counted.
-fn read_tip(store: &[u8], id: &[u8]) -> Checked
-    ensures { λ r. ⌜ (storeOk (now (store .entry)) ≡ true → (graph : List ℕ) → r ≡ checkedOf (faultOr (worldOf (now (store .entry)) graph .store (now (id .entry))) none)) ⌝ }
-{
-    let mut found = false;
-    let body = odb::try_find(store, id, &mut found);
-    if !found {
-        return Checked::Refused(Refusal::TipNotFound);
-    }
-    match object::seconds_only(body) {
-        SecondsRead::Good(_) => Checked::Fine,
-        SecondsRead::Bad => Checked::Refused(Refusal::TipUnreadable),
+    match read {
+        TipRead::Good(_) => Checked::Fine,
+        TipRead::Missing => Checked::Refused(Refusal::TipNotFound),
+        TipRead::Unreadable => Checked::Refused(Refusal::TipUnreadable),
     }
 }
 
-// The same of a tip that may be excluded: then it is not read.
+// The same of a tip in the store; one that is excluded is not read.
 fn check_tip(store: &[u8], excluded: &[u8], id: &[u8]) -> Checked
     ensures { λ r. ⌜ (storeOk (now (store .entry)) ≡ true → (graph : List ℕ) → r ≡ checkedOf (firstFault (worldOf (now (store .entry)) graph) (listIds (now (excluded .entry))) (now (id .entry) ∷ []))) ⌝ }
 {
-    if is_excluded(excluded, id) {
+    if reading::is_among(excluded, id) {
         return Checked::Fine;
     }
-    read_tip(store, id)
+    tip_fault(reading::read_tip(store, id))
 }
 
 // The first fault of the tips, in list order. A repeated tip has the fault of its first place.

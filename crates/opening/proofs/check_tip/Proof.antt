@@ -2,25 +2,33 @@
 use mathlib.Core.Path.{sym, _∙_, ap}
 use Rattle.walk.specs.Lookup.{worldOf}
 use Rattle.walk.specs.Opening.{listIds}
-use Rattle.opening.specs.Checks.{checkedOf}
-use Rattle.opening.proofs.Tips.{one-skipped, one-read}
+use Rattle.opening.specs.Checks.{checkedOf, faultOf}
+use Rattle.opening.proofs.Tips.{one-skipped, one-read, tip-told}
 use borrow.Author.Needs.{needs}
 use Rattle.opening.proofs.check_tip.Statement.{statement}
 use Rattle.opening.proofs.check_tip.Tie as tie
 
-is-excluded-requires : tie.Need-is-excluded-requires
-is-excluded-requires c κs = search needs
+is-among-requires : tie.Need-is-among-requires
+is-among-requires c κs = search needs
 
 returns : tie.Need-returns
 returns c = let x = c .before .before .before .before .before .args in
-    λ ok graph. sym (ap checkedOf (one-skipped (worldOf (x .store .now) graph) (listIds (x .excluded .now)) (x .id .now) (sym (c .before .is-excluded .ensures) ∙ c .if1 .taken)))
+    λ ok graph. sym (ap checkedOf (one-skipped (worldOf (x .store .now) graph) (listIds (x .excluded .now)) (x .id .now) (sym (c .before .is-among .ensures) ∙ c .if1 .taken)))
 
 read-tip-requires : tie.Need-read-tip-requires
 read-tip-requires c κs = search needs
 
+tip-fault-requires : tie.Need-tip-fault-requires
+tip-fault-requires c κs = search needs
+
 returns-2 : tie.Need-returns-2
-returns-2 c = let x = c .before .before .before .before .before .before .args in
-    λ ok graph. c .read-tip .ensures ok graph ∙ sym (ap checkedOf (one-read (worldOf (x .store .now) graph) (listIds (x .excluded .now)) (x .id .now) (sym (c .before .before .is-excluded .ensures) ∙ c .before .if1 .left)))
+returns-2 c =
+    let x = c .before .before .before .before .before .before .before .args in
+    let l = listIds (x .excluded .now) in
+    λ ok graph.
+    c .tip-fault .ensures ∙ ap faultOf (c .before .read-tip .ensures .right ok graph) ∙ tip-told (worldOf (x .store .now) graph .store (x .id .now))
+    ∙ sym (ap checkedOf (one-read (worldOf (x .store .now) graph) l (x .id .now) (sym (c .before .before .before .is-among .ensures) ∙ c .before .before .if1 .left)))
 
 pub check-tip-spec : {M : Type 1} → statement M
-check-tip-spec = tie.close (tie.spec is-excluded-requires returns read-tip-requires returns-2)
+check-tip-spec =
+    tie.close (tie.spec is-among-requires returns read-tip-requires tip-fault-requires returns-2)

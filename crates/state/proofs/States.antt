@@ -1,0 +1,119 @@
+-- What a state in lent memory tells: the slots that wait are live ones, they are as many as the model's queue has, one state is read and no
+-- other, none from a closed record, and memory may change where nothing is read. Assumes nothing.
+use mathlib.Core.Path.{_≡_, refl, sym, ap, _∙_, subst}
+use Prim.Native.Nat.{ℕ, suc, _+_, _*_, _≤_, _<_}
+use mathlib.Core.Bool.{Bool, true, false, cond, not, _&&_}
+use mathlib.Core.List.{List, [], _∷_, map}
+use native.Mathlib.Omega.{arith}
+use lib.ListN.{length, getD, length-map}
+use lib.IntN.{ℤ, pos}
+use Rattle.hash.specs.Bytes.{Id}
+use Rattle.hash.proofs.Tests.{clash, not-yes}
+use Rattle.hashtable.specs.Marks.{seen, frontier, live}
+use Rattle.hashtable.specs.Table.{idOf, liveAt, Sized, markFor}
+use Rattle.hashtable.proofs.MarksBits.{live-seen}
+use Rattle.hashtable.proofs.TableKept.{Agrees, agrees-table}
+use Rattle.hashtable.proofs.TableView.{agrees-mark}
+use Rattle.revwalk.specs.Order.{In}
+use Rattle.revwalk.specs.Queue.{GoodQueue}
+use Rattle.revwalk.proofs.QueueGood.{slots-length, good-size}
+use Rattle.revwalk.proofs.QueueSlots.{slots-low, times-good, times-list, line-good, line-list}
+use Rattle.walk.specs.State.{State}
+use Rattle.state.specs.declared.Record.{Record}
+use Rattle.state.specs.Reads.{Memory, Shape, entryOf, waiting, Reads, closedRecord}
+use Rattle.state.proofs.Entries.{map-agree}
+
+module _ {r : Record} {m : Memory} {sh : Shape} {st : State} (g : Reads r m sh st) where
+  pub waits-low : (s : ℕ) → In s (waiting r m) → s < sh .cap
+  waits-low s h = subst (λ (c : ℕ). s < c) (g .cap) (slots-low (g .good) s h)
+
+  pub waits-live : (s : ℕ) → In s (waiting r m) → liveAt (r .painted) (m .marks) s ≡ true
+  waits-live s h = live-seen (r .painted) (getD (m .marks) s 0) (g .waits-seen s h)
+
+  -- ---- numbers
+  pub waiting-length : length (waiting r m) ≡ r .queue .count
+  waiting-length = slots-length (r .queue) (m .times) (m .line)
+
+  pub queue-length : length (st .queue) ≡ r .queue .count
+  queue-length = ap length (g .queue) ∙ length-map (waiting r m) (entryOf (sh .timed) (m .names) (m .times)) ∙ waiting-length
+
+  pub count-low : r .queue .count ≤ sh .cap
+  count-low = subst (λ (c : ℕ). r .queue .count ≤ c) (g .cap) (good-size (g .good))
+
+  -- where something waits, painting was not refused
+  pub not-failed : (y : Id × ℤ) (l : List (Id × ℤ)) → st .queue ≡ y ∷ l → r .failed ≡ false
+  not-failed y l e = not-yes (λ f.
+      let p : length (st .queue) ≡ suc (length l) = ap length e in
+      let q : length (waiting r m) ≡ 0 = ap length (g .failed-empty f) in
+      omega (arith, queue-length, waiting-length))
+
+-- ---- a closed record reads as no state
+
+pub closed-never : {m : Memory} {sh : Shape} {st : State} → Reads closedRecord m sh st → ⊥
+unfolding closedRecord
+closed-never g = clash (g .alive) refl
+
+-- ---- one state is read
+
+pub one-state : {r : Record} {m : Memory} {sh : Shape} {st st′ : State} → Reads r m sh st → Reads r m sh st′ → st ≡ st′
+one-state g h = λ k. record {
+  queue = (g .queue ∙ sym (h .queue)) k;
+  seen = λ x. (g .seen-is x ∙ sym (h .seen-is x)) k;
+  frontier = λ x. (g .frontier-is x ∙ sym (h .frontier-is x)) k;
+  painted = (g .painted ∙ sym (h .painted)) k;
+  kept = (g .kept ∙ sym (h .kept)) k;
+  admitted = (g .admitted ∙ sym (h .admitted)) k;
+  struck = (g .struck ∙ sym (h .struck)) k;
+}
+
+-- ---- memory changes elsewhere
+
+-- from m to m′ nothing changes that is read: the marks, the ids of live slots, the seconds of waiting slots, the line below 2 · cap
+pub record Elsewhere (r : Record) (m m′ : Memory) (cap : ℕ) : Type 0 where
+  pub sized : Sized (m′ .names) (m′ .marks) cap
+  pub for-times : cap ≤ length (m′ .times)
+  pub for-line : 5 * cap ≤ length (m′ .line)
+  pub table : Agrees (r .painted) (m .names) (m .marks) (m′ .names) (m′ .marks) cap
+  pub times : (s : ℕ) → In s (waiting r m) → getD (m .times) s (pos 0) ≡ getD (m′ .times) s (pos 0)
+  pub line : (k : ℕ) → k < cap + cap → getD (m .line) k 0 ≡ getD (m′ .line) k 0
+
+module _ {r : Record} {m m′ : Memory} {sh : Shape} {st : State} (g : Reads r m sh st) (e : Elsewhere r m m′ (sh .cap)) where
+  line-same : (k : ℕ) → k < r .queue .cap + r .queue .cap → getD (m .line) k 0 ≡ getD (m′ .line) k 0
+  line-same k h = e .line k (subst (λ (c : ℕ). k < c + c) (g .cap) h)
+
+  good-times : GoodQueue (r .queue) (m′ .times) (m .line)
+  good-times = times-good (r .queue) (m .times) (m′ .times) (m .line) (e .times) (g .good)
+
+  pub elsewhere-waiting : waiting r m ≡ waiting r m′
+  elsewhere-waiting = times-list (r .queue) (m .times) (m′ .times) (m .line) (e .times) ∙ line-list good-times (m′ .line) line-same
+
+  entry-same : (s : ℕ) → In s (waiting r m) → entryOf (sh .timed) (m .names) (m .times) s ≡ entryOf (sh .timed) (m′ .names) (m′ .times) s
+  entry-same s h =
+      ap {B = Id × ℤ} (λ (x : Id). (x, cond (sh .timed) (getD (m .times) s (pos 0)) (pos 0))) (sym (e .table .id s (waits-low g s h) (waits-live g s h)))
+      ∙ ap {B = Id × ℤ} (λ (t : ℤ). (idOf (m′ .names) s, cond (sh .timed) t (pos 0))) (e .times s h)
+
+  mark-same : (x : Id) → markFor (r .painted) (m′ .names) (m′ .marks) (sh .cap) x ≡ markFor (r .painted) (m .names) (m .marks) (sh .cap) x
+  mark-same x = agrees-mark (e .sized) (e .table) (g .table) x
+
+  pub elsewhere : Reads r m′ sh st
+  elsewhere = record {
+    alive = g .alive;
+    timed = g .timed;
+    newest = g .newest;
+    cap = g .cap;
+    for-times = e .for-times;
+    for-line = e .for-line;
+    table = agrees-table (e .sized) (e .table) (g .table);
+    good = line-good good-times (m′ .line) line-same (omega (arith, e .for-line, g .cap));
+    queue = g .queue ∙ map-agree _ _ (waiting r m) entry-same ∙ ap (map (entryOf (sh .timed) (m′ .names) (m′ .times))) elsewhere-waiting;
+    waits-seen = λ s h. let i = subst (In s) (sym elsewhere-waiting) h in ap seen (e .table .mark s (waits-low g s i)) ∙ g .waits-seen s i;
+    numbers = g .numbers;
+    seen-is = λ x. g .seen-is x ∙ ap seen (sym (mark-same x));
+    frontier-is = λ x. g .frontier-is x ∙ ap (λ (n : ℕ). r .painted && not (r .failed) && frontier n) (sym (mark-same x));
+    only-seen = λ p k l a. ap seen (e .table .mark k l) ∙ g .only-seen p k l (ap (live false) (sym (e .table .mark k l)) ∙ a);
+    failed-empty = λ f. sym elsewhere-waiting ∙ g .failed-empty f;
+    painted = g .painted;
+    kept = g .kept;
+    admitted = g .admitted;
+    struck = g .struck;
+  }

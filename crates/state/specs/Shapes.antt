@@ -1,0 +1,79 @@
+-- The order of a queue by its shape alone, and the model's steps by it: a commit waits, a commit goes back. Assumes nothing.
+use Prim.Native.Nat.{ℕ, suc}
+use mathlib.Core.Bool.{Bool, true, false, cond, _&&_}
+use mathlib.Core.List.{List, _∷_}
+use lib.IntN.{ℤ}
+use Rattle.hash.specs.Bytes.{Id}
+use Rattle.revwalk.specs.Order.{sooner}
+use Rattle.revwalk.specs.declared.queue.Queue.{Queue}
+use Rattle.walk.specs.declared.Settings.{Settings}
+use Rattle.walk.specs.declared.Sorting.{Sorting}
+use Rattle.walk.specs.declared.Sorting.the-variants.{BreadthFirst, ByCommitTime, ByCommitTimeCutoff}
+use Rattle.walk.specs.declared.CommitTimeOrder.{CommitTimeOrder}
+use Rattle.walk.specs.declared.CommitTimeOrder.the-variants.{NewestFirst, OldestFirst}
+use Rattle.walk.specs.Settings.{byTime}
+use Rattle.walk.specs.State.{State, queued}
+use Rattle.state.specs.declared.Record.{Record}
+use Rattle.state.specs.Reads.{Shape}
+
+-- whether a commit queued with a seconds leaves the queue before one that already waits with b: in a queue without times never
+unfoldable pub beforeOf : Shape → ℤ → ℤ → Bool
+beforeOf sh a b = cond (sh .timed) (sooner (sh .newest) a b) false
+
+-- ---- the shape of a walk with given settings
+
+unfoldable pub isNewest : CommitTimeOrder → Bool
+isNewest NewestFirst = true
+isNewest OldestFirst = false
+
+unfoldable pub newestOf : Sorting → Bool
+newestOf BreadthFirst = false
+newestOf (ByCommitTime o) = isNewest o
+newestOf (ByCommitTimeCutoff o c) = isNewest o
+
+abbrev pub shapeFor : Settings → ℕ → Shape
+shapeFor s n = record { timed = byTime s; newest = byTime s && newestOf (s .sorting); cap = n }
+
+-- ---- the steps of a state
+
+-- "it … waits": x, seen already, is admitted with t seconds
+unfoldable pub joins : (ℤ → ℤ → Bool) → State → Id → ℤ → State
+joins before st x t = record {
+  queue = queued before (x, t) (st .queue);
+  seen = st .seen;
+  frontier = st .frontier;
+  painted = st .painted;
+  kept = st .kept;
+  admitted = suc (st .admitted);
+  struck = st .struck;
+}
+
+-- "the commit goes back (front, or queued last among equals)"
+unfoldable pub backTo : Shape → Id × ℤ → List (Id × ℤ) → List (Id × ℤ)
+backTo sh x l = cond (sh .timed) (queued (beforeOf sh) x l) (x ∷ l)
+
+-- ---- records
+
+-- the same record with another queue, graph kept or dropped, and number of commits admitted
+abbrev pub requeued : Record → Queue → Bool → ℕ → Record
+requeued r q k n = record {
+  live = r .live;
+  painted = r .painted;
+  failed = r .failed;
+  kept = k;
+  queue = q;
+  admitted = n;
+  struck = r .struck;
+}
+
+-- the record of a walk that has just been opened, with no tip taken
+abbrev pub freshRecord : Bool → Bool → ℕ → Record
+freshRecord timed newest n = record {
+  live = true;
+  painted = false;
+  failed = false;
+  kept = true;
+  queue = record { timed = timed; newest = newest; cap = n; head = 0; count = 0; next = 0 };
+  admitted = 0;
+  struck = 0;
+}

@@ -1,0 +1,192 @@
+// The walk's state in lent memory: the record of counters, the seen ids and the queue, and the small steps on them (the lines of
+// `insert_into_seen_and_next` and `insert_into_seen_and_queue` in gix_traverse::commit::simple). Every function is total and safe on any
+// bytes and numbers.
+use date::Seconds;
+use hashtable::marks::SEEN;
+use hashtable::table;
+use hashtable::table::Slot;
+use object::ObjectId;
+use revwalk::queue;
+use revwalk::queue::Queue;
+
+ghost use mathlib.Core.Path.{_≡_};
+ghost use mathlib.Core.Bool.{cond};
+ghost use Prim.Native.Nat.{ℕ, _<_};
+ghost use lib.ListN.{getD, set};
+ghost use lib.IntN.{pos};
+ghost use Rattle.state.specs.Shapes.{freshRecord, requeued};
+ghost use Rattle.state.specs.Steps.{Copied, Sees, Waits, Pops, Drops, Starts};
+
+// What a call takes and gives back (document 01: one small record of counters).
+pub struct Record {
+    // Whether the walk is open. A closed record is one fixed value.
+    pub live: bool,
+    // Whether painting is over, done or not due.
+    pub painted: bool,
+    // Whether painting was refused: the frontier then reads empty.
+    pub failed: bool,
+    // Whether the commit-graph file is still used.
+    pub kept: bool,
+    // The queue's order and places; its `cap` is the number of slots, document 01's P.
+    pub queue: Queue,
+    // How many commits ever waited, and how many painting struck.
+    pub admitted: usize,
+    pub struck: usize,
+}
+
+// Whether an id is new, and the slot that it has then; 0 where it is not new.
+pub struct Seen {
+    pub fresh: bool,
+    pub slot: usize,
+}
+
+// The commit that leaves the queue: its slot, its id, the seconds of its slot, and the record that is left.
+pub struct Next {
+    pub found: bool,
+    pub slot: u32,
+    pub id: ObjectId,
+    pub seconds: Seconds,
+    pub rest: Record,
+}
+
+// The largest number that a slot or a count may have here.
+const MOST: usize = 4294967295;
+
+// The record of a walk that is opened, with no tip taken.
+pub fn fresh_record(timed: bool, newest: bool, cap: usize) -> Record
+    ensures { λ r. ⌜ r ≡ freshRecord timed newest cap ⌝ }
+{
+    Record {
+        live: true,
+        painted: false,
+        failed: false,
+        kept: true,
+        queue: Queue { timed: timed, newest: newest, cap: cap, head: 0, count: 0, next: 0 },
+        admitted: 0,
+        struck: 0,
+    }
+}
+
+// Empties the memory of a walk that is opened.
+pub fn start(marks: &mut [u8], cap: usize)
+    ensures { λ r. ⌜ Starts (now (marks .entry)) (now (marks .exit)) cap ⌝ }
+{
+    table::clear(marks, cap);
+}
+
+// An id that is neither in the frontier nor seen is seen now, in a slot of its own.
+pub fn see(r: Record, names: &mut [u8], marks: &mut [u8], id: &[u8]) -> Seen
+    ensures { λ a. ⌜ Sees r (now (names .entry)) (now (marks .entry)) (now (names .exit)) (now (marks .exit)) (now (id .entry)) a ⌝ }
+{
+    let q = r.queue;
+    let s = table::insert(names, marks, q.cap, r.painted, id, SEEN);
+    match s {
+        Slot::Vacant(k) => Seen { fresh: true, slot: k },
+        Slot::Found(k) => Seen { fresh: false, slot: 0 },
+        Slot::Full => Seen { fresh: false, slot: 0 },
+    }
+}
+
+// The record with another queue, the graph used or not, and another count of commits that ever waited.
+fn with_queue(r: Record, queue: Queue, kept: bool, admitted: usize) -> Record
+    ensures { λ a. ⌜ a ≡ requeued r queue kept admitted ⌝ }
+{
+    Record {
+        live: r.live,
+        painted: r.painted,
+        failed: r.failed,
+        kept: kept,
+        queue: queue,
+        admitted: admitted,
+        struck: r.struck,
+    }
+}
+
+// Sets down the seconds of a slot, in a queue by time; past the end nothing is changed.
+fn set_time(timed: bool, times: &mut [i64], slot: usize, s: i64)
+    ensures { λ r. ⌜ now (times .exit) ≡ cond timed (set (now (times .entry)) slot s) (now (times .entry)) ⌝ }
+{
+    if timed {
+        if slot < times.len() {
+            times[slot] = s;
+        }
+    }
+}
+
+// The seen id in a slot is admitted: it waits, by time with its seconds.
+pub fn wait(r: Record, times: &mut [i64], line: &mut [u32], slot: usize, s: Seconds) -> Record
+    ensures { λ a. ⌜ Waits r (now (times .entry)) (now (times .exit)) (now (line .entry)) (now (line .exit)) slot (s .0) a ⌝ }
+{
+    let q = r.queue;
+    let admitted = r.admitted;
+    if MOST < slot {
+        return r;
+    }
+    if MOST < admitted {
+        return r;
+    }
+    set_time(q.timed, times, slot, s.0);
+    let longer = queue::push(q, line, times, slot as u32);
+    with_queue(r, longer, r.kept, admitted + 1)
+}
+
+fn wide(x: u32) -> usize
+    ensures { λ r. ⌜ r ≡ x ⌝ }
+{
+    x as usize
+}
+
+// The bytes of an id by value, zeros where the slice ends.
+fn object_id(id: &[u8]) -> ObjectId
+    ensures { λ r. ⌜ Copied (now (id .entry)) (r .bytes) ⌝ }
+{
+    let mut bytes = [0u8; 20];
+    let mut i = 0;
+    while i < 20 {
+        bytes[i] = hash::byte_at(id, i);
+        i += 1;
+    }
+    ObjectId { bytes: bytes }
+}
+
+// The seconds of a slot, 0 past the end.
+fn time_of(times: &[i64], slot: usize) -> i64
+    ensures { λ r. ⌜ r ≡ getD (now (times .entry)) slot (pos 0) ⌝ }
+{
+    if slot < times.len() { times[slot] } else { 0 }
+}
+
+fn seconds_of(times: &[i64], slot: usize) -> Seconds
+    ensures { λ r. ⌜ r .0 ≡ getD (now (times .entry)) slot (pos 0) ⌝ }
+{
+    Seconds(time_of(times, slot))
+}
+
+// Takes the first commit out of the queue.
+pub fn pop(r: Record, names: &[u8], times: &[i64], line: &mut [u32]) -> Next
+    ensures { λ n. ⌜ Pops r (now (names .entry)) (now (times .entry)) (now (line .entry)) (now (line .exit)) n ⌝ }
+{
+    let p = queue::pop(r.queue, line, times);
+    if !p.found {
+        return Next {
+            found: false,
+            slot: 0,
+            id: ObjectId { bytes: [0u8; 20] },
+            seconds: Seconds(0),
+            rest: r,
+        };
+    }
+    let slot = wide(p.slot);
+    let id = object_id(table::id_of(names, slot));
+    let seconds = seconds_of(times, slot);
+    let rest = with_queue(r, p.queue, r.kept, r.admitted);
+    Next { found: true, slot: p.slot, id: id, seconds: seconds, rest: rest }
+}
+
+// A corrupt parent list: the commit-graph file is not used any more, and the commit in a slot goes back to the queue.
+pub fn drop_graph(r: Record, times: &[i64], line: &mut [u32], slot: u32) -> Record
+    ensures { λ a. ⌜ Drops r (now (times .entry)) (now (line .entry)) (now (line .exit)) slot a ⌝ }
+{
+    let longer = queue::put_back(r.queue, line, times, slot);
+    with_queue(r, longer, false, r.admitted)
+}
