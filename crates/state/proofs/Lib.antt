@@ -5,4 +5,5 @@ pub mod States
 pub mod Seeing
 pub mod Queueing
 pub mod Popping
+pub mod Visits
 pub mod Starting

@@ -2,15 +2,14 @@
 -- left. Its slot was a waiting one, so it is seen; no slot waits twice, so it does not wait any more. Assumes nothing.
 use mathlib.Core.Path.{_≡_, refl, sym, ap, _∙_, subst}
 use mathlib.Core.Logic.{inl, inr}
-use Prim.Native.Nat.{ℕ, _≤_, _<_}
+use Prim.Native.Nat.{ℕ, _<_}
 use mathlib.Core.Bool.{Bool, true, false, cond, not}
 use mathlib.Core.List.{List, [], _∷_, map}
 use native.Mathlib.Omega.{arith}
-use lib.ListN.{length, getD}
+use lib.ListN.{getD}
 use lib.IntN.{ℤ, pos}
-use Rattle.hash.specs.Bytes.{Id, idBytes}
+use Rattle.hash.specs.Bytes.{Id}
 use Rattle.hash.proofs.Tests.{clash}
-use Rattle.hashtable.specs.Marks.{seen}
 use Rattle.hashtable.specs.Table.{idOf}
 use Rattle.hashtable.proofs.TableIds.{width-of}
 use Rattle.date.specs.declared.Seconds.{Seconds}
@@ -21,7 +20,6 @@ use Rattle.revwalk.specs.Queue as queue
 use Rattle.revwalk.proofs.QueueSlots.{pop-gone, pop-low}
 use Rattle.walk.specs.State.{State, withQueue}
 use Rattle.state.specs.declared.Record.{Record}
-use Rattle.state.specs.declared.Next.{Next}
 use Rattle.state.specs.Reads.{Shape, entryOf, waiting, Reads}
 use Rattle.state.specs.Shapes.{requeued}
 use Rattle.state.specs.Steps.{mem, NotWaiting, LineKept, Copied, Taken, Pops}

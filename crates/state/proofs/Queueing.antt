@@ -2,7 +2,7 @@
 -- with the entries of those slots. So a slot that joins is its entry put into the model's queue, by the same order of seconds; and the
 -- seconds of a slot that does not wait may be set down first, since nothing reads them. Assumes nothing.
 use mathlib.Core.Path.{_≡_, refl, sym, ap, _∙_, subst}
-use mathlib.Core.Logic.{_⊎_, inl, inr, ⊎-elim}
+use mathlib.Core.Logic.{_⊎_, ⊎-elim}
 use Prim.Native.Nat.{ℕ, suc, _+_, _≤_, _<_}
 use mathlib.Core.Bool.{Bool, true, false, cond}
 use mathlib.Core.List.{List, [], _∷_, map}
@@ -13,19 +13,18 @@ use lib.IntN.{ℤ, pos}
 use Rattle.hash.specs.Bytes.{Id}
 use Rattle.hash.proofs.Tests.{clash}
 use Rattle.hashtable.specs.Marks.{seen}
-use Rattle.hashtable.specs.Table.{idOf}
 use Rattle.revwalk.specs.declared.queue.Queue.{Queue}
 use Rattle.revwalk.specs.Order.{sooner, ahead, never, insertBy, In}
-use Rattle.revwalk.specs.Queue.{before, slotsOf, GoodQueue, Alike, Joined, Joins, Pushes, PutsBack}
+use Rattle.revwalk.specs.Queue.{before, slotsOf, GoodQueue, Alike, Joins, Pushes, PutsBack}
 use Rattle.revwalk.proofs.QueueSorts.{in-insert}
 use Rattle.walk.specs.State.{State, queued}
 use Rattle.walk.specs.Next.{dropped}
 use Rattle.state.specs.declared.Record.{Record}
-use Rattle.state.specs.Reads.{Memory, Shape, entryOf, waiting, Reads}
+use Rattle.state.specs.Reads.{Shape, entryOf, waiting, Reads}
 use Rattle.state.specs.Shapes.{beforeOf, joins, backTo, requeued}
 use Rattle.state.specs.Steps.{mem, NotWaiting, LineKept, Waits, Drops}
 use Rattle.state.proofs.Entries.{map-insert}
-use Rattle.state.proofs.States.{Elsewhere, elsewhere, elsewhere-waiting}
+use Rattle.state.proofs.States.{Elsewhere, agrees-likewise, elsewhere, elsewhere-waiting}
 
 -- the same state with another queue, graph kept or dropped, and number of commits admitted
 abbrev pub changed : State → List (Id × ℤ) → Bool → ℕ → State
@@ -124,7 +123,7 @@ module _ (times : List ℤ) (slot : ℕ) (v : ℤ) where
       sized = g .table .sized;
       for-times = omega (arith, length-stored b, g .for-times);
       for-line = g .for-line;
-      table = record { mark = λ k l. refl; id = λ k l a. refl };
+      table = agrees-likewise (record { mark = λ k l. refl; id = λ k l a. refl });
       times = λ s h. stored-other b s (λ e. n (subst (λ (k : ℕ). In k (waiting r (mem names marks times line))) e h));
       line = λ k h. refl;
     }

@@ -12,8 +12,8 @@ use lib.IntN.{ℤ, pos}
 use Rattle.hash.specs.Bytes.{Id, idBytes, eqId}
 use Rattle.hash.proofs.Tests.{byCases, clash, or-left, or-right, or-cases, and-second, and-of}
 use Rattle.hash.proofs.Ids.{eqId-eq, eqId-same}
-use Rattle.hashtable.specs.Marks.{seen, frontier, visible, hidden, live}
-use Rattle.hashtable.specs.Table.{idOf, liveAt, Holds, Table, markFor, has, Finds, Inserts}
+use Rattle.hashtable.specs.Marks.{seen, frontier, visible, live}
+use Rattle.hashtable.specs.Table.{liveAt, Holds, markFor, has, Finds, Inserts}
 use Rattle.hashtable.specs.declared.table.Slot.{Slot}
 use Rattle.hashtable.specs.declared.table.Slot.the-variants.{Found, Vacant, Full}
 use Rattle.hashtable.proofs.MarksBits.{live-seen, seen-0, frontier-0}
@@ -23,9 +23,8 @@ use Rattle.hashtable.proofs.TableView.{mark-held, has-slot, vacant-mark, new-ma
 use Rattle.revwalk.specs.Order.{In}
 use Rattle.walk.specs.State.{State, add, sees}
 use Rattle.state.specs.declared.Record.{Record}
-use Rattle.state.specs.declared.Seen.{Seen}
 use Rattle.state.specs.Reads.{Memory, Shape, entryOf, waiting, Reads, Universe}
-use Rattle.state.specs.Steps.{mem, NotWaiting, Entered, Sees}
+use Rattle.state.specs.Steps.{mem, Entered, Sees}
 use Rattle.state.proofs.Entries.{map-agree}
 use Rattle.state.proofs.States.{waits-live}
 

@@ -1,11 +1,10 @@
 -- Emptied slots beside a fresh record: no slot is live and none waits, so the memory reads as a walk with no tips. Assumes nothing.
 use mathlib.Core.Path.{_≡_, refl, sym, ap, _∙_, subst}
-use Prim.Native.Nat.{ℕ, _+_, _≤_, _<_}
-use mathlib.Core.Bool.{Bool, true, false, cond}
-use mathlib.Core.List.{List, [], _∷_, map}
+use Prim.Native.Nat.{ℕ}
+use mathlib.Core.Bool.{Bool, false}
+use mathlib.Core.List.{List, [], map}
 use native.Mathlib.Omega.{arith}
-use lib.ListN.{length, getD}
-use lib.IntN.{ℤ, pos}
+use lib.IntN.{ℤ}
 use Rattle.hash.proofs.Tests.{clash}
 use Rattle.hashtable.specs.Marks.{seen}
 use Rattle.hashtable.specs.Table.{cleared}
@@ -15,7 +14,7 @@ use Rattle.hashtable.proofs.TableClear.{cleared-low, cleared-table, cleared-mar
 use Rattle.revwalk.specs.Order.{In}
 use Rattle.revwalk.proofs.QueueSlots.{emptied, emptied-list}
 use Rattle.walk.specs.State.{emptyState}
-use Rattle.state.specs.Reads.{Shape, entryOf, waiting, Reads}
+use Rattle.state.specs.Reads.{entryOf, waiting, Reads}
 use Rattle.state.specs.Shapes.{freshRecord}
 use Rattle.state.specs.Steps.{mem, Lent, Starts}
 

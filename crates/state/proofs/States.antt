@@ -1,19 +1,20 @@
 -- What a state in lent memory tells: the slots that wait are live ones, they are as many as the model's queue has, one state is read and no
 -- other, none from a closed record, and memory may change where nothing is read. Assumes nothing.
 use mathlib.Core.Path.{_≡_, refl, sym, ap, _∙_, subst}
+use mathlib.Core.Logic.{⊎-elim}
 use Prim.Native.Nat.{ℕ, suc, _+_, _*_, _≤_, _<_}
 use mathlib.Core.Bool.{Bool, true, false, cond, not, _&&_}
-use mathlib.Core.List.{List, [], _∷_, map}
+use mathlib.Core.List.{List, _∷_, map}
 use native.Mathlib.Omega.{arith}
 use lib.ListN.{length, getD, length-map}
 use lib.IntN.{ℤ, pos}
 use Rattle.hash.specs.Bytes.{Id}
-use Rattle.hash.proofs.Tests.{clash, not-yes}
+use Rattle.hash.proofs.Tests.{byCases, clash, not-yes}
 use Rattle.hashtable.specs.Marks.{seen, frontier, live}
-use Rattle.hashtable.specs.Table.{idOf, liveAt, Sized, markFor}
+use Rattle.hashtable.specs.Table.{idOf, liveAt, Holds, Sized, Table, markFor, has}
 use Rattle.hashtable.proofs.MarksBits.{live-seen}
-use Rattle.hashtable.proofs.TableKept.{Agrees, agrees-table}
-use Rattle.hashtable.proofs.TableView.{agrees-mark}
+use Rattle.hashtable.proofs.TableKept.{Keeps, table-kept, holds-was, Agrees}
+use Rattle.hashtable.proofs.TableView.{look, mark-held, mark-absent}
 use Rattle.revwalk.specs.Order.{In}
 use Rattle.revwalk.specs.Queue.{GoodQueue}
 use Rattle.revwalk.proofs.QueueGood.{slots-length, good-size}
@@ -66,16 +67,53 @@ one-state g h = λ k. record {
   struck = (g .struck ∙ sym (h .struck)) k;
 }
 
--- ---- memory changes elsewhere
+-- ---- memory changes where nothing is read
 
--- from m to m′ nothing changes that is read: the marks, the ids of live slots, the seconds of waiting slots, the line below 2 · cap
+-- from one table to another nothing changes that is read: no slot is emptied, the live slots are the same, with their ids, and whether they
+-- are seen; after painting also whether they are in the frontier
+pub record Likewise (painted : Bool) (names marks names′ marks′ : List ℕ) (cap : ℕ) : Type 0 where
+  pub used : (k : ℕ) → k < cap → liveAt false marks k ≡ true → liveAt false marks′ k ≡ true
+  pub alive : (k : ℕ) → k < cap → liveAt painted marks′ k ≡ liveAt painted marks k
+  pub id : (k : ℕ) → k < cap → liveAt painted marks k ≡ true → idOf names′ k ≡ idOf names k
+  pub seen-bit : (k : ℕ) → k < cap → liveAt painted marks k ≡ true → seen (getD marks′ k 0) ≡ seen (getD marks k 0)
+  pub frontier-bit : painted ≡ true → (k : ℕ) → k < cap → liveAt painted marks k ≡ true → frontier (getD marks′ k 0) ≡ frontier (getD marks k 0)
+
+module _ {painted : Bool} {names marks names′ marks′ : List ℕ} {cap : ℕ} (e : Likewise painted names marks names′ marks′ cap) where
+  likewise-keeps : Keeps painted names marks painted names′ marks′ cap
+  likewise-keeps = record { used = e .used; was = λ k l a. sym (e .alive k l) ∙ a; same = λ k l a. e .id k l (sym (e .alive k l) ∙ a) }
+
+  likewise-holds : {x : Id} {k : ℕ} → Holds painted names marks cap x k → Holds painted names′ marks′ cap x k
+  likewise-holds {x} {k} h = record { low = h .low; alive = e .alive k (h .low) ∙ h .alive; is = e .id k (h .low) (h .alive) ∙ h .is }
+
+  likewise-has : (P : ℕ → Bool) → Table painted names′ marks′ cap → ((k : ℕ) → k < cap → liveAt painted marks k ≡ true → P (getD marks′ k 0) ≡ P (getD marks k 0)) → (x : Id)
+      → P (markFor painted names′ marks′ cap x) ≡ P (markFor painted names marks cap x)
+  likewise-has P t same x =
+      ⊎-elim
+      (λ u. ap P (mark-held t (u .slot) (likewise-holds (u .holds))) ∙ same (u .slot) (u .holds .low) (u .holds .alive) ∙ ap P (sym (u .mark)))
+      (λ u. ap P (mark-absent (λ k h. u .0 k (holds-was likewise-keeps h)) ∙ sym (u .1)))
+      (look painted names marks cap x)
+
+pub agrees-likewise : {painted : Bool} {names marks names′ marks′ : List ℕ} {cap : ℕ} → Agrees painted names marks names′ marks′ cap → Likewise painted names marks names′ marks′ cap
+agrees-likewise {painted} g = record {
+  used = λ k l a. ap (live false) (g .mark k l) ∙ a;
+  alive = λ k l. ap (live painted) (g .mark k l);
+  id = g .id;
+  seen-bit = λ k l a. ap seen (g .mark k l);
+  frontier-bit = λ p k l a. ap frontier (g .mark k l);
+}
+
+-- from m to m′ nothing changes that is read: neither the table, nor the seconds of waiting slots, nor the line below 2 · cap
 pub record Elsewhere (r : Record) (m m′ : Memory) (cap : ℕ) : Type 0 where
   pub sized : Sized (m′ .names) (m′ .marks) cap
   pub for-times : cap ≤ length (m′ .times)
   pub for-line : 5 * cap ≤ length (m′ .line)
-  pub table : Agrees (r .painted) (m .names) (m .marks) (m′ .names) (m′ .marks) cap
+  pub table : Likewise (r .painted) (m .names) (m .marks) (m′ .names) (m′ .marks) cap
   pub times : (s : ℕ) → In s (waiting r m) → getD (m .times) s (pos 0) ≡ getD (m′ .times) s (pos 0)
   pub line : (k : ℕ) → k < cap + cap → getD (m .line) k 0 ≡ getD (m′ .line) k 0
+
+off : (a b c d : Bool) → a ≡ false → (a && b && c) ≡ (a && b && d)
+off true b c d e = clash refl e
+off false b c d e = refl
 
 module _ {r : Record} {m m′ : Memory} {sh : Shape} {st : State} (g : Reads r m sh st) (e : Elsewhere r m m′ (sh .cap)) where
   line-same : (k : ℕ) → k < r .queue .cap + r .queue .cap → getD (m .line) k 0 ≡ getD (m′ .line) k 0
@@ -92,8 +130,20 @@ module _ {r : Record} {m m′ : Memory} {sh : Shape} {st : State} (g : Reads r m
       ap {B = Id × ℤ} (λ (x : Id). (x, cond (sh .timed) (getD (m .times) s (pos 0)) (pos 0))) (sym (e .table .id s (waits-low g s h) (waits-live g s h)))
       ∙ ap {B = Id × ℤ} (λ (t : ℤ). (idOf (m′ .names) s, cond (sh .timed) t (pos 0))) (e .times s h)
 
-  mark-same : (x : Id) → markFor (r .painted) (m′ .names) (m′ .marks) (sh .cap) x ≡ markFor (r .painted) (m .names) (m .marks) (sh .cap) x
-  mark-same x = agrees-mark (e .sized) (e .table) (g .table) x
+  table-same : Table (r .painted) (m′ .names) (m′ .marks) (sh .cap)
+  table-same = table-kept (e .sized) (likewise-keeps (e .table)) (g .table)
+
+  frontier-same : (x : Id) → (r .painted && not (r .failed) && has (r .painted) (m .names) (m .marks) (sh .cap) frontier x)
+      ≡ (r .painted && not (r .failed) && has (r .painted) (m′ .names) (m′ .marks) (sh .cap) frontier x)
+  frontier-same x =
+      byCases (r .painted)
+      (λ p. ap (λ (b : Bool). r .painted && not (r .failed) && b) (sym (likewise-has (e .table) frontier table-same (e .table .frontier-bit p) x)))
+      (off (r .painted) (not (r .failed)) (has (r .painted) (m .names) (m .marks) (sh .cap) frontier x) (has (r .painted) (m′ .names) (m′ .marks) (sh .cap) frontier x))
+
+  only : r .painted ≡ false → (k : ℕ) → k < sh .cap → liveAt false (m′ .marks) k ≡ true → seen (getD (m′ .marks) k 0) ≡ true
+  only p k l a =
+      let b : liveAt false (m .marks) k ≡ true = sym (subst (λ (c : Bool). liveAt c (m′ .marks) k ≡ liveAt c (m .marks) k) p (e .table .alive k l)) ∙ a in
+      e .table .seen-bit k l (ap (λ (c : Bool). liveAt c (m .marks) k) p ∙ b) ∙ g .only-seen p k l b
 
   pub elsewhere : Reads r m′ sh st
   elsewhere = record {
@@ -103,17 +153,30 @@ module _ {r : Record} {m m′ : Memory} {sh : Shape} {st : State} (g : Reads r m
     cap = g .cap;
     for-times = e .for-times;
     for-line = e .for-line;
-    table = agrees-table (e .sized) (e .table) (g .table);
+    table = table-same;
     good = line-good good-times (m′ .line) line-same (omega (arith, e .for-line, g .cap));
     queue = g .queue ∙ map-agree _ _ (waiting r m) entry-same ∙ ap (map (entryOf (sh .timed) (m′ .names) (m′ .times))) elsewhere-waiting;
-    waits-seen = λ s h. let i = subst (In s) (sym elsewhere-waiting) h in ap seen (e .table .mark s (waits-low g s i)) ∙ g .waits-seen s i;
+    waits-seen = λ s h. let i = subst (In s) (sym elsewhere-waiting) h in e .table .seen-bit s (waits-low g s i) (waits-live g s i) ∙ g .waits-seen s i;
     numbers = g .numbers;
-    seen-is = λ x. g .seen-is x ∙ ap seen (sym (mark-same x));
-    frontier-is = λ x. g .frontier-is x ∙ ap (λ (n : ℕ). r .painted && not (r .failed) && frontier n) (sym (mark-same x));
-    only-seen = λ p k l a. ap seen (e .table .mark k l) ∙ g .only-seen p k l (ap (live false) (sym (e .table .mark k l)) ∙ a);
+    seen-is = λ x. g .seen-is x ∙ sym (likewise-has (e .table) seen table-same (e .table .seen-bit) x);
+    frontier-is = λ x. g .frontier-is x ∙ frontier-same x;
+    only-seen = only;
     failed-empty = λ f. sym elsewhere-waiting ∙ g .failed-empty f;
     painted = g .painted;
     kept = g .kept;
     admitted = g .admitted;
     struck = g .struck;
   }
+
+-- before painting any other bit of a mark may change, as long as a live slot stays seen and no other becomes live
+pub unpainted-likewise : {r : Record} {m : Memory} {sh : Shape} {st : State} → Reads r m sh st → r .painted ≡ false → (marks′ : List ℕ)
+    → ((k : ℕ) → k < sh .cap → liveAt false marks′ k ≡ liveAt false (m .marks) k)
+    → ((k : ℕ) → k < sh .cap → liveAt false (m .marks) k ≡ true → seen (getD marks′ k 0) ≡ true)
+    → Likewise (r .painted) (m .names) (m .marks) (m .names) marks′ (sh .cap)
+unpainted-likewise {r} {m} {sh} g p marks′ lives stays = record {
+  used = λ k l a. lives k l ∙ a;
+  alive = λ k l. subst (λ (c : Bool). liveAt c marks′ k ≡ liveAt c (m .marks) k) (sym p) (lives k l);
+  id = λ k l a. refl;
+  seen-bit = λ k l a. let b = ap (λ (c : Bool). liveAt c (m .marks) k) (sym p) ∙ a in stays k l b ∙ sym (g .only-seen p k l b);
+  frontier-bit = λ q. clash q p;
+}

@@ -1,9 +1,9 @@
 -- Working memory read as a walk's state (document 01: "reads as this walk's state (by one definition over the record and these bytes
 -- alone, no file or list: the line in order with its queued seconds, the seen, the frontier, painted or not, graph kept or dropped"). Assumes nothing.
-use Prim.Native.Nat.{ℕ, suc, _+_, _*_, _≤_, _<_}
+use Prim.Native.Nat.{ℕ, _+_, _*_, _≤_, _<_}
 use mathlib.Core.Path.{_≡_}
-use mathlib.Core.Bool.{Bool, true, false, cond, not, _&&_, _||_}
-use mathlib.Core.List.{List, [], _∷_, map, List·Memᴰ}
+use mathlib.Core.Bool.{Bool, true, false, cond, not, _&&_}
+use mathlib.Core.List.{List, [], map, List·Memᴰ}
 use lib.ListN.{length, getD}
 use lib.IntN.{ℤ, pos}
 use Rattle.hash.specs.Bytes.{Id}

@@ -1,8 +1,8 @@
 -- The order of a queue by its shape alone, and the model's steps by it: a commit waits, a commit goes back. Assumes nothing.
 use Prim.Native.Nat.{ℕ, suc}
-use mathlib.Core.Bool.{Bool, true, false, cond, _&&_}
+use mathlib.Core.Bool.{Bool, true, false, cond, _&&_, _||_}
 use mathlib.Core.List.{List, _∷_}
-use lib.IntN.{ℤ}
+use lib.IntN.{ℤ, pos}
 use Rattle.hash.specs.Bytes.{Id}
 use Rattle.revwalk.specs.Order.{sooner}
 use Rattle.revwalk.specs.declared.queue.Queue.{Queue}
@@ -12,7 +12,7 @@ use Rattle.walk.specs.declared.Sorting.the-variants.{BreadthFirst, ByCommitTime
 use Rattle.walk.specs.declared.CommitTimeOrder.{CommitTimeOrder}
 use Rattle.walk.specs.declared.CommitTimeOrder.the-variants.{NewestFirst, OldestFirst}
 use Rattle.walk.specs.Settings.{byTime}
-use Rattle.walk.specs.State.{State, queued}
+use Rattle.walk.specs.State.{State, queued, sees}
 use Rattle.state.specs.declared.Record.{Record}
 use Rattle.state.specs.Reads.{Shape}
 
@@ -47,6 +47,12 @@ joins before st x t = record {
   admitted = suc (st .admitted);
   struck = st .struck;
 }
+
+-- "unless in the frontier or seen, it is seen, and waits if its link is admitted", with t seconds
+unfoldable pub visited : Shape → State → Id → ℤ → Bool → State
+visited sh st x t admitted =
+    let new : State = cond admitted (joins (beforeOf sh) (sees st x) x (cond (sh .timed) t (pos 0))) (sees st x) in
+    cond (st .frontier x || st .seen x) st new
 
 -- "the commit goes back (front, or queued last among equals)"
 unfoldable pub backTo : Shape → Id × ℤ → List (Id × ℤ) → List (Id × ℤ)

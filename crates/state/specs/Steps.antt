@@ -16,7 +16,7 @@ use Rattle.state.specs.declared.Record.{Record}
 use Rattle.state.specs.declared.Seen.{Seen}
 use Rattle.state.specs.declared.Next.{Next}
 use Rattle.state.specs.Reads.{Memory, Shape, entryOf, waiting, Reads, Universe}
-use Rattle.state.specs.Shapes.{beforeOf, joins, backTo, freshRecord}
+use Rattle.state.specs.Shapes.{beforeOf, joins, visited, backTo, freshRecord}
 
 abbrev pub mem : List ℕ → List ℕ → List ℤ → List ℕ → Memory
 mem names marks times line = record { names = names; marks = marks; times = times; line = line }
@@ -59,6 +59,18 @@ pub record Waits (r : Record) (times times′ : List ℤ) (line line′ : List �
   pub failed : r′ .failed ≡ r .failed
   pub joined : (names marks : List ℕ) (sh : Shape) (st : State) (x : Id) → Reads r (mem names marks times line) sh st → r .failed ≡ false → NotWaiting r (mem names marks times line) sh x slot
       → sh .cap ≤ 4294967296 → r .admitted + 2 < 4294967296 → Reads r′ (mem names marks times′ line′) sh (joins (beforeOf sh) st x (cond (sh .timed) s (pos 0)))
+
+-- ---- visit
+
+-- visit, with its answer r′: an id is met with s seconds, over a link that is admitted or not
+pub record Visits (r : Record) (names marks names′ marks′ : List ℕ) (times times′ : List ℤ) (line line′ : List ℕ) (x : Id) (s : ℤ) (admitted : Bool) (r′ : Record) : Type 0 where
+  pub long-names : length names′ ≡ length names
+  pub long-marks : length marks′ ≡ length marks
+  pub long-times : length times′ ≡ length times
+  pub for-line : LineKept r line line′
+  pub failed : r′ .failed ≡ r .failed
+  pub reads : (sh : Shape) (st : State) → Reads r (mem names marks times line) sh st → r .failed ≡ false → length x ≡ idBytes → (u : List Id) → Universe sh st u → List·Memᴰ x u
+      → sh .cap ≤ 4294967296 → r .admitted + 2 < 4294967296 → Reads r′ (mem names′ marks′ times′ line′) sh (visited sh st x s admitted)
 
 -- ---- pop
 

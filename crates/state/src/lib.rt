@@ -8,14 +8,12 @@ use hashtable::table::Slot;
 use object::ObjectId;
 use revwalk::queue;
 use revwalk::queue::Queue;
-
 ghost use mathlib.Core.Path.{_≡_};
 ghost use mathlib.Core.Bool.{cond};
-ghost use Prim.Native.Nat.{ℕ, _<_};
 ghost use lib.ListN.{getD, set};
 ghost use lib.IntN.{pos};
 ghost use Rattle.state.specs.Shapes.{freshRecord, requeued};
-ghost use Rattle.state.specs.Steps.{Copied, Sees, Waits, Pops, Drops, Starts};
+ghost use Rattle.state.specs.Steps.{Copied, Sees, Waits, Visits, Pops, Drops, Starts};
 
 // What a call takes and gives back (document 01: one small record of counters).
 pub struct Record {
@@ -61,7 +59,14 @@ pub fn fresh_record(timed: bool, newest: bool, cap: usize) -> Record
         painted: false,
         failed: false,
         kept: true,
-        queue: Queue { timed: timed, newest: newest, cap: cap, head: 0, count: 0, next: 0 },
+        queue: Queue {
+            timed: timed,
+            newest: newest,
+            cap: cap,
+            head: 0,
+            count: 0,
+            next: 0,
+        },
         admitted: 0,
         struck: 0,
     }
@@ -81,9 +86,18 @@ pub fn see(r: Record, names: &mut [u8], marks: &mut [u8], id: &[u8]) -> Seen
     let q = r.queue;
     let s = table::insert(names, marks, q.cap, r.painted, id, SEEN);
     match s {
-        Slot::Vacant(k) => Seen { fresh: true, slot: k },
-        Slot::Found(k) => Seen { fresh: false, slot: 0 },
-        Slot::Full => Seen { fresh: false, slot: 0 },
+        Slot::Vacant(k) => Seen {
+            fresh: true,
+            slot: k,
+        },
+        Slot::Found(_) => Seen {
+            fresh: false,
+            slot: 0,
+        },
+        Slot::Full => Seen {
+            fresh: false,
+            slot: 0,
+        },
     }
 }
 
@@ -128,6 +142,28 @@ pub fn wait(r: Record, times: &mut [i64], line: &mut [u32], slot: usize, s: Seco
     set_time(q.timed, times, slot, s.0);
     let longer = queue::push(q, line, times, slot as u32);
     with_queue(r, longer, r.kept, admitted + 1)
+}
+
+// An id is met as a tip or a parent: unless it is in the frontier or seen it is seen now, and waits if its link is admitted.
+pub fn visit(
+    r: Record,
+    names: &mut [u8],
+    marks: &mut [u8],
+    times: &mut [i64],
+    line: &mut [u32],
+    id: &[u8],
+    s: Seconds,
+    admitted: bool,
+) -> Record
+    ensures { λ a. ⌜ Visits r (now (names .entry)) (now (marks .entry)) (now (names .exit)) (now (marks .exit)) (now (times .entry)) (now (times .exit)) (now (line .entry)) (now (line .exit)) (now (id .entry)) (s .0) admitted a ⌝ }
+{
+    let a = see(r, names, marks, id);
+    if a.fresh {
+        if admitted {
+            return wait(r, times, line, a.slot, s);
+        }
+    }
+    r
 }
 
 fn wide(x: u32) -> usize
@@ -180,7 +216,13 @@ pub fn pop(r: Record, names: &[u8], times: &[i64], line: &mut [u32]) -> Next
     let id = object_id(table::id_of(names, slot));
     let seconds = seconds_of(times, slot);
     let rest = with_queue(r, p.queue, r.kept, r.admitted);
-    Next { found: true, slot: p.slot, id: id, seconds: seconds, rest: rest }
+    Next {
+        found: true,
+        slot: p.slot,
+        id: id,
+        seconds: seconds,
+        rest: rest,
+    }
 }
 
 // A corrupt parent list: the commit-graph file is not used any more, and the commit in a slot goes back to the queue.

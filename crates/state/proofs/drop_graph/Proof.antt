@@ -3,24 +3,16 @@ use Rattle.state.proofs.Queueing.{drops-put}
 use borrow.Author.Needs.{needs}
 use Rattle.state.proofs.drop_graph.Statement.{statement}
 use Rattle.state.proofs.drop_graph.Tie as tie
-use Rattle.state.proofs.drop_graph.Reads as reads
-use Rattle.state.proofs.drop_graph.Lts as lts
-use Rattle.revwalk.proofs.queue.put_back.Reads as put-back-reads
-use Rattle.state.proofs.with_queue.Reads as with-queue-reads
 
--- src/lib.rt:190:9
 put-back-requires : tie.Need-put-back-requires
 put-back-requires c κs = search needs
 
--- src/lib.rt:191:5
 with-queue-requires : tie.Need-with-queue-requires
 with-queue-requires c κs = search needs
 
--- src/lib.rt:187:1
 same-length : tie.Need-same-length
 same-length c = search needs
 
--- src/lib.rt:187:1
 returns : tie.Need-returns
 returns c = rw (c .with-queue .ensures) (drops-put (c .before .before .before .put-back .ensures))
 

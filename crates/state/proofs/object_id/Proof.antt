@@ -5,9 +5,6 @@ use borrow.Author.Needs.{needs}
 use Rattle.state.proofs.Copies.{Copying, copying-none, copying-more, copying-all}
 use Rattle.state.proofs.object_id.Statement.{statement}
 use Rattle.state.proofs.object_id.Tie as tie
-use Rattle.state.proofs.object_id.Reads as reads
-use Rattle.state.proofs.object_id.Lts as lts
-use Rattle.hash.proofs.byte_at.Reads as byte-at-reads
 
 abbrev Inv-loop : tie.InvT-loop
 Inv-loop id bytes₀ i₀ bytes i = Copying id bytes i
@@ -15,31 +12,24 @@ Inv-loop id bytes₀ i₀ bytes i = Copying id bytes i
 abbrev μ-loop : tie.MeasureT-loop
 μ-loop id bytes₀ i₀ bytes i = 20 - i
 
--- src/lib.rt:145:5
 loop-holds : tie.Need-loop-holds Inv-loop μ-loop
 loop-holds c = copying-none _ _ refl
 
--- src/lib.rt:146:20
 byte-at-requires : tie.Need-byte-at-requires Inv-loop μ-loop
 byte-at-requires c κs = search needs
 
--- src/lib.rt:146:9
 array-write-bytes : tie.Need-array-write-bytes Inv-loop μ-loop
 array-write-bytes c = search needs
 
--- src/lib.rt:147:9
 add-i : tie.Need-add-i Inv-loop μ-loop
 add-i c = search needs
 
--- src/lib.rt:145:5
 loop-less : tie.Need-loop-less Inv-loop μ-loop
 loop-less c = search needs
 
--- src/lib.rt:145:5
 loop-again : tie.Need-loop-again Inv-loop μ-loop
 loop-again c = copying-more (c .before .before .loop .inv) (search needs) (c .byte-at .ensures)
 
--- src/lib.rt:140:1
 returns : tie.Need-returns Inv-loop μ-loop
 returns c = copying-all (c .before .loop .inv) (search needs)
 

@@ -10,52 +10,34 @@ use Rattle.state.proofs.Popping.{pops-none, pops-some}
 use borrow.Author.Needs.{needs}
 use Rattle.state.proofs.pop.Statement.{statement}
 use Rattle.state.proofs.pop.Tie as tie
-use Rattle.state.proofs.pop.Reads as reads
-use Rattle.state.proofs.pop.Lts as lts
-use Rattle.hashtable.proofs.table.id_of.Reads as id-of-reads
-use Rattle.revwalk.proofs.queue.pop.Reads as pop-reads
-use Rattle.state.proofs.object_id.Reads as object-id-reads
-use Rattle.state.proofs.seconds_of.Reads as seconds-of-reads
-use Rattle.state.proofs.wide.Reads as wide-reads
-use Rattle.state.proofs.with_queue.Reads as with-queue-reads
 
--- src/lib.rt:169:9
 pop-requires : tie.Need-pop-requires
 pop-requires c κs = search needs
 
--- src/lib.rt:171:9
 same-length : tie.Need-same-length
 same-length c = search needs
 
--- src/lib.rt:171:9
 returns : tie.Need-returns
 returns c = pops-none (c .before .before .before .before .pop .ensures) (c .if1 .taken)
 
--- src/lib.rt:179:9
 wide-requires : tie.Need-wide-requires
 wide-requires c κs = search needs
 
--- src/lib.rt:180:24
 id-of-requires : tie.Need-id-of-requires
 id-of-requires c κs = search needs
 
--- src/lib.rt:180:9
 object-id-requires : tie.Need-object-id-requires
 object-id-requires c κs = search needs
 
--- src/lib.rt:181:9
 seconds-of-requires : tie.Need-seconds-of-requires
 seconds-of-requires c κs = search needs
 
--- src/lib.rt:182:9
 with-queue-requires : tie.Need-with-queue-requires
 with-queue-requires c κs = search needs
 
--- src/lib.rt:166:1
 same-length-2 : tie.Need-same-length-2
 same-length-2 c = search needs
 
--- src/lib.rt:166:1
 returns-2 : tie.Need-returns-2
 returns-2 c =
     let i = c .before .before .before in

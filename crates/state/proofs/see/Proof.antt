@@ -3,61 +3,45 @@ use Rattle.state.proofs.Seeing.{sees-vacant, sees-found, sees-full}
 use borrow.Author.Needs.{needs}
 use Rattle.state.proofs.see.Statement.{statement}
 use Rattle.state.proofs.see.Tie as tie
-use Rattle.state.proofs.see.Reads as reads
-use Rattle.state.proofs.see.Lts as lts
-use Rattle.hashtable.proofs.table.insert.Reads as insert-reads
 
--- src/lib.rt:82:9
 insert-requires : tie.Need-insert-requires
 insert-requires c κs = search needs
 
--- src/lib.rt:84:22
 enum-known-s : tie.Need-enum-known-s
 enum-known-s c = search needs
 
--- src/lib.rt:85:21
-enum-known-s-2 : tie.Need-enum-known-s-2
-enum-known-s-2 c = search needs
-
--- src/lib.rt:86:23
 enum-told : tie.Need-enum-told
 enum-told c = search needs
 
--- src/lib.rt:78:1
+enum-told-2 : tie.Need-enum-told-2
+enum-told-2 c = search needs
+
 same-length : tie.Need-same-length
 same-length c = search needs
 
--- src/lib.rt:78:1
 same-length-2 : tie.Need-same-length-2
 same-length-2 c = search needs
 
--- src/lib.rt:78:1
 returns : tie.Need-returns
 returns c = let t = c .before .before .before .before .before .before .before in sees-vacant (t .insert .ensures) (t .insert .kept .0) (t .insert .kept .1 .0) (c .before .s .given .0 .0) (c .before .s .given .1)
 
--- src/lib.rt:78:1
 same-length-3 : tie.Need-same-length-3
 same-length-3 c = search needs
 
--- src/lib.rt:78:1
 same-length-4 : tie.Need-same-length-4
 same-length-4 c = search needs
 
--- src/lib.rt:78:1
 returns-2 : tie.Need-returns-2
-returns-2 c = let t = c .before .before .before .before .before .before .before in sees-found (t .insert .ensures) (t .insert .kept .0) (t .insert .kept .1 .0) (c .before .s2 .given .0 .0) (c .before .s2 .given .1)
+returns-2 c = let t = c .before .before .before .before .before .before in sees-found (t .insert .ensures) (t .insert .kept .0) (t .insert .kept .1 .0) (c .enum-told .given .0 .0) (c .enum-told .given .1)
 
--- src/lib.rt:78:1
 same-length-5 : tie.Need-same-length-5
 same-length-5 c = search needs
 
--- src/lib.rt:78:1
 same-length-6 : tie.Need-same-length-6
 same-length-6 c = search needs
 
--- src/lib.rt:78:1
 returns-3 : tie.Need-returns-3
-returns-3 c = let t = c .before .before .before .before .before .before in sees-full (t .insert .ensures) (t .insert .kept .0) (t .insert .kept .1 .0) (c .enum-told .given .1)
+returns-3 c = let t = c .before .before .before .before .before .before in sees-full (t .insert .ensures) (t .insert .kept .0) (t .insert .kept .1 .0) (c .enum-told2 .given .1)
 
 pub see-spec : {M : Type 1} → statement M
 see-spec =
@@ -65,8 +49,8 @@ see-spec =
     (tie.spec
     insert-requires
     enum-known-s
-    enum-known-s-2
     enum-told
+    enum-told-2
     same-length
     same-length-2
     returns

@@ -8,34 +8,26 @@ use mir.Facts.{toZ-ofZ}
 use borrow.Author.Needs.{needs}
 use Rattle.state.proofs.set_time.Statement.{statement}
 use Rattle.state.proofs.set_time.Tie as tie
-use Rattle.state.proofs.set_time.Reads as reads
-use Rattle.state.proofs.set_time.Lts as lts
 
--- src/lib.rt:111:13
 mul-s : tie.Need-mul-s
 mul-s c = search needs
 
--- src/lib.rt:111:13
 slice-set-from-s : tie.Need-slice-set-from-s
 slice-set-from-s c = search needs
 
--- src/lib.rt:106:1
 same-length : tie.Need-same-length
 same-length c = search needs
 
--- src/lib.rt:106:1
 returns : tie.Need-returns
 returns c =
     let x = c .before .before .args in
     ap (set (x .times .now) (x .slot)) (toZ-ofZ (c .before .before .fits .s)) ∙ sym (ap (λ (b : Bool). cond b (set (x .times .now) (x .slot) (x .s)) (x .times .now)) (c .before .if1 .taken))
 
--- src/lib.rt:106:1
 returns-2 : tie.Need-returns-2
 returns-2 c =
     let x = c .before .before .args in
     sym (ap (λ (b : Bool). cond b (set (x .times .now) (x .slot) (x .s)) (x .times .now)) (c .before .if1 .taken) ∙ set-out (x .times .now) (x .slot) (x .s) (omega arith))
 
--- src/lib.rt:106:1
 returns-3 : tie.Need-returns-3
 returns-3 c = search needs
 

@@ -5,22 +5,16 @@ use lib.IntN.{pos}
 use borrow.Author.Needs.{needs}
 use Rattle.state.proofs.time_of.Statement.{statement}
 use Rattle.state.proofs.time_of.Tie as tie
-use Rattle.state.proofs.time_of.Reads as reads
-use Rattle.state.proofs.time_of.Lts as lts
 
--- src/lib.rt:156:29
 mul-result : tie.Need-mul-result
 mul-result c = search needs
 
--- src/lib.rt:156:29
 shared-slice-copy-out-result : tie.Need-shared-slice-copy-out-result
 shared-slice-copy-out-result c = search needs
 
--- src/lib.rt:153:1
 returns : tie.Need-returns
 returns c = search needs
 
--- src/lib.rt:153:1
 returns-2 : tie.Need-returns-2
 returns-2 c = sym (List·getD-eq-default (c .before .args .times .now) (pos 0) (c .if1 .left))
 

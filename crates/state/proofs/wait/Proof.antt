@@ -11,49 +11,34 @@ use Rattle.state.proofs.Queueing.{waits-pushed, waits-not}
 use borrow.Author.Needs.{needs}
 use Rattle.state.proofs.wait.Statement.{statement}
 use Rattle.state.proofs.wait.Tie as tie
-use Rattle.state.proofs.wait.Reads as reads
-use Rattle.state.proofs.wait.Lts as lts
-use Rattle.revwalk.proofs.queue.push.Reads as push-reads
-use Rattle.state.proofs.set_time.Reads as set-time-reads
-use Rattle.state.proofs.with_queue.Reads as with-queue-reads
 
--- src/lib.rt:123:9
 returns : tie.Need-returns
 returns c = waits-not (λ sh l m b. omega (arith, c .if1 .taken))
 
--- src/lib.rt:126:9
 returns-2 : tie.Need-returns-2
 returns-2 c = waits-not (λ sh l m b. omega (arith, c .if2 .taken))
 
--- src/lib.rt:128:5
 set-time-requires : tie.Need-set-time-requires
 set-time-requires c κs = search needs
 
--- src/lib.rt:129:46
 cast-push : tie.Need-cast-push
 cast-push c = search needs
 
--- src/lib.rt:129:9
 push-requires : tie.Need-push-requires
 push-requires c κs = search needs
 
--- src/lib.rt:130:35
 add-with-queue : tie.Need-add-with-queue
 add-with-queue c = search needs
 
--- src/lib.rt:130:5
 with-queue-requires : tie.Need-with-queue-requires
 with-queue-requires c κs = search needs
 
--- src/lib.rt:117:1
 same-length : tie.Need-same-length
 same-length c = search needs
 
--- src/lib.rt:117:1
 same-length-2 : tie.Need-same-length-2
 same-length-2 c = search needs
 
--- src/lib.rt:117:1
 returns-3 : tie.Need-returns-3
 returns-3 c =
     let p = c .before .before .before in
