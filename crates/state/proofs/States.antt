@@ -77,6 +77,7 @@ pub record Likewise (painted : Bool) (names marks names′ marks′ : List ℕ) 
   pub id : (k : ℕ) → k < cap → liveAt painted marks k ≡ true → idOf names′ k ≡ idOf names k
   pub seen-bit : (k : ℕ) → k < cap → liveAt painted marks k ≡ true → seen (getD marks′ k 0) ≡ seen (getD marks k 0)
   pub frontier-bit : painted ≡ true → (k : ℕ) → k < cap → liveAt painted marks k ≡ true → frontier (getD marks′ k 0) ≡ frontier (getD marks k 0)
+  pub whole-mark : painted ≡ false → (k : ℕ) → k < cap → liveAt painted marks k ≡ true → getD marks′ k 0 ≡ getD marks k 0
 
 module _ {painted : Bool} {names marks names′ marks′ : List ℕ} {cap : ℕ} (e : Likewise painted names marks names′ marks′ cap) where
   likewise-keeps : Keeps painted names marks painted names′ marks′ cap
@@ -100,6 +101,7 @@ agrees-likewise {painted} g = record {
   id = g .id;
   seen-bit = λ k l a. ap seen (g .mark k l);
   frontier-bit = λ p k l a. ap frontier (g .mark k l);
+  whole-mark = λ p k l a. g .mark k l;
 }
 
 -- from m to m′ nothing changes that is read: neither the table, nor the seconds of waiting slots, nor the line below 2 · cap
@@ -140,10 +142,10 @@ module _ {r : Record} {m m′ : Memory} {sh : Shape} {st : State} (g : Reads r m
       (λ p. ap (λ (b : Bool). r .painted && not (r .failed) && b) (sym (likewise-has (e .table) frontier table-same (e .table .frontier-bit p) x)))
       (off (r .painted) (not (r .failed)) (has (r .painted) (m .names) (m .marks) (sh .cap) frontier x) (has (r .painted) (m′ .names) (m′ .marks) (sh .cap) frontier x))
 
-  only : r .painted ≡ false → (k : ℕ) → k < sh .cap → liveAt false (m′ .marks) k ≡ true → seen (getD (m′ .marks) k 0) ≡ true
+  only : r .painted ≡ false → (k : ℕ) → k < sh .cap → liveAt false (m′ .marks) k ≡ true → getD (m′ .marks) k 0 ≡ 8
   only p k l a =
       let b : liveAt false (m .marks) k ≡ true = sym (subst (λ (c : Bool). liveAt c (m′ .marks) k ≡ liveAt c (m .marks) k) p (e .table .alive k l)) ∙ a in
-      e .table .seen-bit k l (ap (λ (c : Bool). liveAt c (m .marks) k) p ∙ b) ∙ g .only-seen p k l b
+      e .table .whole-mark p k l (ap (λ (c : Bool). liveAt c (m .marks) k) p ∙ b) ∙ g .only-seen p k l b
 
   pub elsewhere : Reads r m′ sh st
   elsewhere = record {
@@ -167,16 +169,3 @@ module _ {r : Record} {m m′ : Memory} {sh : Shape} {st : State} (g : Reads r m
     admitted = g .admitted;
     struck = g .struck;
   }
-
--- before painting any other bit of a mark may change, as long as a live slot stays seen and no other becomes live
-pub unpainted-likewise : {r : Record} {m : Memory} {sh : Shape} {st : State} → Reads r m sh st → r .painted ≡ false → (marks′ : List ℕ)
-    → ((k : ℕ) → k < sh .cap → liveAt false marks′ k ≡ liveAt false (m .marks) k)
-    → ((k : ℕ) → k < sh .cap → liveAt false (m .marks) k ≡ true → seen (getD marks′ k 0) ≡ true)
-    → Likewise (r .painted) (m .names) (m .marks) (m .names) marks′ (sh .cap)
-unpainted-likewise {r} {m} {sh} g p marks′ lives stays = record {
-  used = λ k l a. lives k l ∙ a;
-  alive = λ k l. subst (λ (c : Bool). liveAt c marks′ k ≡ liveAt c (m .marks) k) (sym p) (lives k l);
-  id = λ k l a. refl;
-  seen-bit = λ k l a. let b = ap (λ (c : Bool). liveAt c (m .marks) k) (sym p) ∙ a in stays k l b ∙ sym (g .only-seen p k l b);
-  frontier-bit = λ q. clash q p;
-}
