@@ -1,0 +1,302 @@
+"""Document 01's walk, from its words alone; the readers of the two files are tools/formats.py, from the same words.
+
+`Files` is what the two files say of an id. `Walk` is an opening and its next calls. Sentences in quotation marks are document 01's.
+"""
+import os
+import sys
+
+sys.path.insert(0, os.path.join(os.path.dirname(os.path.abspath(__file__)), "..", "tools"))
+import formats  # noqa: E402
+
+CORRUPT = "corrupt"
+VISIBLE, HIDDEN, STALE = 1, 2, 4
+NO_ROW_LEVEL = 0xFFFFFFFF
+MOST_BYTES, MOST_IDS, MOST_PARENTS = 16777216, 1024, 256
+
+
+class Refused(Exception):
+    def __init__(self, number):
+        self.number = number
+
+
+class Header:
+    """One commit's lines: is the tree line good; the parents up to 256; is there a good 257th line; is the author line good; the seconds,
+    or None where a line up to the committer's is bad. "Where only seconds are wanted … parents are not counted." """
+
+    def __init__(self, body):
+        self.tree, self.ids, self.crowded, self.author, self.seconds = False, [], False, False, None
+        tree = formats.id_line(b"tree ", body)
+        if tree is None:
+            return
+        self.tree = True
+        ids, rest = formats.parent_lines(tree[1])
+        self.ids, self.crowded = ids[:MOST_PARENTS], len(ids) > MOST_PARENTS
+        after = formats.author_line(rest)
+        if after is not None:
+            self.author = True
+            self.seconds = formats.committer_line(after)
+
+    def fault(self):
+        """Why the commit is not readable: 10 or 11, "the earlier line decides"; None where it is."""
+        if not self.tree:
+            return 10
+        if self.crowded:
+            return 11
+        return 10 if self.seconds is None else None
+
+
+class Files:
+    """Book and graph. `fault` is the first of 4 to 6 that applies."""
+
+    def __init__(self, store, graph):
+        self.store, self.graph_bytes = store, graph
+        self.headers, self.rows, self.count, self.graph = {}, {}, 0, None
+        entries = formats.store_entries(store)
+        self.fault = None
+        if entries is None:
+            self.fault = 4
+            return
+        self.bodies = {name: store[start:end] for name, start, end in entries}
+        if graph:
+            if not formats.graph_head(graph):
+                self.fault = 5
+                return
+            self.graph = formats.Graph(graph)
+            if not self.graph.good:
+                self.fault = 6
+                return
+            self.count = self.graph.n
+            self.places = {name: place for place, name in enumerate(self.graph.names)}
+
+    def header(self, name):
+        """None where the book has no such id."""
+        if name not in self.headers:
+            self.headers[name] = Header(self.bodies[name]) if name in self.bodies else None
+        return self.headers[name]
+
+    def row(self, name):
+        """None where the graph has no such id; CORRUPT; or the parents with their own rows' seconds, the level, the seconds."""
+        if self.graph is None or name not in self.places:
+            return None
+        if name not in self.rows:
+            place = self.places[name]
+            parents = self.graph.parents(place)
+            self.rows[name] = CORRUPT if parents is None else (
+                [(self.graph.names[p], self.graph.seconds(p)) for p in parents], self.graph.level(place), self.graph.seconds(place))
+        return self.rows[name]
+
+    def whole(self, name):
+        """A commit read for painting: its parents and its pair (level, seconds). "The graph comes before the book"."""
+        row = self.row(name)
+        if row is CORRUPT:
+            raise Refused(10)
+        if row is not None:
+            parents, level, seconds = row
+            return [parent for parent, _ in parents], (level, seconds)
+        header = self.header(name)
+        if header is None:
+            raise Refused(9)
+        fault = header.fault()
+        if fault is not None:
+            raise Refused(fault)
+        return header.ids, (NO_ROW_LEVEL, header.seconds)
+
+
+class Answer:
+    """`kind` is "commit", "error" or "end"."""
+
+    def __init__(self, walk, kind, number=0, name=None, parents=(), level=None, seconds=None):
+        self.kind, self.number, self.name, self.parents, self.level, self.seconds = kind, number, name, parents, level, seconds
+        self.admitted, self.struck, self.waiting = walk.admitted, walk.struck, len(walk.line)
+
+    def text(self):
+        """As the driver prints it."""
+        if self.kind == "end":
+            return "end"
+        if self.kind == "error":
+            return "error %d" % self.number
+        parts = ["commit", self.name.hex(), "-" if self.level is None else str(self.level),
+                 "-" if self.seconds is None else str(self.seconds)]
+        return " ".join(parts + [parent.hex() for parent in self.parents])
+
+
+class Walk:
+    """sorting: "breadth", "newest" or "oldest"; cutoff: None or seconds (with newest or oldest); first: the mode First."""
+
+    def __init__(self, files, tips, hidden, barred, sorting, cutoff, first):
+        self.files, self.sorting, self.cutoff, self.first = files, sorting, cutoff, first
+        self.hidden, self.barred = list(hidden), set(barred)
+        self.lent = max(len(tips), len(hidden), len(barred))
+        self.line, self.seen, self.frontier = [], set(), set()
+        self.painted, self.kept = False, True
+        self.admitted = self.struck = 0
+        self.ties = False
+        self.queued_with, self.painted_with = {}, {}
+        self.by_time = sorting != "breadth" and not first
+        self.refused = self.open(tips)
+        # "P = tips + hidden tips + ⌊book bytes/48⌋ + N, both lists counted as lent"
+        self.P = len(tips) + len(hidden) + len(files.store) // 48 + files.count
+
+    # ---- opening
+
+    def open(self, tips):
+        """None, or the number of the refusal; memory is lent in full."""
+        files = self.files
+        if max(len(files.store), len(files.graph_bytes)) > MOST_BYTES or self.lent > MOST_IDS:
+            return 2
+        if files.fault is not None:
+            return files.fault
+        # "Tips lose repeats and barred ids; the rest are seen."
+        rest = []
+        for tip in tips:
+            if tip not in self.barred and tip not in self.seen:
+                self.seen.add(tip)
+                rest.append(tip)
+        # "Under a time order each remaining tip is read from the book alone; under a cutoff it stays if seconds ≥ cutoff."
+        for tip in rest:
+            seconds = None
+            if self.sorting != "breadth":
+                header = files.header(tip)
+                if header is None:
+                    return 7
+                seconds = header.seconds
+                if seconds is None:
+                    return 8
+                if self.cutoff is not None and seconds < self.cutoff:
+                    continue
+            self.wait(tip, seconds)
+        return None
+
+    # ---- the line
+
+    def wait(self, name, seconds):
+        """A commit is admitted."""
+        self.admitted += 1
+        self.enter(name, seconds)
+
+    def enter(self, name, seconds):
+        """Into the line, after all that it does not go before; "under First they wait in list order"."""
+        if not self.by_time:
+            self.line.append((name, None))
+            return
+        if self.queued_with.setdefault(seconds, name) != name:
+            self.ties = True
+        at = len(self.line)
+        while at > 0 and self.goes_before(seconds, self.line[at - 1][1]):
+            at -= 1
+        self.line.insert(at, (name, seconds))
+
+    def goes_before(self, mine, other):
+        return mine > other if self.sorting == "newest" else mine < other
+
+    # ---- painting
+
+    def paint(self):
+        """The frontier; raises Refused."""
+        marks, read, queue = {}, {}, []
+
+        def give(name, passed):
+            if name not in marks:
+                # "A commit is read when it first gets a mark"
+                read[name] = self.files.whole(name)
+                marks[name] = 0
+            marks[name] |= passed
+            pair = read[name][1]
+            if self.painted_with.setdefault(pair, name) != name:
+                self.ties = True
+            # "the greatest pair, among equals the first queued"
+            at = len(queue)
+            while at > 0 and pair > queue[at - 1][0]:
+                at -= 1
+            queue.insert(at, (pair, name))
+
+        # "Waiting ids by rising id get VISIBLE, then hidden tips in order HIDDEN; each is queued."
+        for name in sorted(name for name, _ in self.line):
+            give(name, VISIBLE)
+        for name in self.hidden:
+            give(name, HIDDEN)
+        # "While a queued commit lacks STALE: take the greatest pair"
+        while any(not marks[name] & STALE for _, name in queue):
+            name = queue.pop(0)[1]
+            passed = marks[name]
+            # "if its marks are exactly the first two, add STALE to what is passed (not to itself)"
+            if passed == VISIBLE | HIDDEN:
+                passed |= STALE
+            # "each parent lacking a passed mark gets them and is queued"
+            for parent in read[name][0]:
+                if marks.get(parent, 0) & passed != passed:
+                    give(parent, passed)
+        # "The frontier is every commit with both marks"
+        return {name for name, has in marks.items() if has & VISIBLE and has & HIDDEN}
+
+    # ---- a next call
+
+    def next(self):
+        # "Done by the first next call, unless hidden tips or waiting commits are none."
+        if not self.painted:
+            self.painted = True
+            if self.hidden and self.line:
+                waiting = len(self.line)
+                try:
+                    self.frontier = self.paint()
+                except Refused as refused:
+                    # "line emptied (all of it struck), refusal given once, then end"
+                    self.line = []
+                    self.struck += waiting
+                    return Answer(self, "error", refused.number)
+                # "it leaves the line"
+                self.line = [entry for entry in self.line if entry[0] not in self.frontier]
+                self.struck += waiting - len(self.line)
+        # "Empty: end."
+        if not self.line:
+            return Answer(self, "end")
+        # "Breadth order takes the front; time order the newest or oldest; among equals the first queued." "Look it up."
+        name, seconds = self.line.pop(0)
+        row = self.files.row(name) if self.kept else None
+        if row is CORRUPT:
+            # "A corrupt list drops the graph for good and the commit goes back (front, or queued last among equals)."
+            self.kept = False
+            if self.by_time:
+                self.enter(name, seconds)
+            else:
+                self.line.insert(0, (name, seconds))
+            name, seconds = self.line.pop(0)
+            row = None
+        if row is not None:
+            parents, level, _ = row
+            if self.first:
+                parents = parents[:1]
+            for parent, its in parents:
+                self.visit(parent, its)
+            return Answer(self, "commit", name=name, parents=[parent for parent, _ in parents], level=level, seconds=seconds)
+        header = self.files.header(name)
+        if header is None:
+            return Answer(self, "error", 9)
+        if not header.tree:
+            return Answer(self, "error", 10)
+        # "Under First only one parent."
+        parents = header.ids[:1] if self.first else header.ids
+        for parent in parents:
+            self.visit(parent, self.seconds_of(parent))
+        # "After the parents of a commit from the book the author line must be good, save where First has stopped."
+        if not (self.first and parents):
+            if header.crowded:
+                return Answer(self, "error", 11, parents=parents)
+            if not header.author:
+                return Answer(self, "error", 10, parents=parents)
+        return Answer(self, "commit", name=name, parents=parents, seconds=seconds)
+
+    def seconds_of(self, parent):
+        """"Seconds of a parent come from its own graph row if the child came from the graph, else from the book, else they are 0." """
+        header = self.files.header(parent)
+        return 0 if header is None or header.seconds is None else header.seconds
+
+    def visit(self, parent, seconds):
+        """"unless in the frontier or seen, it is seen, and waits if its link is admitted" """
+        if parent in self.frontier or parent in self.seen:
+            return
+        self.seen.add(parent)
+        # "the parent is not barred …, and, under a cutoff with All, its seconds ≥ cutoff. First ignores the cutoff after the tips."
+        if parent in self.barred or (self.cutoff is not None and not self.first and seconds < self.cutoff):
+            return
+        self.wait(parent, seconds)

@@ -1,0 +1,139 @@
+"""Walks with one fault each, to see that the cases tell them from the right one. The first four are document 01's slips."""
+from model import CORRUPT, HIDDEN, STALE, VISIBLE, Walk
+
+
+class PoppedStale(Walk):
+    """marks the popped commit STALE"""
+
+    def paint(self):
+        return painting(self, popped_stale=True)
+
+
+class FirstHides(Walk):
+    """takes First through hidden tips too"""
+
+    def paint(self):
+        return painting(self, first_hides=self.first)
+
+
+class GraphSeconds(Walk):
+    """takes a parent's seconds from the graph when the child came from the book"""
+
+    def seconds_of(self, parent):
+        row = self.files.row(parent) if self.kept else None
+        return row[2] if row not in (None, CORRUPT) else super().seconds_of(parent)
+
+
+class EdgeFromThird(Walk):
+    """reads EDGE from the third parent"""
+
+    def __init__(self, files, *rest):
+        super().__init__(Shifted(files), *rest)
+
+
+class Shifted:
+    def __init__(self, files):
+        self.__dict__.update(files.__dict__)
+        self.files = files
+        self.header = files.header
+
+    def row(self, name):
+        row = self.files.row(name)
+        if row in (None, CORRUPT) or len(row[0]) < 3:
+            return row
+        return row[0][:1] + row[0][2:], row[1], row[2]
+
+    def whole(self, name):
+        parents, pair = self.files.whole(name)
+        row = self.row(name)
+        return (parents if row is None else [p for p, _ in row[0]]), pair
+
+
+class LastQueued(Walk):
+    """among equals the last queued"""
+
+    def goes_before(self, mine, other):
+        return mine >= other if self.sorting == "newest" else mine <= other
+
+
+class HiddenOnce(Walk):
+    """queues a repeated hidden tip once"""
+
+    def __init__(self, files, tips, hidden, *rest):
+        super().__init__(files, tips, list(dict.fromkeys(hidden)), *rest)
+
+
+class TurnedTipAdmitted(Walk):
+    """forgets that a tip turned away by the cutoff is seen"""
+
+    def open(self, tips):
+        out = super().open(tips)
+        self.seen = {name for name, _ in self.line}
+        return out
+
+
+class CutoffUnderFirst(Walk):
+    """heeds the cutoff under First"""
+
+    def visit(self, parent, seconds):
+        if self.first and self.cutoff is not None and seconds < self.cutoff:
+            self.seen.add(parent)
+            return
+        super().visit(parent, seconds)
+
+
+class UnsortedWaiting(Walk):
+    """paints the waiting commits in the line's order"""
+
+    def paint(self):
+        return painting(self, unsorted=True)
+
+
+class SecondsBeforeLevels(Walk):
+    """compares seconds before levels in painting"""
+
+    def paint(self):
+        return painting(self, turned=True)
+
+
+class GraphKept(Walk):
+    """takes up the graph again after a corrupt list"""
+
+    def next(self):
+        self.kept = True
+        return super().next()
+
+
+def painting(walk, popped_stale=False, first_hides=False, unsorted=False, turned=False):
+    marks, read, queue = {}, {}, []
+
+    def give(name, passed):
+        if name not in marks:
+            parents, pair = walk.files.whole(name)
+            read[name] = parents[:1] if first_hides else parents, pair[::-1] if turned else pair
+        marks[name] = marks.get(name, 0) | passed
+        at = len(queue)
+        while at > 0 and read[name][1] > queue[at - 1][0]:
+            at -= 1
+        queue.insert(at, (read[name][1], name))
+
+    waiting = [name for name, _ in walk.line]
+    for name in waiting if unsorted else sorted(waiting):
+        give(name, VISIBLE)
+    for name in walk.hidden:
+        give(name, HIDDEN)
+    while any(not marks[name] & STALE for _, name in queue):
+        name = queue.pop(0)[1]
+        passed = marks[name]
+        if passed == VISIBLE | HIDDEN:
+            passed |= STALE
+            if popped_stale:
+                marks[name] |= STALE
+        for parent in read[name][0]:
+            if marks.get(parent, 0) & passed != passed:
+                give(parent, passed)
+    return {name for name, has in marks.items() if has & VISIBLE and has & HIDDEN}
+
+
+ALL = [PoppedStale, FirstHides, GraphSeconds, EdgeFromThird, LastQueued, HiddenOnce, TurnedTipAdmitted, CutoffUnderFirst, UnsortedWaiting,
+       SecondsBeforeLevels, GraphKept]

@@ -1,0 +1,6 @@
+pub mod PaintBits
+pub mod Gains
+pub mod MarkStep
+pub mod MarkAnswers
+pub mod Steps
+pub mod Runs

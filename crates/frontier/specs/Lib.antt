@@ -1,0 +1,5 @@
+pub mod Bits
+pub mod Slots
+pub mod Paint
+pub mod Mark
+pub mod Lists

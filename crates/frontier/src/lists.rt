@@ -1,0 +1,270 @@
+// Painting over a list of commits: ids that stand in bytes, slots that stand in the line, and the parents of a commit.
+use crate::bits;
+use crate::marking;
+use crate::marking::Marked;
+use commit::Cache;
+use hashtable::table;
+use hashtable::table::Slot;
+use object::ObjectId;
+use reading::Commit;
+use revwalk::pending::Pending;
+ghost use mathlib.Core.Path.{_≡_};
+ghost use Prim.Native.Nat.{_+_, _/_};
+ghost use lib.ListN.{length, getD};
+ghost use Rattle.hash.specs.Bytes.{idBytes};
+ghost use Rattle.walk.specs.Painting.{markAll};
+ghost use Rattle.walk.specs.Opening.{listIds};
+ghost use Rattle.hashtable.specs.Table.{idOf};
+ghost use Rattle.reading.specs.Ids.{padded};
+ghost use Rattle.reading.specs.Whole.{parentCount};
+ghost use Rattle.frontier.specs.Paint.{lent};
+ghost use Rattle.frontier.specs.Mark.{Takes, TakesAfter, passTo, LacksMark};
+ghost use Rattle.frontier.specs.Lists.{TakesAllAfter, MarksRun, PassesAll};
+
+// How many ids a list has.
+fn id_count(list: &[u8]) -> usize
+    ensures { λ r. ⌜ r ≡ length (now (list .entry)) / idBytes ⌝ }
+{
+    list.len() / hash::ID_BYTES
+}
+
+// Gives marks to each id of a list, in order.
+pub fn mark_list(
+    names: &mut [u8],
+    marks: &mut [u8],
+    levels: &mut [u32],
+    times: &mut [i64],
+    line: &mut [u32],
+    cap: usize,
+    cache: Cache,
+    graph: &[u8],
+    store: &[u8],
+    past: Marked,
+    list: &[u8],
+    bits: u8,
+) -> Marked
+    ensures { λ r. ⌜ TakesAllAfter markAll cache (now (graph .entry)) (now (store .entry)) cap (lent (now (names .entry)) (now (marks .entry)) (now (levels .entry)) (now (times .entry)) (now (line .entry))) (lent (now (names .exit)) (now (marks .exit)) (now (levels .exit)) (now (times .exit)) (now (line .exit))) past (listIds (now (list .entry))) bits r ⌝ }
+{
+    let n = id_count(list);
+    let mut r = past;
+    let mut i = 0;
+    while i < n {
+        let id = hash::id_at(list, hash::ID_BYTES * i);
+        r = marking::mark_next(
+            names,
+            marks,
+            levels,
+            times,
+            line,
+            cap,
+            cache,
+            graph,
+            store,
+            r,
+            id,
+            bits,
+        );
+        i += 1;
+    }
+    r
+}
+
+// The slot at a place of the line, i places after `from`; 0 past the end.
+fn slot_after(line: &[u32], from: usize, i: usize) -> u32
+    ensures { λ r. ⌜ r ≡ getD (now (line .entry)) (from + i) 0 ⌝ }
+{
+    if line.len() <= from {
+        return 0;
+    }
+    if line.len() - from <= i {
+        return 0;
+    }
+    line[from + i]
+}
+
+// The id in a slot, by value; zeros stand where `names` ends.
+pub fn id_in(names: &[u8], slot: u32) -> ObjectId
+    ensures { λ r. ⌜ r .bytes ≡ padded (idOf (now (names .entry)) slot) ⌝ }
+{
+    reading::id_by_value(names, hash::ID_BYTES * (slot as usize))
+}
+
+// Gives marks to the commits in the slots line[from..from + n), in order.
+pub fn mark_run(
+    names: &mut [u8],
+    marks: &mut [u8],
+    levels: &mut [u32],
+    times: &mut [i64],
+    line: &mut [u32],
+    cap: usize,
+    cache: Cache,
+    graph: &[u8],
+    store: &[u8],
+    p: Pending,
+    from: usize,
+    n: usize,
+    bits: u8,
+) -> Marked
+    ensures { λ r. ⌜ MarksRun cache (now (graph .entry)) (now (store .entry)) cap (lent (now (names .entry)) (now (marks .entry)) (now (levels .entry)) (now (times .entry)) (now (line .entry))) (lent (now (names .exit)) (now (marks .exit)) (now (levels .exit)) (now (times .exit)) (now (line .exit))) p from n bits r ⌝ }
+{
+    let mut r = Marked::Going(p);
+    let mut i = 0;
+    while i < n {
+        let slot = slot_after(line, from, i);
+        let id = id_in(names, slot);
+        r = marking::mark_next(
+            names,
+            marks,
+            levels,
+            times,
+            line,
+            cap,
+            cache,
+            graph,
+            store,
+            r,
+            &id.bytes,
+            bits,
+        );
+        i += 1;
+    }
+    r
+}
+
+// Whether an id lacks one of the marks.
+fn is_lacking(names: &[u8], marks: &[u8], cap: usize, id: &[u8], bits: u8) -> bool
+    ensures { λ r. ⌜ LacksMark (now (names .entry)) (now (marks .entry)) cap (now (id .entry)) bits r ⌝ }
+{
+    let s = table::find_slot(names, marks, cap, false, id);
+    match s {
+        Slot::Found(k) => bits::lacks_bits(bits, table::mark_of(marks, k)),
+        Slot::Vacant(_) => bits::lacks_bits(bits, 0),
+        Slot::Full => bits::lacks_bits(bits, 0),
+    }
+}
+
+// Passes marks to a parent: it gets them and is queued, if it lacks one.
+fn pass_one(
+    names: &mut [u8],
+    marks: &mut [u8],
+    levels: &mut [u32],
+    times: &mut [i64],
+    line: &mut [u32],
+    cap: usize,
+    cache: Cache,
+    graph: &[u8],
+    store: &[u8],
+    p: Pending,
+    id: &[u8],
+    bits: u8,
+) -> Marked
+    ensures { λ r. ⌜ Takes passTo cache (now (graph .entry)) (now (store .entry)) cap (lent (now (names .entry)) (now (marks .entry)) (now (levels .entry)) (now (times .entry)) (now (line .entry))) (lent (now (names .exit)) (now (marks .exit)) (now (levels .exit)) (now (times .exit)) (now (line .exit))) p (now (id .entry)) bits r ⌝ }
+{
+    if is_lacking(names, marks, cap, id, bits) {
+        marking::mark_one(
+            names,
+            marks,
+            levels,
+            times,
+            line,
+            cap,
+            cache,
+            graph,
+            store,
+            p,
+            id,
+            bits,
+        )
+    } else {
+        Marked::Going(p)
+    }
+}
+
+// The same after an answer: where painting does not go on, nothing is done.
+fn pass_next(
+    names: &mut [u8],
+    marks: &mut [u8],
+    levels: &mut [u32],
+    times: &mut [i64],
+    line: &mut [u32],
+    cap: usize,
+    cache: Cache,
+    graph: &[u8],
+    store: &[u8],
+    past: Marked,
+    id: &[u8],
+    bits: u8,
+) -> Marked
+    ensures { λ r. ⌜ TakesAfter passTo cache (now (graph .entry)) (now (store .entry)) cap (lent (now (names .entry)) (now (marks .entry)) (now (levels .entry)) (now (times .entry)) (now (line .entry))) (lent (now (names .exit)) (now (marks .exit)) (now (levels .exit)) (now (times .exit)) (now (line .exit))) past (now (id .entry)) bits r ⌝ }
+{
+    match past {
+        Marked::Going(p) => pass_one(
+            names,
+            marks,
+            levels,
+            times,
+            line,
+            cap,
+            cache,
+            graph,
+            store,
+            p,
+            id,
+            bits,
+        ),
+        Marked::Stop(n) => Marked::Stop(n),
+        Marked::NoRoom => Marked::NoRoom,
+    }
+}
+
+// How many parents a commit has that was read.
+fn parent_count(commit: Commit) -> usize
+    ensures { λ r. ⌜ r ≡ parentCount commit ⌝ }
+{
+    match commit {
+        Commit::Row { parents, .. } => parents,
+        Commit::Body { parents, .. } => parents,
+        Commit::Failed(_) => 0,
+    }
+}
+
+// Passes marks to the parents of a commit, in order.
+pub fn pass_to_parents(
+    names: &mut [u8],
+    marks: &mut [u8],
+    levels: &mut [u32],
+    times: &mut [i64],
+    line: &mut [u32],
+    cap: usize,
+    cache: Cache,
+    graph: &[u8],
+    store: &[u8],
+    p: Pending,
+    commit: Commit,
+    bits: u8,
+) -> Marked
+    ensures { λ r. ⌜ PassesAll cache (now (graph .entry)) (now (store .entry)) cap (lent (now (names .entry)) (now (marks .entry)) (now (levels .entry)) (now (times .entry)) (now (line .entry))) (lent (now (names .exit)) (now (marks .exit)) (now (levels .exit)) (now (times .exit)) (now (line .exit))) p commit bits r ⌝ }
+{
+    let n = parent_count(commit);
+    let mut r = Marked::Going(p);
+    let mut i = 0;
+    while i < n {
+        let id = reading::parent_of(commit, i, cache, graph, store);
+        r = pass_next(
+            names,
+            marks,
+            levels,
+            times,
+            line,
+            cap,
+            cache,
+            graph,
+            store,
+            r,
+            &id.bytes,
+            bits,
+        );
+        i += 1;
+    }
+    r
+}

@@ -1,0 +1,160 @@
+// A commit gets marks: it is read when it first gets one, and its slot is queued.
+use crate::slots;
+use crate::slots::Added;
+use commit::Cache;
+use reading::Commit;
+use revwalk::pending;
+use revwalk::pending::Pending;
+use walk::Refusal;
+ghost use mathlib.Core.Path.{_≡_};
+ghost use Rattle.frontier.specs.Paint.{lent};
+ghost use Rattle.frontier.specs.Mark.{Learns, Places, Queues, Takes, TakesAfter};
+ghost use Rattle.walk.specs.Painting.{mark};
+
+// How a part of painting ends: it goes on with this queue; a commit cannot be read; or the lent memory is too small for it.
+pub enum Marked {
+    Going(Pending),
+    Stop(Refusal),
+    NoRoom,
+}
+
+// Where an id stands that gained marks; or its commit cannot be read; or there is no slot for it.
+pub enum Spot {
+    At(u32),
+    Unread(Refusal),
+    NoSlot,
+}
+
+// Reads a commit and sets down its generation and seconds in a slot.
+fn learn(
+    levels: &mut [u32],
+    times: &mut [i64],
+    cache: Cache,
+    graph: &[u8],
+    store: &[u8],
+    id: &[u8],
+    slot: u32,
+) -> Spot
+    ensures { λ r. ⌜ Learns cache (now (graph .entry)) (now (store .entry)) (now (levels .entry)) (now (times .entry)) (now (levels .exit)) (now (times .exit)) (now (id .entry)) slot r ⌝ }
+{
+    let c = reading::read_commit(cache, graph, store, id);
+    match c {
+        Commit::Row { pair, .. } => {
+            slots::set_pair(levels, times, slot, pair);
+            Spot::At(slot)
+        }
+        Commit::Body { pair, .. } => {
+            slots::set_pair(levels, times, slot, pair);
+            Spot::At(slot)
+        }
+        Commit::Failed(n) => Spot::Unread(n),
+    }
+}
+
+// Gives marks to an id, and reads its commit where these are the first.
+fn place(
+    names: &mut [u8],
+    marks: &mut [u8],
+    levels: &mut [u32],
+    times: &mut [i64],
+    cap: usize,
+    cache: Cache,
+    graph: &[u8],
+    store: &[u8],
+    id: &[u8],
+    bits: u8,
+) -> Spot
+    ensures { λ r. ⌜ Places cache (now (graph .entry)) (now (store .entry)) (now (names .entry)) (now (marks .entry)) (now (levels .entry)) (now (times .entry)) (now (names .exit)) (now (marks .exit)) (now (levels .exit)) (now (times .exit)) cap (now (id .entry)) bits r ⌝ }
+{
+    let a = slots::add_mark(names, marks, cap, id, bits);
+    match a {
+        Added::New(k) => learn(levels, times, cache, graph, store, id, k),
+        Added::Known(k) => Spot::At(k),
+        Added::Full => Spot::NoSlot,
+    }
+}
+
+// Queues a slot by its pair.
+fn queue_slot(p: Pending, line: &mut [u32], levels: &[u32], times: &[i64], slot: u32) -> Marked
+    ensures { λ r. ⌜ Queues (now (levels .entry)) (now (times .entry)) slot p (now (line .entry)) (now (line .exit)) r ⌝ }
+{
+    let q = pending::push(p, line, levels, times, slot);
+    if q.start < p.start {
+        Marked::Going(q)
+    } else {
+        Marked::NoRoom
+    }
+}
+
+// Gives marks to a commit and queues it.
+pub fn mark_one(
+    names: &mut [u8],
+    marks: &mut [u8],
+    levels: &mut [u32],
+    times: &mut [i64],
+    line: &mut [u32],
+    cap: usize,
+    cache: Cache,
+    graph: &[u8],
+    store: &[u8],
+    p: Pending,
+    id: &[u8],
+    bits: u8,
+) -> Marked
+    ensures { λ r. ⌜ Takes mark cache (now (graph .entry)) (now (store .entry)) cap (lent (now (names .entry)) (now (marks .entry)) (now (levels .entry)) (now (times .entry)) (now (line .entry))) (lent (now (names .exit)) (now (marks .exit)) (now (levels .exit)) (now (times .exit)) (now (line .exit))) p (now (id .entry)) bits r ⌝ }
+{
+    let s = place(
+        names,
+        marks,
+        levels,
+        times,
+        cap,
+        cache,
+        graph,
+        store,
+        id,
+        bits,
+    );
+    match s {
+        Spot::At(k) => queue_slot(p, line, levels, times, k),
+        Spot::Unread(n) => Marked::Stop(n),
+        Spot::NoSlot => Marked::NoRoom,
+    }
+}
+
+// The same after an answer: where painting does not go on, nothing is done.
+pub fn mark_next(
+    names: &mut [u8],
+    marks: &mut [u8],
+    levels: &mut [u32],
+    times: &mut [i64],
+    line: &mut [u32],
+    cap: usize,
+    cache: Cache,
+    graph: &[u8],
+    store: &[u8],
+    past: Marked,
+    id: &[u8],
+    bits: u8,
+) -> Marked
+    ensures { λ r. ⌜ TakesAfter mark cache (now (graph .entry)) (now (store .entry)) cap (lent (now (names .entry)) (now (marks .entry)) (now (levels .entry)) (now (times .entry)) (now (line .entry))) (lent (now (names .exit)) (now (marks .exit)) (now (levels .exit)) (now (times .exit)) (now (line .exit))) past (now (id .entry)) bits r ⌝ }
+{
+    match past {
+        Marked::Going(p) => mark_one(
+            names,
+            marks,
+            levels,
+            times,
+            line,
+            cap,
+            cache,
+            graph,
+            store,
+            p,
+            id,
+            bits,
+        ),
+        Marked::Stop(n) => Marked::Stop(n),
+        Marked::NoRoom => Marked::NoRoom,
+    }
+}

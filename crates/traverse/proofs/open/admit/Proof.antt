@@ -1,0 +1,47 @@
+-- `open::admit` meets its contract: only a new tip that no cutoff turns away waits. Assumes nothing.
+use borrow.Author.Tests.{not-true, not-false}
+use Rattle.traverse.proofs.OpenTips.{admit-again, admit-turned, admit-waits}
+use borrow.Author.Needs.{needs}
+use Rattle.traverse.proofs.open.admit.Statement.{statement}
+use Rattle.traverse.proofs.open.admit.Tie as tie
+
+returns : tie.Need-returns
+returns c = let x = c .before .before .before .args in admit-again (x .r) (x .times .now) (x .line .now) (x .seen) (x .how) (not-true (x .seen .fresh) (c .if1 .taken))
+
+enum-known-how : tie.Need-enum-known-how
+enum-known-how c = search needs
+
+wait-requires : tie.Need-wait-requires
+wait-requires c κs = search needs
+
+enum-told : tie.Need-enum-told
+enum-told c = search needs
+
+same-length : tie.Need-same-length
+same-length c = search needs
+
+same-length-2 : tie.Need-same-length-2
+same-length-2 c = search needs
+
+returns-2 : tie.Need-returns-2
+returns-2 c =
+    let h = c .before .before .before .before .before .before .before in
+    let i = c .before .before .before .before .before .before .before .before .before in
+    let x = i .before .before .before .args in
+    admit-waits (x .r) (x .times .now) (x .line .now) (x .seen) (x .how) (h .how .given .0 .0) (not-false (x .seen .fresh) (i .if1 .left)) (h .how .given .1) (c .before .before .before .wait .ensures)
+
+returns-3 : tie.Need-returns-3
+returns-3 c = let x = c .before .before .before .before .before .args in admit-turned (x .r) (x .times .now) (x .line .now) (x .seen) (x .how) (c .enum-told .given .1)
+
+pub admit-spec : {M : Type 1} → statement M
+admit-spec =
+    tie.close
+    (tie.spec
+    returns
+    enum-known-how
+    wait-requires
+    enum-told
+    same-length
+    same-length-2
+    returns-2
+    returns-3)

@@ -1,0 +1,70 @@
+-- `open::open` meets its contract: refused by a test, or the tips are let in. Assumes nothing.
+use mathlib.Core.Path.{refl, sym, _∙_}
+use Rattle.opening.specs.Checks.{inputOf}
+use Rattle.traverse.specs.Contract.{lengthsOf}
+use Rattle.traverse.specs.Open.{lentOf}
+use Rattle.traverse.proofs.OpenSaid.{refused-says, accepted-says}
+use borrow.Author.Needs.{needs}
+use Rattle.traverse.proofs.open.open.Statement.{statement}
+use Rattle.traverse.proofs.open.open.Tie as tie
+
+check-requires : tie.Need-check-requires
+check-requires c κs = search needs
+
+enum-known-r : tie.Need-enum-known-r
+enum-known-r c = search needs
+
+refused-open-requires : tie.Need-refused-open-requires
+refused-open-requires c κs = search needs
+
+enum-told : tie.Need-enum-told
+enum-told c = search needs
+
+fill-requires : tie.Need-fill-requires
+fill-requires c κs = search needs
+
+accepted-open-requires : tie.Need-accepted-open-requires
+accepted-open-requires c κs = search needs
+
+returns : tie.Need-returns
+unfolding lengthsOf
+returns c =
+    let x = c .before .before .before .before .before .before .before .before .before .before .before .before .before .before .before .args in
+    refused-says (inputOf (x .store .now) (x .graph .now) (x .tips .now) (x .hidden .now) (x .excluded .now) (x .settings)) (lentOf (x .names .now) (x .marks .now) (x .levels .now) (x .times .now) (x .line .now) (x .parents .now)) _
+    (sym (c .before .before .r .given .1) ∙ c .before .before .before .before .check .ensures) (c .refused-open .ensures)
+
+same-length : tie.Need-same-length
+same-length c = search needs
+
+same-length-2 : tie.Need-same-length-2
+same-length-2 c = search needs
+
+same-length-3 : tie.Need-same-length-3
+same-length-3 c = search needs
+
+same-length-4 : tie.Need-same-length-4
+same-length-4 c = search needs
+
+returns-2 : tie.Need-returns-2
+unfolding lengthsOf
+returns-2 c =
+    let x = c .before .before .before .before .before .before .before .before .before .before .before .before .before .before .before .before .before .before .before .before .before .before .before .before .before .before .args in
+    accepted-says (inputOf (x .store .now) (x .graph .now) (x .tips .now) (x .hidden .now) (x .excluded .now) (x .settings)) (lentOf (x .names .now) (x .marks .now) (x .levels .now) (x .times .now) (x .line .now) (x .parents .now)) _ _
+    (sym (c .before .before .before .before .before .before .before .before .before .before .before .before .before .enum-told .given .1) ∙ c .before .before .before .before .before .before .before .before .before .before .before .before .before .before .before .check .ensures) (c .before .before .before .before .before .before .before .before .fill .ensures) (c .accepted-open .ensures) refl refl
+
+pub open-spec : {M : Type 1} → statement M
+open-spec =
+    tie.close
+    (tie.spec
+    check-requires
+    enum-known-r
+    refused-open-requires
+    enum-told
+    fill-requires
+    accepted-open-requires
+    returns
+    same-length
+    same-length-2
+    same-length-3
+    same-length-4
+    returns-2)

@@ -1,0 +1,77 @@
+-- `open::take_tips` meets its contract: after k turns the memory reads as the state with the first k tips let in. Assumes nothing.
+use Prim.Native.Nat.{_+_, _-_, _<_}
+use native.Mathlib.Omega.{arith}
+use Rattle.state.specs.Steps.{mem}
+use Rattle.traverse.proofs.OpenLoop.{Turns, turns-start, turns-next, turns-end}
+use borrow.Author.Needs.{needs}
+use Rattle.traverse.proofs.open.take_tips.Statement.{statement}
+use Rattle.traverse.proofs.open.take_tips.Tie as tie
+
+abbrev Inv-loop : tie.InvT-loop
+Inv-loop names₀ marks₀ times₀ line₀ store tips excluded sorting n r₀ k₀ names marks times line r k =
+    Turns store tips excluded sorting (mem names₀ marks₀ times₀ line₀) r₀ n (mem names marks times line) r k
+
+abbrev μ-loop : tie.MeasureT-loop
+μ-loop names₀ marks₀ times₀ line₀ store tips excluded sorting n r₀ k₀ names marks times line r k = n - k
+
+loop-holds : tie.Need-loop-holds Inv-loop μ-loop
+loop-holds c = turns-start
+
+mul-id-at : tie.Need-mul-id-at Inv-loop μ-loop
+mul-id-at c = search needs
+
+id-at-requires : tie.Need-id-at-requires Inv-loop μ-loop
+id-at-requires c κs = search needs
+
+take-tip-requires : tie.Need-take-tip-requires Inv-loop μ-loop
+take-tip-requires c κs = search needs
+
+-- a place of the list is a small number
+low : (c : tie.In-loop Inv-loop μ-loop) → c .before .loop .k + 1 < 18446744073709551616
+low c = search needs
+
+add-k : tie.Need-add-k Inv-loop μ-loop
+add-k c = record { fits = omega (arith, low (c .before .before .before .before .before .before .before .before .before .before .before .before .before)) }
+
+loop-less : tie.Need-loop-less Inv-loop μ-loop
+loop-less c = search needs
+
+loop-again : tie.Need-loop-again Inv-loop μ-loop
+loop-again c =
+    let t = c .before .before .before .before .before .before .before in
+    let d = t .before .before .before .before .before in
+    turns-next (d .before .before .loop .inv) (d .before .loop-test .taken) (rw (d .id-at .ensures) at (t .take-tip .ensures))
+
+same-length : tie.Need-same-length Inv-loop μ-loop
+same-length c = c .before .loop .inv .long .names
+
+same-length-2 : tie.Need-same-length-2 Inv-loop μ-loop
+same-length-2 c = c .before .loop .inv .long .marks
+
+same-length-3 : tie.Need-same-length-3 Inv-loop μ-loop
+same-length-3 c = c .before .loop .inv .long .times
+
+same-length-4 : tie.Need-same-length-4 Inv-loop μ-loop
+same-length-4 c = c .before .loop .inv .long .line
+
+returns : tie.Need-returns Inv-loop μ-loop
+returns c = turns-end (c .before .loop .inv) (search needs)
+
+pub take-tips-spec : {M : Type 1} → statement M
+take-tips-spec =
+    tie.close
+    (tie.spec
+    Inv-loop
+    μ-loop
+    loop-holds
+    mul-id-at
+    id-at-requires
+    take-tip-requires
+    add-k
+    loop-less
+    loop-again
+    same-length
+    same-length-2
+    same-length-3
+    same-length-4
+    returns)

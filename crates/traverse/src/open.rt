@@ -1,0 +1,307 @@
+// An opening: all tests first, then the memory is emptied and the tips are let in, in list order.
+use super::Opened;
+use date::Seconds;
+use opening::Checked;
+use reading::TipRead;
+use revwalk::queue::Queue;
+use state::Record;
+use state::Seen;
+use walk::CommitTimeOrder;
+use walk::OpenAnswer;
+use walk::OpenOutcome;
+use walk::Parents;
+use walk::Refusal;
+use walk::Settings;
+use walk::Sorting;
+ghost use Prim.Native.Nat.{ℕ};
+ghost use mathlib.Core.Path.{_≡_};
+ghost use mathlib.Core.Bool.{true, _&&_};
+ghost use mathlib.Core.List.{List};
+ghost use Rattle.odb.specs.Store.{storeOk};
+ghost use Rattle.walk.specs.Settings.{timed, byTime, cutoffOf, notBefore};
+ghost use Rattle.walk.specs.Lookup.{worldOf};
+ghost use Rattle.opening.specs.Checks.{inputOf};
+ghost use Rattle.state.specs.Reads.{closedRecord};
+ghost use Rattle.state.specs.Shapes.{isNewest, newestOf, freshRecord};
+ghost use Rattle.state.specs.Steps.{mem};
+ghost use Rattle.traverse.specs.Contract.{OpenSays};
+ghost use Rattle.traverse.specs.Open.{lentOf, readAs, admissionOf, Admits, TakesTip, TakesTips, Fills, Refuses, Accepts};
+
+// How a tip that is neither excluded nor a repeat comes in: it waits, with its seconds, or a cutoff turns it away and it is only seen.
+pub enum Admission {
+    Admitted(Seconds),
+    OnlySeen,
+}
+
+// Whether an order is a time order.
+fn is_timed(sorting: Sorting) -> bool
+    ensures { λ r. ⌜ r ≡ timed sorting ⌝ }
+{
+    match sorting {
+        Sorting::BreadthFirst => false,
+        Sorting::ByCommitTime(_) => true,
+        Sorting::ByCommitTimeCutoff { .. } => true,
+    }
+}
+
+// Whether the queue keeps a time order: in the mode First it does not.
+fn is_by_time(settings: Settings) -> bool
+    ensures { λ r. ⌜ r ≡ byTime settings ⌝ }
+{
+    let parents = settings.parents;
+    let sorting = settings.sorting;
+    match parents {
+        Parents::All => is_timed(sorting),
+        Parents::First => false,
+    }
+}
+
+fn is_newest(order: CommitTimeOrder) -> bool
+    ensures { λ r. ⌜ r ≡ isNewest order ⌝ }
+{
+    match order {
+        CommitTimeOrder::NewestFirst => true,
+        CommitTimeOrder::OldestFirst => false,
+    }
+}
+
+// Whether an order takes the newest first.
+fn takes_newest(sorting: Sorting) -> bool
+    ensures { λ r. ⌜ r ≡ newestOf sorting ⌝ }
+{
+    match sorting {
+        Sorting::BreadthFirst => false,
+        Sorting::ByCommitTime(order) => is_newest(order),
+        Sorting::ByCommitTimeCutoff { order, .. } => is_newest(order),
+    }
+}
+
+// Whether these seconds are not before the cutoff, where there is one.
+fn in_time(sorting: Sorting, s: Seconds) -> bool
+    ensures { λ r. ⌜ r ≡ notBefore (cutoffOf sorting) (s .0) ⌝ }
+{
+    match sorting {
+        Sorting::BreadthFirst => true,
+        Sorting::ByCommitTime(_) => true,
+        Sorting::ByCommitTimeCutoff { seconds, .. } => !date::before(s, seconds),
+    }
+}
+
+// How a tip that was read comes in.
+fn read_as(sorting: Sorting, read: TipRead) -> Admission
+    ensures { λ r. ⌜ r ≡ readAs sorting read ⌝ }
+{
+    match read {
+        TipRead::Good(s) => {
+            if in_time(sorting, s) {
+                Admission::Admitted(s)
+            } else {
+                Admission::OnlySeen
+            }
+        }
+        TipRead::Missing => Admission::OnlySeen,
+        TipRead::Unreadable => Admission::OnlySeen,
+    }
+}
+
+// How a tip comes in: under a time order it is read, from the store alone.
+fn tip_admission(store: &[u8], sorting: Sorting, id: &[u8]) -> Admission
+    ensures { λ r. ⌜ (storeOk (now (store .entry)) ≡ true → (graph : List ℕ) → r ≡ admissionOf (worldOf (now (store .entry)) graph) sorting (now (id .entry))) ⌝ }
+{
+    if !is_timed(sorting) {
+        return Admission::Admitted(Seconds(0));
+    }
+    read_as(sorting, reading::read_tip(store, id))
+}
+
+// A tip that is new waits in its slot, or is only seen.
+fn admit(r: Record, times: &mut [i64], line: &mut [u32], seen: Seen, how: Admission) -> Record
+    ensures { λ a. ⌜ Admits r (now (times .entry)) (now (times .exit)) (now (line .entry)) (now (line .exit)) seen how a ⌝ }
+{
+    if !seen.fresh {
+        return r;
+    }
+    match how {
+        Admission::Admitted(s) => state::wait(r, times, line, seen.slot, s),
+        Admission::OnlySeen => r,
+    }
+}
+
+// One tip of the list: an excluded one and a repeat are passed over.
+fn take_tip(
+    r: Record,
+    names: &mut [u8],
+    marks: &mut [u8],
+    times: &mut [i64],
+    line: &mut [u32],
+    store: &[u8],
+    excluded: &[u8],
+    sorting: Sorting,
+    id: &[u8],
+) -> Record
+    ensures { λ a. ⌜ TakesTip (now (store .entry)) (now (excluded .entry)) sorting (mem (now (names .entry)) (now (marks .entry)) (now (times .entry)) (now (line .entry))) (mem (now (names .exit)) (now (marks .exit)) (now (times .exit)) (now (line .exit))) (now (id .entry)) r a ⌝ }
+{
+    if reading::is_among(excluded, id) {
+        return r;
+    }
+    let seen = state::see(r, names, marks, id);
+    admit(r, times, line, seen, tip_admission(store, sorting, id))
+}
+
+// All tips, in list order.
+fn take_tips(
+    first: Record,
+    names: &mut [u8],
+    marks: &mut [u8],
+    times: &mut [i64],
+    line: &mut [u32],
+    store: &[u8],
+    tips: &[u8],
+    excluded: &[u8],
+    sorting: Sorting,
+) -> Record
+    ensures { λ a. ⌜ TakesTips (now (store .entry)) (now (tips .entry)) (now (excluded .entry)) sorting (mem (now (names .entry)) (now (marks .entry)) (now (times .entry)) (now (line .entry))) (mem (now (names .exit)) (now (marks .exit)) (now (times .exit)) (now (line .exit))) first a ⌝ }
+{
+    let n = tips.len() / hash::ID_BYTES;
+    let mut r = first;
+    let mut k = 0;
+    while k < n {
+        let id = hash::id_at(tips, hash::ID_BYTES * k);
+        r = take_tip(r, names, marks, times, line, store, excluded, sorting, id);
+        k += 1;
+    }
+    r
+}
+
+// The record of a walk with these settings, before any tip.
+fn first_record(settings: Settings, cap: usize) -> Record
+    ensures { λ r. ⌜ r ≡ freshRecord (byTime settings) (byTime settings && newestOf (settings .sorting)) cap ⌝ }
+{
+    let sorting = settings.sorting;
+    if is_by_time(settings) {
+        return state::fresh_record(true, takes_newest(sorting), cap);
+    }
+    state::fresh_record(false, false, cap)
+}
+
+// Empties the memory and lets the tips in.
+fn fill(
+    store: &[u8],
+    graph: &[u8],
+    tips: &[u8],
+    hidden: &[u8],
+    excluded: &[u8],
+    settings: Settings,
+    names: &mut [u8],
+    marks: &mut [u8],
+    times: &mut [i64],
+    line: &mut [u32],
+) -> Record
+    ensures { λ a. ⌜ Fills (inputOf (now (store .entry)) (now (graph .entry)) (now (tips .entry)) (now (hidden .entry)) (now (excluded .entry)) settings) (mem (now (names .entry)) (now (marks .entry)) (now (times .entry)) (now (line .entry))) (mem (now (names .exit)) (now (marks .exit)) (now (times .exit)) (now (line .exit))) a ⌝ }
+{
+    let cap = opening::capacity(store, graph, tips, hidden);
+    state::start(marks, cap);
+    let r = first_record(settings, cap);
+    let sorting = settings.sorting;
+    take_tips(r, names, marks, times, line, store, tips, excluded, sorting)
+}
+
+// The record of a walk that is not open.
+fn closed_record() -> Record
+    ensures { λ r. ⌜ r ≡ closedRecord ⌝ }
+{
+    Record {
+        live: false,
+        painted: false,
+        failed: false,
+        kept: false,
+        queue: Queue {
+            timed: false,
+            newest: false,
+            cap: 0,
+            head: 0,
+            count: 0,
+            next: 0,
+        },
+        admitted: 0,
+        struck: 0,
+    }
+}
+
+// What a refused opening gives back: zeros, and the closed record.
+fn refused_open(r: Refusal) -> Opened
+    ensures { λ o. ⌜ Refuses r o ⌝ }
+{
+    Opened {
+        answer: OpenAnswer {
+            outcome: OpenOutcome::NotOpened(r),
+            admitted: 0,
+            struck: 0,
+            waiting: 0,
+        },
+        record: closed_record(),
+    }
+}
+
+// What an accepted opening gives back.
+fn accepted_open(r: Record) -> Opened
+    ensures { λ o. ⌜ Accepts r o ⌝ }
+{
+    let q = r.queue;
+    Opened {
+        answer: OpenAnswer {
+            outcome: OpenOutcome::Accepted,
+            admitted: r.admitted,
+            struck: r.struck,
+            waiting: q.count,
+        },
+        record: r,
+    }
+}
+
+// Opens a walk: a refused opening alters no lent byte.
+pub fn open(
+    store: &[u8],
+    graph: &[u8],
+    tips: &[u8],
+    hidden: &[u8],
+    excluded: &[u8],
+    settings: Settings,
+    names: &mut [u8],
+    marks: &mut [u8],
+    levels: &mut [u32],
+    times: &mut [i64],
+    line: &mut [u32],
+    parents: &mut [u8],
+) -> Opened
+    ensures { λ o. ⌜ OpenSays (inputOf (now (store .entry)) (now (graph .entry)) (now (tips .entry)) (now (hidden .entry)) (now (excluded .entry)) settings) (lentOf (now (names .entry)) (now (marks .entry)) (now (levels .entry)) (now (times .entry)) (now (line .entry)) (now (parents .entry))) o (lentOf (now (names .exit)) (now (marks .exit)) (now (levels .exit)) (now (times .exit)) (now (line .exit)) (now (parents .exit))) ⌝ }
+{
+    match opening::check(
+        store,
+        graph,
+        tips,
+        hidden,
+        excluded,
+        settings,
+        names.len(),
+        marks.len(),
+        levels.len(),
+        times.len(),
+        line.len(),
+        parents.len(),
+    ) {
+        Checked::Refused(r) => refused_open(r),
+        Checked::Fine => accepted_open(fill(
+            store,
+            graph,
+            tips,
+            hidden,
+            excluded,
+            settings,
+            names,
+            marks,
+            times,
+            line,
+        )),
+    }
+}

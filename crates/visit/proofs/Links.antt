@@ -1,0 +1,180 @@
+-- A link to a parent is the walk's own visit: a known parent changes nothing, a new one is seen in a slot of its own, and waits where its link is admitted.
+-- The ids stay in the universe, since the parent is in it, and at most one commit more is admitted. Assumes nothing.
+use mathlib.Core.Path.{_≡_, refl, sym, ap, _∙_, subst}
+use mathlib.Core.Logic.{⊎-elim}
+use Prim.Native.Nat.{ℕ, suc, _+_, _≤_, _<_}
+use mathlib.Core.Bool.{Bool, true, false, cond, not, _&&_, _||_}
+use mathlib.Core.List.{List, List·Memᴰ}
+use native.Mathlib.Omega.{arith}
+use lib.ListN.{length, getD}
+use lib.IntN.{ℤ, pos}
+use Rattle.hash.specs.Bytes.{Id, idBytes, among}
+use Rattle.hash.proofs.Tests.{byCases, clash}
+use Rattle.walk.specs.declared.Settings.{Settings}
+use Rattle.walk.specs.Settings.{onlyFirst, cutoffOf, notBefore}
+use Rattle.walk.specs.State.{Walk, State, sees, waits}
+use Rattle.walk.specs.Opening.{listIds}
+use Rattle.walk.specs.Next.{admits, visit}
+use Rattle.walk.proofs.Laws.{add-cases}
+use Rattle.state.specs.declared.Record.{Record}
+use Rattle.state.specs.declared.Seen.{Seen}
+use Rattle.state.specs.Reads.{Memory, Shape, Reads, Universe}
+use Rattle.state.specs.Shapes.{beforeOf, shapeFor, joins}
+use Rattle.state.specs.Steps.{mem, Sees, Waits}
+use Rattle.state.proofs.Shapes.{waits-shape}
+use Rattle.visit.specs.Link.{GoesBy, Ready, Went, Admits, Enters, Visits}
+
+-- ---- the walk's visit, case by case
+
+module _ (v : Walk) (st : State) (x : Id) (t : ℤ) where
+  pub visit-old : (st .frontier x || st .seen x) ≡ true → visit v st x t ≡ st
+  unfolding visit
+  visit-old e = ap (λ (b : Bool). cond b st (cond (admits v x t) (waits v st x t) (sees st x))) e
+
+  visit-new : (b : Bool) → (st .frontier x || st .seen x) ≡ false → admits v x t ≡ b → visit v st x t ≡ cond b (waits v st x t) (sees st x)
+  unfolding visit
+  visit-new b e a =
+      ap (λ (c : Bool). cond c st (cond (admits v x t) (waits v st x t) (sees st x))) e
+      ∙ ap (λ (c : Bool). cond c (waits v st x t) (sees st x)) a
+
+  sees-inside : {sh : Shape} {u : List Id} → List·Memᴰ x u → Universe sh st u → Universe sh (sees st x) u
+  unfolding sees
+  sees-inside i d = record { few = d .few; has-seen = λ y k. ⊎-elim (λ e. rw e i) (d .has-seen y) (add-cases (st .seen) x y k); has-frontier = d .has-frontier }
+
+  waits-inside : {sh : Shape} {u : List Id} → List·Memᴰ x u → Universe sh st u → Universe sh (waits v st x t) u
+  unfolding waits
+  waits-inside i d = record { few = d .few; has-seen = λ y k. ⊎-elim (λ e. rw e i) (d .has-seen y) (add-cases (st .seen) x y k); has-frontier = d .has-frontier }
+
+  waits-count : waits v st x t .admitted ≡ suc (st .admitted)
+  unfolding waits
+  waits-count = refl
+
+  sees-count : sees st x .admitted ≡ st .admitted
+  unfolding sees
+  sees-count = refl
+
+-- ---- whether a link is admitted
+
+at-settings : (excluded : List ℕ) (settings : Settings) (x : Id) (t : ℤ) (v : Walk) → v .settings ≡ settings → v .excluded ≡ listIds excluded
+    → (not (among x (listIds excluded)) && (onlyFirst settings || notBefore (cutoffOf (settings .sorting)) t)) ≡ admits v x t
+unfolding admits
+at-settings excluded settings x t v p q =
+    ap (λ (l : List Id). not (among x l) && (onlyFirst settings || notBefore (cutoffOf (settings .sorting)) t)) (sym q)
+    ∙ ap (λ (s : Settings). not (among x (v .excluded)) && (onlyFirst s || notBefore (cutoffOf (s .sorting)) t)) (sym p)
+
+module _ {excluded : List ℕ} {settings : Settings} {x : Id} {t : ℤ} where
+  pub not-admitted : {b : Bool} → b ≡ among x (listIds excluded) → b ≡ true → Admits excluded settings x t false
+  not-admitted e k = record { right = λ v p q. rw (sym e ∙ k) at (at-settings excluded settings x t v p q) }
+
+  pub first-admitted : {b c : Bool} → b ≡ among x (listIds excluded) → b ≡ false → c ≡ onlyFirst settings → c ≡ true → Admits excluded settings x t true
+  first-admitted e k f l = record { right = λ v p q. rw (sym e ∙ k, sym f ∙ l) at (at-settings excluded settings x t v p q) }
+
+  pub timed-admitted : {b c d : Bool} → b ≡ among x (listIds excluded) → b ≡ false → c ≡ onlyFirst settings → c ≡ false → d ≡ notBefore (cutoffOf (settings .sorting)) t
+      → Admits excluded settings x t d
+  timed-admitted e k f l m = record { right = λ v p q. m ∙ (rw (sym e ∙ k, sym f ∙ l) at (at-settings excluded settings x t v p q)) }
+
+-- ---- a parent enters
+
+module _ {excluded : List ℕ} {settings : Settings} {r : Record} {times : List ℤ} {line : List ℕ} {x : Id} {t : ℤ} {a : Seen} where
+  pub enters-known : a .fresh ≡ false → Enters excluded settings r times times line line x t a r
+  enters-known f = record {
+    known = λ g. (refl, refl, refl);
+    turned = λ g v p q n. (refl, refl, refl);
+    admitted = λ g v p q n. clash g f;
+  }
+
+  pub enters-turned : {b : Bool} → Admits excluded settings x t b → b ≡ false → Enters excluded settings r times times line line x t a r
+  enters-turned d e = record {
+    known = λ g. (refl, refl, refl);
+    turned = λ g v p q n. (refl, refl, refl);
+    admitted = λ g v p q n. clash n (sym (d .right v p q) ∙ e);
+  }
+
+  pub enters-admitted : {b : Bool} {times′ : List ℤ} {line′ : List ℕ} {r′ : Record} → a .fresh ≡ true → Admits excluded settings x t b → b ≡ true → Waits r times times′ line line′ (a .slot) t r′
+      → Enters excluded settings r times times′ line line′ x t a r′
+  enters-admitted f d e w = record {
+    known = λ g. clash f g;
+    turned = λ g v p q n. clash (sym (d .right v p q) ∙ e) n;
+    admitted = λ g v p q n. w;
+  }
+
+-- ---- a visit
+
+same-state : {r r′ : Record} {names marks names′ marks′ : List ℕ} {times times′ : List ℤ} {line line′ : List ℕ} {sh : Shape} {st : State}
+    → Reads r (mem names marks times line) sh st → names′ ≡ names → marks′ ≡ marks → times′ ≡ times → line′ ≡ line → r′ ≡ r
+    → Reads r′ (mem names′ marks′ times′ line′) sh st
+same-state g p q h l e = rw (p, q, h, l, e) g
+
+joins-waits : {v : Walk} {sh : Shape} {excluded : List ℕ} {settings : Settings} → GoesBy v sh excluded settings → (st : State) (x : Id) (t : ℤ)
+    → joins (beforeOf sh) (sees st x) x (cond (sh .timed) t (pos 0)) ≡ waits v st x t
+joins-waits {v} {sh} {excluded} {settings} by st x t =
+    ap (λ (q : Shape). joins (beforeOf q) (sees st x) x (cond (q .timed) t (pos 0))) (by .shape ∙ ap (λ (q : Settings). shapeFor q (sh .cap)) (sym (by .same-settings)))
+    ∙ sym (waits-shape v (sh .cap) st x t)
+
+module _ (excluded : List ℕ) (settings : Settings) (r r′ : Record) (names marks names′ marks′ : List ℕ) (times times′ : List ℤ) (line line′ : List ℕ) (x : Id) (a : Seen)
+    (s : Sees r names marks names′ marks′ x a) where
+  module _ (v : Walk) (sh : Shape) (st : State) (u : List Id) (n : ℕ) (by : GoesBy v sh excluded settings) (d : Ready sh r (mem names marks times line) st u (suc n))
+      (w : length x ≡ idBytes) (i : List·Memᴰ x u) where
+    abbrev Goal : State → Type 0
+    Goal st′ = Went sh (mem names marks times line) r′ (mem names′ marks′ times′ line′) st′ u n
+
+    -- nothing is changed but what is seen
+    still : (st′ : State) → Reads r′ (mem names′ marks′ times′ line′) sh st′ → r′ ≡ r → line′ ≡ line → Universe sh st′ u → st′ .admitted ≡ st .admitted → Goal st′
+    still st′ g e l j c = record {
+      ready = record { reads = g; failed = ap (λ (q : Record). q .failed) e ∙ d .failed; inside = j; slots = d .slots; numbers = omega (arith, d .numbers, c) };
+      line-kept = λ k h. ap (λ (q : List ℕ). getD q k 0) l;
+    }
+
+    went-known : {t : ℤ} → Enters excluded settings r times times′ line line′ x t a r′ → a .fresh ≡ false → Goal st
+    went-known e f =
+        let o = s .still f in
+        let p = e .known f in
+        still st (same-state (d .reads) (o .0) (o .1) (p .0) (p .1) (p .2)) (p .2) (p .1) (d .inside) refl
+
+    went-turned : {t : ℤ} → Enters excluded settings r times times′ line line′ x t a r′ → (st .frontier x || st .seen x) ≡ false → admits v x t ≡ false → Goal (sees st x)
+    went-turned e k n =
+        let o = s .new times line sh st (d .reads) (d .failed) w k u (d .inside) i in
+        let p = e .turned (o .fresh) v (by .same-settings) (by .same-excluded) n in
+        let g : Reads r′ (mem names′ marks′ times′ line′) sh (sees st x) = rw (p .0, p .1, p .2) (o .reads) in
+        still (sees st x) g (p .2) (p .1) (sees-inside v st x (pos 0) i (d .inside)) (sees-count v st x (pos 0))
+
+    went-admitted : {t : ℤ} → Enters excluded settings r times times′ line line′ x t a r′ → (st .frontier x || st .seen x) ≡ false → admits v x t ≡ true → Goal (waits v st x t)
+    went-admitted {t} e k n =
+        let o = s .new times line sh st (d .reads) (d .failed) w k u (d .inside) i in
+        let p = e .admitted (o .fresh) v (by .same-settings) (by .same-excluded) n in
+        let g = p .joined names′ marks′ sh (sees st x) x (o .reads) (d .failed) (o .slot) (d .slots) (omega (arith, d .numbers, d .reads .admitted)) in
+        record {
+          ready = record {
+            reads = subst (Reads r′ (mem names′ marks′ times′ line′) sh) (joins-waits by st x t) g;
+            failed = p .failed ∙ d .failed;
+            inside = waits-inside v st x t i (d .inside);
+            slots = d .slots;
+            numbers = omega (arith, d .numbers, waits-count v st x t);
+          };
+          line-kept = λ j h. p .for-line .kept j (omega (arith, h, d .reads .cap));
+        }
+
+    went : (t : ℤ) → Enters excluded settings r times times′ line line′ x t a r′ → Goal (visit v st x t)
+    went t e =
+        byCases (st .frontier x || st .seen x)
+        (λ k. subst Goal (sym (visit-old v st x t k)) (went-known e (s .old times line sh st (d .reads) k)))
+        (λ k. byCases (admits v x t)
+        (λ n. subst Goal (sym (visit-new v st x t true k n)) (went-admitted e k n))
+        (λ n. subst Goal (sym (visit-new v st x t false k n)) (went-turned e k n)))
+
+    -- the seconds of a known parent do not count
+    went-with : (t t′ : ℤ) → (a .fresh ≡ true → t ≡ t′) → Enters excluded settings r times times′ line line′ x t a r′ → Goal (visit v st x t′)
+    went-with t t′ f e =
+        byCases (st .frontier x || st .seen x)
+        (λ k. subst Goal (sym (visit-old v st x t′ k)) (went-known e (s .old times line sh st (d .reads) k)))
+        (λ k.
+        let q : t ≡ t′ = f (s .new times line sh st (d .reads) (d .failed) w k u (d .inside) i .fresh) in
+        subst (λ (z : ℤ). Goal (visit v st x z)) q (went t e))
+
+-- where the seconds t of a new parent are t′
+pub visits : {excluded : List ℕ} {settings : Settings} {r r′ : Record} {names marks names′ marks′ : List ℕ} {times times′ : List ℤ} {line line′ : List ℕ} {x : Id} {a : Seen}
+    → Sees r names marks names′ marks′ x a → (t t′ : ℤ) → (a .fresh ≡ true → t ≡ t′) → Enters excluded settings r times times′ line line′ x t a r′
+    → Visits excluded settings r (mem names marks times line) (mem names′ marks′ times′ line′) x t′ r′
+visits {excluded} {settings} {r} {r′} {names} {marks} {names′} {marks′} {times} {times′} {line} {line′} {x} {a} s t t′ f e = record {
+  right = λ v sh st u n by d w i. went-with excluded settings r r′ names marks names′ marks′ times times′ line line′ x a s v sh st u n by d w i t t′ f e;
+}

@@ -1,0 +1,81 @@
+-- What the visits of a commit's parents promise: the state after the walk's own visits, and the ids at the start of the buffer parents.
+-- Assumes nothing.
+use Prim.Native.Nat.{ℕ, _+_, _*_, _≤_, _<_}
+use mathlib.Core.Path.{_≡_}
+use mathlib.Core.Bool.{true}
+use mathlib.Core.List.{List, [], map, List·Memᴰ}
+use lib.ListN.{length, take, getD}
+use lib.IntN.{ℤ, pos}
+use Rattle.hash.specs.Bytes.{Id, idBytes, setDown}
+use Rattle.object.specs.Header.{Header, header}
+use Rattle.odb.specs.Store.{storeOk}
+use Rattle.commitgraph.specs.Graph.{graphOk, layoutOf}
+use Rattle.commitgraph.specs.declared.Layout.{Layout}
+use Rattle.walk.specs.declared.Settings.{Settings}
+use Rattle.walk.specs.Settings.{followed}
+use Rattle.walk.specs.Lookup.{World, row, rowAt, worldOf, secondsFor}
+use Rattle.walk.specs.State.{Walk, State}
+use Rattle.walk.specs.Next.{visitAll, ending}
+use Rattle.walk.specs.Given.{joined}
+use Rattle.reading.specs.declared.body.BodyEnd.the-variants.{Whole}
+use Rattle.reading.specs.Body.{endOf, refusalOf}
+use Rattle.state.specs.declared.Record.{Record}
+use Rattle.state.specs.Reads.{Memory, Shape}
+use Rattle.visit.specs.declared.body.BodyRead.{BodyRead}
+use Rattle.visit.specs.declared.body.BodyVisited.{BodyVisited}
+use Rattle.visit.specs.Link.{GoesBy, Ready, Went, Visits}
+
+-- the parents ps, each with its seconds, are visited, and their ids set down at the start of the buffer b
+pub record VisitsAll (excluded : List ℕ) (settings : Settings) (r : Record) (m m′ : Memory) (b b′ : List ℕ) (ps : List (Id × ℤ)) (r′ : Record) : Type 0 where
+  pub went : (v : Walk) (sh : Shape) (st : State) (u : List Id) (n : ℕ) → GoesBy v sh excluded settings → Ready sh r m st u (length ps + n) → ((p : Id × ℤ) → List·Memᴰ p ps → List·Memᴰ (p .0) u)
+      → Went sh m r′ m′ (visitAll v st ps) u n
+  pub down : 5120 ≤ length b → b′ ≡ setDown b 0 (joined (map (λ p. p .0) ps))
+
+-- ---- of a row
+
+-- parent k of the row at position p is set down and visited
+pub record VisitsRowParent (excluded : List ℕ) (settings : Settings) (g : List ℕ) (l : Layout) (p k : ℕ) (r : Record) (m m′ : Memory) (b b′ : List ℕ) (r′ : Record) : Type 0 where
+  pub right : l ≡ layoutOf g → (ps : List (Id × ℤ)) (v : ℕ) (t : ℤ) → rowAt g p ≡ row ps v t → k < length ps
+      → Visits excluded settings r m m′ (getD ps k ([], pos 0) .0) (getD ps k ([], pos 0) .1) r′ × (b′ ≡ setDown b (idBytes * k) (getD ps k ([], pos 0) .0))
+
+-- the first n parents of the row at position p
+pub record VisitsRow (excluded : List ℕ) (settings : Settings) (g : List ℕ) (l : Layout) (p n : ℕ) (r : Record) (m m′ : Memory) (b b′ : List ℕ) (r′ : Record) : Type 0 where
+  pub right : graphOk g ≡ true → l ≡ layoutOf g → (ps : List (Id × ℤ)) (v : ℕ) (t : ℤ) → rowAt g p ≡ row ps v t → n ≤ length ps → VisitsAll excluded settings r m m′ b b′ (take n ps) r′
+
+-- ---- of a body
+
+-- the parents of a commit from the store, each with its seconds there
+abbrev pub stored : World → List Id → List (Id × ℤ)
+stored w l = map (λ x. (x, secondsFor w x)) l
+
+-- parent k of the body d
+pub record VisitsBodyParent (excluded : List ℕ) (settings : Settings) (store d : List ℕ) (k : ℕ) (r : Record) (m m′ : Memory) (b b′ : List ℕ) (r′ : Record) : Type 0 where
+  pub right : storeOk store ≡ true → (g : List ℕ) → header d .tree ≡ true → k < length (header d .ids)
+      → Visits excluded settings r m m′ (getD (header d .ids) k []) (secondsFor (worldOf store g) (getD (header d .ids) k [])) r′
+      × (b′ ≡ setDown b (idBytes * k) (getD (header d .ids) k []))
+
+-- the first n parents of the body d
+pub record VisitsParents (excluded : List ℕ) (settings : Settings) (store d : List ℕ) (n : ℕ) (r : Record) (m m′ : Memory) (b b′ : List ℕ) (r′ : Record) : Type 0 where
+  pub right : storeOk store ≡ true → (g : List ℕ) → n ≤ length (header d .ids) → VisitsAll excluded settings r m m′ b b′ (stored (worldOf store g) (take n (header d .ids))) r′
+
+-- "save where First has stopped": the first parent alone, and how the reading of a header with a good tree line ends
+pub record EndsFirst (h : Header) (r : BodyRead) : Type 0 where
+  pub parents : h .tree ≡ true → r .parents ≡ length (take 1 (h .ids))
+  pub stopped : h .tree ≡ true → 0 < length (h .ids) → r .ends ≡ Whole
+  pub ends : h .tree ≡ true → length (h .ids) ≡ 0 → r .ends ≡ endOf h
+
+-- all parents
+pub record EndsAll (h : Header) (r : BodyRead) : Type 0 where
+  pub parents : h .tree ≡ true → r .parents ≡ length (h .ids)
+  pub ends : h .tree ≡ true → r .ends ≡ endOf h
+
+-- the parents that the mode follows, and why the header is refused
+pub record ReadsBody (settings : Settings) (h : Header) (r : BodyRead) : Type 0 where
+  pub parents : r .parents ≡ length (followed settings (h .ids))
+  pub ends : refusalOf (r .ends) ≡ ending settings h
+
+-- the parents of a body with the header h that the mode follows, and why the header is refused
+pub record VisitsBody (excluded : List ℕ) (settings : Settings) (store : List ℕ) (h : Header) (r : Record) (m m′ : Memory) (b b′ : List ℕ) (a : BodyVisited) : Type 0 where
+  pub parents : a .parents ≡ length (followed settings (h .ids))
+  pub ends : refusalOf (a .ends) ≡ ending settings h
+  pub right : storeOk store ≡ true → (g : List ℕ) → VisitsAll excluded settings r m m′ b b′ (stored (worldOf store g) (followed settings (h .ids))) (a .after)

@@ -1,0 +1,117 @@
+// One link to a parent (`insert_into_seen_and_next`, `insert_into_seen_and_queue`).
+use date::Seconds;
+use state::Record;
+use state::Seen;
+use walk::Parents;
+use walk::Settings;
+use walk::Sorting;
+ghost use mathlib.Core.Path.{_≡_};
+ghost use mathlib.Core.Bool.{true};
+ghost use Rattle.walk.specs.Settings.{onlyFirst, cutoffOf, notBefore};
+ghost use Rattle.reading.specs.Tip.{GivesSeconds};
+ghost use Rattle.state.specs.Steps.{mem};
+ghost use Rattle.visit.specs.Link.{Admits, Enters, Visits, VisitsStored};
+
+// Whether a walk follows first parents alone.
+pub(crate) fn only_first(settings: Settings) -> bool
+    ensures { λ r. ⌜ r ≡ onlyFirst settings ⌝ }
+{
+    let parents = settings.parents;
+    match parents {
+        Parents::All => false,
+        Parents::First => true,
+    }
+}
+
+// Whether a time is not before the cutoff, where there is one.
+fn not_before(sorting: Sorting, s: Seconds) -> bool
+    ensures { λ r. ⌜ r ≡ notBefore (cutoffOf sorting) (s .0) ⌝ }
+{
+    match sorting {
+        Sorting::BreadthFirst => true,
+        Sorting::ByCommitTime(_) => true,
+        Sorting::ByCommitTimeCutoff { seconds, .. } => !date::before(s, seconds),
+    }
+}
+
+// Whether the link to a parent that is not seen yet is admitted: it is not excluded, and not before the cutoff, which first parents ignore.
+pub fn admits(excluded: &[u8], settings: Settings, id: &[u8], s: Seconds) -> bool
+    ensures { λ r. ⌜ Admits (now (excluded .entry)) settings (now (id .entry)) (s .0) r ⌝ }
+{
+    if reading::is_among(excluded, id) {
+        return false;
+    }
+    if only_first(settings) {
+        return true;
+    }
+    let sorting = settings.sorting;
+    not_before(sorting, s)
+}
+
+// A parent that is new waits, if its link is admitted.
+fn enter(
+    r: Record,
+    seen: Seen,
+    times: &mut [i64],
+    line: &mut [u32],
+    excluded: &[u8],
+    settings: Settings,
+    id: &[u8],
+    s: Seconds,
+) -> Record
+    ensures { λ a. ⌜ Enters (now (excluded .entry)) settings r (now (times .entry)) (now (times .exit)) (now (line .entry)) (now (line .exit)) (now (id .entry)) (s .0) seen a ⌝ }
+{
+    if seen.fresh {
+        if admits(excluded, settings, id, s) {
+            return state::wait(r, times, line, seen.slot, s);
+        }
+    }
+    r
+}
+
+// Visits a parent whose seconds are known, as those in its own graph row are.
+pub fn visit_cached(
+    r: Record,
+    names: &mut [u8],
+    marks: &mut [u8],
+    times: &mut [i64],
+    line: &mut [u32],
+    excluded: &[u8],
+    settings: Settings,
+    id: &[u8],
+    s: Seconds,
+) -> Record
+    ensures { λ a. ⌜ Visits (now (excluded .entry)) settings r (mem (now (names .entry)) (now (marks .entry)) (now (times .entry)) (now (line .entry))) (mem (now (names .exit)) (now (marks .exit)) (now (times .exit)) (now (line .exit))) (now (id .entry)) (s .0) a ⌝ }
+{
+    let seen = state::see(r, names, marks, id);
+    enter(r, seen, times, line, excluded, settings, id, s)
+}
+
+// The seconds of a new parent in the store; of another they are not asked.
+fn new_seconds(store: &[u8], id: &[u8], fresh: bool) -> Seconds
+    ensures { λ r. ⌜ (fresh ≡ true → GivesSeconds (now (store .entry)) (now (id .entry)) r) ⌝ }
+{
+    if fresh {
+        return reading::seconds_for(store, id);
+    }
+    Seconds(0)
+}
+
+// Visits a parent of a commit from the store: its seconds are those in the store, else 0.
+pub fn visit_stored(
+    r: Record,
+    names: &mut [u8],
+    marks: &mut [u8],
+    times: &mut [i64],
+    line: &mut [u32],
+    excluded: &[u8],
+    settings: Settings,
+    store: &[u8],
+    id: &[u8],
+) -> Record
+    ensures { λ a. ⌜ VisitsStored (now (excluded .entry)) settings (now (store .entry)) r (mem (now (names .entry)) (now (marks .entry)) (now (times .entry)) (now (line .entry))) (mem (now (names .exit)) (now (marks .exit)) (now (times .exit)) (now (line .exit))) (now (id .entry)) a ⌝ }
+{
+    let seen = state::see(r, names, marks, id);
+    let s = new_seconds(store, id, seen.fresh);
+    enter(r, seen, times, line, excluded, settings, id, s)
+}

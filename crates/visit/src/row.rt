@@ -1,0 +1,84 @@
+// The parents of a commit from the commit-graph file.
+use crate::link::visit_cached;
+use commitgraph::Layout;
+use state::Record;
+use walk::Settings;
+ghost use mathlib.Core.Path.{_≡_};
+ghost use Prim.Native.Nat.{_*_, _<_};
+ghost use Rattle.hash.specs.Bytes.{idBytes, setDown};
+ghost use Rattle.state.specs.Steps.{mem};
+ghost use Rattle.visit.specs.Parents.{VisitsRowParent, VisitsRow};
+
+// The most parents of a commit.
+const MOST_PARENTS: usize = 256;
+
+// Sets down the id of parent k.
+pub(crate) fn set_parent(parents: &mut [u8], k: usize, id: &[u8])
+    ensures { λ r. ⌜ (k < 256 → now (parents .exit) ≡ setDown (now (parents .entry)) (idBytes * k) (now (id .entry))) ⌝ }
+{
+    if k < MOST_PARENTS {
+        hash::set_down(parents, hash::ID_BYTES * k, id);
+    }
+}
+
+// Sets down and visits parent k of the row at a position: its id goes from the file to the buffers, its seconds are those of its own row.
+fn visit_row_parent(
+    r: Record,
+    graph: &[u8],
+    l: Layout,
+    position: usize,
+    k: usize,
+    names: &mut [u8],
+    marks: &mut [u8],
+    times: &mut [i64],
+    line: &mut [u32],
+    parents: &mut [u8],
+    excluded: &[u8],
+    settings: Settings,
+) -> Record
+    ensures { λ a. ⌜ VisitsRowParent (now (excluded .entry)) settings (now (graph .entry)) l position k r (mem (now (names .entry)) (now (marks .entry)) (now (times .entry)) (now (line .entry))) (mem (now (names .exit)) (now (marks .exit)) (now (times .exit)) (now (line .exit))) (now (parents .entry)) (now (parents .exit)) a ⌝ }
+{
+    let id = reading::row_parent(graph, l, position, k);
+    let s = reading::row_parent_seconds(graph, l, position, k);
+    set_parent(parents, k, id);
+    visit_cached(r, names, marks, times, line, excluded, settings, id, s)
+}
+
+// Sets down and visits the first n parents of the row at a position, whose list was found good before.
+pub fn visit_row(
+    r: Record,
+    graph: &[u8],
+    l: Layout,
+    position: usize,
+    n: usize,
+    names: &mut [u8],
+    marks: &mut [u8],
+    times: &mut [i64],
+    line: &mut [u32],
+    parents: &mut [u8],
+    excluded: &[u8],
+    settings: Settings,
+) -> Record
+    ensures { λ a. ⌜ VisitsRow (now (excluded .entry)) settings (now (graph .entry)) l position n r (mem (now (names .entry)) (now (marks .entry)) (now (times .entry)) (now (line .entry))) (mem (now (names .exit)) (now (marks .exit)) (now (times .exit)) (now (line .exit))) (now (parents .entry)) (now (parents .exit)) a ⌝ }
+{
+    let mut at = r;
+    let mut k = 0;
+    while k < n {
+        at = visit_row_parent(
+            at,
+            graph,
+            l,
+            position,
+            k,
+            names,
+            marks,
+            times,
+            line,
+            parents,
+            excluded,
+            settings,
+        );
+        k += 1;
+    }
+    at
+}
