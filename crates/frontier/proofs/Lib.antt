@@ -4,3 +4,4 @@ pub mod MarkStep
 pub mod MarkAnswers
 pub mod Steps
 pub mod Runs
+pub mod TurnLaws

@@ -69,15 +69,15 @@ Snoc step steps = (w : World) (m : Marks) (xs : List Id) (x : Id) (st : Paint) �
 abbrev pub Nil : Steps → Type 0
 Nil steps = (w : World) (m : Marks) (st : Paint) → steps w m [] st ≡ going st
 
-then-is : (f : Paint → Painting) (s : Paint) → then (going s) f ≡ f s
+pub then-is : (f : Paint → Painting) (s : Paint) → then (going s) f ≡ f s
 unfolding then
 then-is f s = refl
 
-then-stop : (n : Refusal) (f : Paint → Painting) → then (stop n) f ≡ stop n
+pub then-stop : (n : Refusal) (f : Paint → Painting) → then (stop n) f ≡ stop n
 unfolding then
 then-stop n f = refl
 
-then-going : (a : Painting) → then a (λ st. going st) ≡ a
+pub then-going : (a : Painting) → then a (λ st. going st) ≡ a
 unfolding then
 then-going (stop n) = refl
 then-going (going st) = refl
@@ -90,7 +90,7 @@ pub pass-nil : Nil pass
 unfolding pass
 pass-nil w m st = refl
 
-then-both : (a : Painting) (f h : Paint → Painting) (k : Paint → Painting) → ((st : Paint) → f st ≡ then (h st) k) → then a f ≡ then (then a h) k
+pub then-both : (a : Painting) (f h : Paint → Painting) (k : Paint → Painting) → ((st : Paint) → f st ≡ then (h st) k) → then a f ≡ then (then a h) k
 unfolding then
 then-both (stop n) f h k e = refl
 then-both (going st) f h k e = e st

@@ -3,3 +3,4 @@ pub mod Slots
 pub mod Paint
 pub mod Mark
 pub mod Lists
+pub mod Turns

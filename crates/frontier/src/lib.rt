@@ -5,3 +5,4 @@ pub mod bits;
 pub mod lists;
 pub mod marking;
 pub mod slots;
+pub mod turns;

@@ -46,6 +46,9 @@ set-down-start b y h =
     let z : 0 + length y ≡ length y = omega arith in
     setDown-fits b 0 y (omega arith) ∙ ap (λ (k : ℕ). y ++ drop k b) z
 
+pub set-down-none : (b : List ℕ) → b ≡ setDown b 0 []
+set-down-none b = sym (set-down-start b [] (omega arith))
+
 -- bytes set down behind those at the start
 set-down-next : (b y x : List ℕ) → length y + length x ≤ length b → setDown (setDown b 0 y) (length y) x ≡ setDown b 0 (y ++ x)
 set-down-next b y x h =

@@ -2,6 +2,7 @@
 // `next_by_commit_date` in gix_traverse::commit::simple). Every function is total and safe on any bytes and numbers.
 mod body;
 mod link;
+mod next;
 mod row;
 
 pub use body::BodyVisited;
@@ -9,4 +10,6 @@ pub use body::visit_body;
 pub use link::admits;
 pub use link::visit_cached;
 pub use link::visit_stored;
+pub use next::Taken;
+pub use next::take_next;
 pub use row::visit_row;

@@ -1,3 +1,4 @@
+-- `visit::body::all_parents` meets its contract: the lines so far are parent lines, and they are at most 256. Assumes nothing.
 use Rattle.visit.proofs.Bodies.{not-true, not-false, all-ended, all-on, all-past}
 use borrow.Author.Needs.{needs}
 use mathlib.Core.Path.{_≡_}
@@ -8,9 +9,6 @@ use lib.ListN.{length}
 use Rattle.object.specs.Header.{header}
 use Rattle.visit.proofs.body.all_parents.Statement.{statement}
 use Rattle.visit.proofs.body.all_parents.Tie as tie
-use Rattle.visit.proofs.body.all_parents.Reads as reads
-use Rattle.visit.proofs.body.all_parents.Lts as lts
-use Rattle.reading.proofs.body_step.Reads as body-step-reads
 
 abbrev Inv-loop : tie.InvT-loop
 Inv-loop body k₀ k = (k ≤ 257) × (header body .tree ≡ true → k ≤ length (header body .ids))
@@ -18,31 +16,24 @@ Inv-loop body k₀ k = (k ≤ 257) × (header body .tree ≡ true → k ≤ leng
 abbrev μ-loop : tie.MeasureT-loop
 μ-loop body k₀ k = 257 - k
 
--- src/body.rt:50:5
 loop-holds : tie.Need-loop-holds Inv-loop μ-loop
 loop-holds c = (search needs, λ g. omega arith)
 
--- src/body.rt:51:13
 body-step-requires : tie.Need-body-step-requires Inv-loop μ-loop
 body-step-requires c κs = search needs
 
--- src/body.rt:54:13
 returns : tie.Need-returns Inv-loop μ-loop
 returns c = all-ended (c .before .before .before .before .loop .inv .1) (c .before .before .body-step .ensures) (not-true (c .before .before .body-step .result .taken) (c .if1 .taken))
 
--- src/body.rt:56:9
 add-k : tie.Need-add-k Inv-loop μ-loop
 add-k c = search needs
 
--- src/body.rt:50:5
 loop-less : tie.Need-loop-less Inv-loop μ-loop
 loop-less c = search needs
 
--- src/body.rt:50:5
 loop-again : tie.Need-loop-again Inv-loop μ-loop
 loop-again c = (search needs, all-on (c .before .before .before .before .loop .inv .1) (c .before .before .body-step .ensures) (not-false (c .before .before .body-step .result .taken) (c .if1 .left)))
 
--- src/body.rt:46:1
 returns-2 : tie.Need-returns-2 Inv-loop μ-loop
 returns-2 c = all-past (c .before .before .before .args .body .now) (c .before .loop .inv .1) (omega (arith, c .loop-test .left))
 

@@ -1,20 +1,15 @@
+-- `visit::body::first_parent` meets its contract: the first line decides. Assumes nothing.
 use Rattle.visit.proofs.Bodies.{first-taken, first-ended}
 use borrow.Author.Needs.{needs}
 use Rattle.visit.proofs.body.first_parent.Statement.{statement}
 use Rattle.visit.proofs.body.first_parent.Tie as tie
-use Rattle.visit.proofs.body.first_parent.Reads as reads
-use Rattle.visit.proofs.body.first_parent.Lts as lts
-use Rattle.reading.proofs.body_step.Reads as body-step-reads
 
--- src/body.rt:37:9
 body-step-requires : tie.Need-body-step-requires
 body-step-requires c κs = search needs
 
--- src/body.rt:39:9
 returns : tie.Need-returns
 returns c = first-taken (c .before .body-step .ensures) (c .if1 .taken)
 
--- src/body.rt:34:1
 returns-2 : tie.Need-returns-2
 returns-2 c = first-ended (c .before .body-step .ensures) (c .if1 .left)
 

@@ -1,46 +1,33 @@
+-- `visit::body::visit_body_parent` meets its contract: the id is that of the line, and its seconds are in the store. Assumes nothing.
 use Rattle.visit.proofs.Bodies.{body-parent}
 use borrow.Author.Needs.{needs}
 use Rattle.visit.proofs.body.visit_body_parent.Statement.{statement}
 use Rattle.visit.proofs.body.visit_body_parent.Tie as tie
-use Rattle.visit.proofs.body.visit_body_parent.Reads as reads
-use Rattle.visit.proofs.body.visit_body_parent.Lts as lts
-use Rattle.reading.proofs.body_parent.Reads as body-parent-reads
-use Rattle.visit.proofs.link.visit_stored.Reads as visit-stored-reads
-use Rattle.visit.proofs.row.set_parent.Reads as set-parent-reads
 
--- src/body.rt:90:14
 body-parent-requires : tie.Need-body-parent-requires
 body-parent-requires c κs = search needs
 
--- src/body.rt:91:5
 set-parent-requires : tie.Need-set-parent-requires
 set-parent-requires c κs = search needs
 
--- src/body.rt:92:5
 visit-stored-requires : tie.Need-visit-stored-requires
 visit-stored-requires c κs = search needs
 
--- src/body.rt:75:1
 same-length : tie.Need-same-length
 same-length c = search needs
 
--- src/body.rt:75:1
 same-length-2 : tie.Need-same-length-2
 same-length-2 c = search needs
 
--- src/body.rt:75:1
 same-length-3 : tie.Need-same-length-3
 same-length-3 c = search needs
 
--- src/body.rt:75:1
 same-length-4 : tie.Need-same-length-4
 same-length-4 c = search needs
 
--- src/body.rt:75:1
 same-length-5 : tie.Need-same-length-5
 same-length-5 c = search needs
 
--- src/body.rt:75:1
 returns : tie.Need-returns
 returns c = body-parent (c .before .before .before .before .before .before .before .before .before .before .before .before .before .before .before .before .before .before .before .before .before .before .body-parent .ensures .right) (c .before .before .before .before .before .before .before .before .before .before .before .before .before .before .before .before .before .set-parent .ensures) (c .before .before .before .before .before .before .before .visit-stored .ensures)
 

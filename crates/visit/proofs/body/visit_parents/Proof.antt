@@ -1,3 +1,4 @@
+-- `visit::body::visit_parents` meets its contract: the invariant is its own contract for the parents so far. Assumes nothing.
 use borrow.Author.Needs.{needs}
 use Rattle.visit.proofs.Parents.{Lengths}
 use Rattle.visit.proofs.Bodies.{BodyRun, body-start, body-next, body-done}
@@ -7,9 +8,6 @@ use native.Mathlib.Omega.{arith}
 use Rattle.state.specs.Steps.{mem}
 use Rattle.visit.proofs.body.visit_parents.Statement.{statement}
 use Rattle.visit.proofs.body.visit_parents.Tie as tie
-use Rattle.visit.proofs.body.visit_parents.Reads as reads
-use Rattle.visit.proofs.body.visit_parents.Lts as lts
-use Rattle.visit.proofs.body.visit_body_parent.Reads as visit-body-parent-reads
 
 abbrev Inv-loop : tie.InvT-loop
 Inv-loop store body n names₀ marks₀ times₀ line₀ parents₀ excluded settings at₀ k₀ names marks times line parents at k = (k ≤ n) × Lengths names₀ marks₀ times₀ line₀ parents₀ names marks times line parents × BodyRun excluded settings store body k at₀ (mem names₀ marks₀ times₀ line₀) (mem names marks times line) parents₀ parents at
@@ -17,23 +15,18 @@ Inv-loop store body n names₀ marks₀ times₀ line₀ parents₀ excluded set
 abbrev μ-loop : tie.MeasureT-loop
 μ-loop store body n names₀ marks₀ times₀ line₀ parents₀ excluded settings at₀ k₀ names marks times line parents at k = n - k
 
--- src/body.rt:113:5
 loop-holds : tie.Need-loop-holds Inv-loop μ-loop
 loop-holds c = (search needs, record { for-names = refl; for-marks = refl; for-times = refl; for-line = refl; for-parents = refl }, body-start)
 
--- src/body.rt:114:9
 visit-body-parent-requires : tie.Need-visit-body-parent-requires Inv-loop μ-loop
 visit-body-parent-requires c κs = search needs
 
--- src/body.rt:127:9
 add-k : tie.Need-add-k Inv-loop μ-loop
 add-k c = omega (arith, c .before .before .before .before .before .before .before .before .before .before .before .before .before .before .before .loop-test .taken, c .before .before .before .before .before .before .before .before .before .before .before .before .before .before .before .before .before .before .before .before .before .before .before .before .fits .n)
 
--- src/body.rt:113:5
 loop-less : tie.Need-loop-less Inv-loop μ-loop
 loop-less c = omega (arith, c .before .before .before .before .before .before .before .before .before .before .before .before .before .before .before .loop-test .taken)
 
--- src/body.rt:113:5
 loop-again : tie.Need-loop-again Inv-loop μ-loop
 loop-again c =
     let l = c .before .before .before .before .before .before .before .before .before .before .before .before .before .before .before .before in
@@ -44,27 +37,21 @@ loop-again c =
       body-next (l .loop .inv .2) (c .before .before .before .before .before .before .before .before .before .visit-body-parent .ensures),
     )
 
--- src/body.rt:96:1
 same-length : tie.Need-same-length Inv-loop μ-loop
 same-length c = c .before .loop .inv .1 .for-names
 
--- src/body.rt:96:1
 same-length-2 : tie.Need-same-length-2 Inv-loop μ-loop
 same-length-2 c = c .before .loop .inv .1 .for-marks
 
--- src/body.rt:96:1
 same-length-3 : tie.Need-same-length-3 Inv-loop μ-loop
 same-length-3 c = c .before .loop .inv .1 .for-times
 
--- src/body.rt:96:1
 same-length-4 : tie.Need-same-length-4 Inv-loop μ-loop
 same-length-4 c = c .before .loop .inv .1 .for-line
 
--- src/body.rt:96:1
 same-length-5 : tie.Need-same-length-5 Inv-loop μ-loop
 same-length-5 c = c .before .loop .inv .1 .for-parents
 
--- src/body.rt:96:1
 returns : tie.Need-returns Inv-loop μ-loop
 returns c = body-done (c .before .loop .inv .2) (omega (arith, c .loop-test .left))
 

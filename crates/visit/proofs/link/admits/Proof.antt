@@ -1,34 +1,24 @@
+-- `visit::link::admits` meets its contract: the tests decide in the order of the definition. Assumes nothing.
 use Rattle.visit.proofs.Links.{not-admitted, first-admitted, timed-admitted}
 use borrow.Author.Needs.{needs}
 use Rattle.visit.proofs.link.admits.Statement.{statement}
 use Rattle.visit.proofs.link.admits.Tie as tie
-use Rattle.visit.proofs.link.admits.Reads as reads
-use Rattle.visit.proofs.link.admits.Lts as lts
-use Rattle.reading.proofs.is_among.Reads as is-among-reads
-use Rattle.visit.proofs.link.not_before.Reads as not-before-reads
-use Rattle.visit.proofs.link.only_first.Reads as only-first-reads
 
--- src/link.rt:42:8
 is-among-requires : tie.Need-is-among-requires
 is-among-requires c κs = search needs
 
--- src/link.rt:43:9
 returns : tie.Need-returns
 returns c = not-admitted (c .before .is-among .ensures) (c .if1 .taken)
 
--- src/link.rt:45:8
 only-first-requires : tie.Need-only-first-requires
 only-first-requires c κs = search needs
 
--- src/link.rt:46:9
 returns-2 : tie.Need-returns-2
 returns-2 c = first-admitted (c .before .before .before .is-among .ensures) (c .before .before .if1 .left) (c .before .only-first .ensures) (c .if2 .taken)
 
--- src/link.rt:49:5
 not-before-requires : tie.Need-not-before-requires
 not-before-requires c κs = search needs
 
--- src/link.rt:39:1
 returns-3 : tie.Need-returns-3
 returns-3 c = timed-admitted (c .before .before .before .before .is-among .ensures) (c .before .before .before .if1 .left) (c .before .before .only-first .ensures) (c .before .if2 .left) (c .not-before .ensures)
 

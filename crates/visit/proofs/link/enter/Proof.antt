@@ -1,37 +1,27 @@
+-- `visit::link::enter` meets its contract: a known parent and a link that is not admitted change nothing, and another waits. Assumes nothing.
 use Rattle.visit.proofs.Links.{enters-admitted, enters-turned, enters-known}
 use borrow.Author.Needs.{needs}
 use Rattle.visit.proofs.link.enter.Statement.{statement}
 use Rattle.visit.proofs.link.enter.Tie as tie
-use Rattle.visit.proofs.link.enter.Reads as reads
-use Rattle.visit.proofs.link.enter.Lts as lts
-use Rattle.state.proofs.wait.Reads as wait-reads
-use Rattle.visit.proofs.link.admits.Reads as admits-reads
 
--- src/link.rt:66:12
 admits-requires : tie.Need-admits-requires
 admits-requires c κs = search needs
 
--- src/link.rt:67:13
 wait-requires : tie.Need-wait-requires
 wait-requires c κs = search needs
 
--- src/link.rt:67:13
 same-length : tie.Need-same-length
 same-length c = search needs
 
--- src/link.rt:67:13
 same-length-2 : tie.Need-same-length-2
 same-length-2 c = search needs
 
--- src/link.rt:67:13
 returns : tie.Need-returns
 returns c = enters-admitted (c .before .before .before .before .before .before .before .before .if1 .taken) (c .before .before .before .before .before .before .before .admits .ensures) (c .before .before .before .before .before .before .if2 .taken) (c .before .before .before .wait .ensures)
 
--- src/link.rt:53:1
 returns-2 : tie.Need-returns-2
 returns-2 c = enters-turned (c .before .admits .ensures) (c .if2 .left)
 
--- src/link.rt:53:1
 returns-3 : tie.Need-returns-3
 returns-3 c = enters-known (c .if1 .left)
 

@@ -1,28 +1,21 @@
+-- `visit::row::set_parent` meets its contract: the id is set down at its place. Assumes nothing.
 use native.Mathlib.Omega.{arith}
 use borrow.Author.Needs.{needs}
 use Rattle.visit.proofs.row.set_parent.Statement.{statement}
 use Rattle.visit.proofs.row.set_parent.Tie as tie
-use Rattle.visit.proofs.row.set_parent.Reads as reads
-use Rattle.visit.proofs.row.set_parent.Lts as lts
-use Rattle.hash.proofs.set_down.Reads as set-down-reads
 
--- src/row.rt:21:33
 mul-set-down : tie.Need-mul-set-down
 mul-set-down c = search needs
 
--- src/row.rt:21:9
 set-down-requires : tie.Need-set-down-requires
 set-down-requires c κs = search needs
 
--- src/row.rt:17:1
 same-length : tie.Need-same-length
 same-length c = search needs
 
--- src/row.rt:17:1
 returns : tie.Need-returns
 returns c = search needs
 
--- src/row.rt:17:1
 returns-2 : tie.Need-returns-2
 returns-2 c = λ h. absurd (omega (arith, h, c .if1 .left))
 

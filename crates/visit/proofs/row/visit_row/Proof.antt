@@ -1,3 +1,4 @@
+-- `visit::row::visit_row` meets its contract: the invariant is its own contract for the parents so far. Assumes nothing.
 use borrow.Author.Needs.{needs}
 use Rattle.visit.proofs.Parents.{Lengths, RowRun, row-start, row-next, row-done}
 use mathlib.Core.Path.{refl, _∙_}
@@ -6,9 +7,6 @@ use native.Mathlib.Omega.{arith}
 use Rattle.state.specs.Steps.{mem}
 use Rattle.visit.proofs.row.visit_row.Statement.{statement}
 use Rattle.visit.proofs.row.visit_row.Tie as tie
-use Rattle.visit.proofs.row.visit_row.Reads as reads
-use Rattle.visit.proofs.row.visit_row.Lts as lts
-use Rattle.visit.proofs.row.visit_row_parent.Reads as visit-row-parent-reads
 
 abbrev Inv-loop : tie.InvT-loop
 Inv-loop graph l position n names₀ marks₀ times₀ line₀ parents₀ excluded settings at₀ k₀ names marks times line parents at k = (k ≤ n) × Lengths names₀ marks₀ times₀ line₀ parents₀ names marks times line parents × RowRun excluded settings graph l position k at₀ (mem names₀ marks₀ times₀ line₀) (mem names marks times line) parents₀ parents at
@@ -16,23 +14,18 @@ Inv-loop graph l position n names₀ marks₀ times₀ line₀ parents₀ exclud
 abbrev μ-loop : tie.MeasureT-loop
 μ-loop graph l position n names₀ marks₀ times₀ line₀ parents₀ excluded settings at₀ k₀ names marks times line parents at k = n - k
 
--- src/row.rt:67:5
 loop-holds : tie.Need-loop-holds Inv-loop μ-loop
 loop-holds c = (search needs, record { for-names = refl; for-marks = refl; for-times = refl; for-line = refl; for-parents = refl }, row-start)
 
--- src/row.rt:68:9
 visit-row-parent-requires : tie.Need-visit-row-parent-requires Inv-loop μ-loop
 visit-row-parent-requires c κs = search needs
 
--- src/row.rt:82:9
 add-k : tie.Need-add-k Inv-loop μ-loop
 add-k c = omega (arith, c .before .before .before .before .before .before .before .before .before .before .before .before .before .before .before .loop-test .taken, c .before .before .before .before .before .before .before .before .before .before .before .before .before .before .before .before .before .before .before .before .before .before .before .fits .n)
 
--- src/row.rt:67:5
 loop-less : tie.Need-loop-less Inv-loop μ-loop
 loop-less c = omega (arith, c .before .before .before .before .before .before .before .before .before .before .before .before .before .before .before .loop-test .taken)
 
--- src/row.rt:67:5
 loop-again : tie.Need-loop-again Inv-loop μ-loop
 loop-again c =
     let l = c .before .before .before .before .before .before .before .before .before .before .before .before .before .before .before .before in
@@ -43,27 +36,21 @@ loop-again c =
       row-next (l .loop .inv .2) (c .before .before .before .before .before .before .before .before .before .visit-row-parent .ensures),
     )
 
--- src/row.rt:49:1
 same-length : tie.Need-same-length Inv-loop μ-loop
 same-length c = c .before .loop .inv .1 .for-names
 
--- src/row.rt:49:1
 same-length-2 : tie.Need-same-length-2 Inv-loop μ-loop
 same-length-2 c = c .before .loop .inv .1 .for-marks
 
--- src/row.rt:49:1
 same-length-3 : tie.Need-same-length-3 Inv-loop μ-loop
 same-length-3 c = c .before .loop .inv .1 .for-times
 
--- src/row.rt:49:1
 same-length-4 : tie.Need-same-length-4 Inv-loop μ-loop
 same-length-4 c = c .before .loop .inv .1 .for-line
 
--- src/row.rt:49:1
 same-length-5 : tie.Need-same-length-5 Inv-loop μ-loop
 same-length-5 c = c .before .loop .inv .1 .for-parents
 
--- src/row.rt:49:1
 returns : tie.Need-returns Inv-loop μ-loop
 returns c = row-done (c .before .loop .inv .2) (omega (arith, c .loop-test .left))
 

@@ -1,0 +1,322 @@
+-- A turn: the slot that leaves has the first commit of the walk's queue, its mark is that commit's, and it was read, so its parents are
+-- there. The turns: after i of them the memory reads as the painting after i turns, and when no queued commit lacks STALE, or no turn is
+-- left, more turns change nothing. Assumes nothing.
+use mathlib.Core.Path.{_≡_, refl, sym, _∙_, ap, subst}
+use mathlib.Core.Logic.{_⊎_, inl, inr, ⊎-elim}
+use Prim.Native.Nat.{ℕ, zero, suc, _+_, _-_, _*_, _≤_, _<_}
+use mathlib.Core.Bool.{Bool, true, false, cond, _&&_, _||_}
+use mathlib.Core.List.{List, [], _∷_, map}
+use native.Mathlib.Omega.{arith}
+use lib.Dec.{ltb}
+use lib.ListN.{length, take, getD}
+use borrow.Author.Tests.{ltb-true, ltb-false}
+use Rattle.hash.specs.Bytes.{Id, idBytes}
+use Rattle.hash.proofs.Tests.{byCases, clash, guard-test, guarded}
+use Rattle.commit.specs.declared.Cache.{Cache}
+use Rattle.hashtable.specs.Marks.{visible, hidden, stale}
+use Rattle.hashtable.specs.Table.{idOf, markFor}
+use Rattle.hashtable.proofs.TableIds.{less?, width-of}
+use Rattle.hashtable.proofs.TableView.{mark-held}
+use Rattle.revwalk.specs.Pending.{slotsIn, Waits, Took, Pops, staleAt, fresh as anyFresh}
+use Rattle.revwalk.specs.declared.pending.Pending.{Pending}
+use Rattle.revwalk.specs.declared.pending.Taken.{Taken}
+use Rattle.revwalk.proofs.PendingLaws.{empty-slots, fresh-map, taken-in}
+use Rattle.walk.specs.Lookup.{World, Pair, read, parentsOf}
+use Rattle.walk.specs.Painting.{Paint, Painting, stop, going, then, Marks, pass, passed, withPending, fresh, turn, turns}
+use Rattle.walk.specs.declared.Refusal.{Refusal}
+use Rattle.reading.specs.Files.{worldUnder}
+use Rattle.reading.specs.Ids.{padded}
+use Rattle.reading.specs.Whole.{IsRead, ReadsCommit}
+use Rattle.reading.specs.declared.Commit.{Commit}
+use Rattle.reading.proofs.IdBytes.{padded-id}
+use Rattle.frontier.specs.declared.marking.Marked.{Marked}
+use Rattle.frontier.specs.declared.marking.Marked.the-variants.{Going, Stop, NoRoom}
+use Rattle.frontier.specs.Bits.{isPainted, marksOf, passedBits}
+use Rattle.frontier.specs.Paint.{Lent, Files, entryAt, PaintReads, Named, Goes, Stops, Ends}
+use Rattle.frontier.specs.Lists.{PassesAll}
+use Rattle.frontier.specs.Turns.{TurnFits, MayTurn, TakesTurn, TurnTakenAfter, TakesTurnAfter, dueAfter, MayTurns, TakesTurns, TurnsTakenAfter, TakesTurnsAfter}
+use Rattle.frontier.proofs.PaintBits.{painted-live, visible-passed, hidden-passed, stale-passed, painted-passed}
+use Rattle.frontier.proofs.MarkStep.{spares-none}
+use Rattle.frontier.proofs.Steps.{ends-then, goes-still, then-is, then-stop, then-going, then-both, Long, long-none, long-then}
+
+-- ---- the queue's marks
+
+fresh-nil : (f : Id → Bool) → fresh f [] ≡ false
+unfolding fresh
+fresh-nil f = refl
+
+fresh-cons : (f : Id → Bool) (q : Pair × Id) (l : List (Pair × Id)) → fresh f (q ∷ l) ≡ cond (f (q .1)) (fresh f l) true
+unfolding fresh
+fresh-cons f q l = refl
+
+module _ {w : World} {cap : ℕ} {m : Lent} {p : Pending} {st : Paint} (r : PaintReads w cap m p st) where
+  -- the mark of a slot with one of painting's marks is that of its id
+  id-mark : (s : ℕ) → s < cap → isPainted (getD (m .marks) s 0) ≡ true → markFor false (m .names) (m .marks) cap (idOf (m .names) s) ≡ getD (m .marks) s 0
+  id-mark s l h = mark-held (r .table) s (record { low = l; alive = painted-live (getD (m .marks) s 0) h; is = refl })
+
+  pub fresh-is : anyFresh (staleAt (m .marks)) (slotsIn p (m .line)) ≡ fresh (st .stale) (st .pending)
+  fresh-is =
+      fresh-map (entryAt (m .names) (m .levels) (m .times)) (staleAt (m .marks)) (λ q. st .stale (q .1)) (λ l. fresh (st .stale) l) (fresh-nil (st .stale)) (fresh-cons (st .stale))
+      (slotsIn p (m .line))
+      (λ y i.
+      let o = r .queued y i in
+      ap stale (sym (id-mark y (o .0) (o .1))) ∙ sym (r .stale (idOf (m .names) y)))
+      ∙ ap (fresh (st .stale)) (sym (r .queue))
+
+  passed-is : (s : ℕ) → s < cap → isPainted (getD (m .marks) s 0) ≡ true → passed st (idOf (m .names) s) ≡ marksOf (passedBits (getD (m .marks) s 0))
+  unfolding passed
+  passed-is s l h =
+      let x : Id = idOf (m .names) s in
+      let n : ℕ = getD (m .marks) s 0 in
+      let k = id-mark s l h in
+      let v : st .vis (idOf (m .names) s) ≡ visible (getD (m .marks) s 0) = r .vis (idOf (m .names) s) ∙ ap visible k in
+      let d : st .hid (idOf (m .names) s) ≡ hidden (getD (m .marks) s 0) = r .hid (idOf (m .names) s) ∙ ap hidden k in
+      let e : st .stale (idOf (m .names) s) ≡ stale (getD (m .marks) s 0) = r .stale (idOf (m .names) s) ∙ ap stale k in
+      let v′ = v ∙ sym (visible-passed (getD (m .marks) s 0)) in
+      let d′ = d ∙ sym (hidden-passed (getD (m .marks) s 0)) in
+      let e′ =
+      ap (λ (t : Bool). t || (st .vis (idOf (m .names) s) && st .hid (idOf (m .names) s))) e
+      ∙ ap (λ (t : Bool). stale (getD (m .marks) s 0) || (t && st .hid (idOf (m .names) s))) v
+      ∙ ap (λ (t : Bool). stale (getD (m .marks) s 0) || (visible (getD (m .marks) s 0) && t)) d
+      ∙ sym (stale-passed (getD (m .marks) s 0)) in
+      λ i. record { v = v′ i; h = d′ i; s = e′ i }
+
+-- ---- a turn
+
+turn-first : (w : World) (st : Paint) (q : Pair × Id) (qs : List (Pair × Id)) → turn w st (q ∷ qs) ≡ pass w (passed st (q .1)) (parentsOf (read w (q .1))) (withPending qs st)
+unfolding turn
+turn-first w st q qs = refl
+
+turn-empty : (w : World) (st : Paint) → turn w st [] ≡ going st
+unfolding turn
+turn-empty w st = refl
+
+module _ {w : World} {cap : ℕ} {m : Lent} {p : Pending} {st : Paint} {t : Taken} (r : PaintReads w cap m p st) (v : Waits p (m .line)) (e : Took p (m .line) t) where
+  abbrev rest : List (Pair × Id)
+  rest = map (entryAt (m .names) (m .levels) (m .times)) (slotsIn (t .pending) (m .line))
+
+  first-is : st .pending ≡ entryAt (m .names) (m .levels) (m .times) (t .slot) ∷ rest
+  first-is = r .queue ∙ ap (map (entryAt (m .names) (m .levels) (m .times))) (e .slots)
+
+  rest-reads : PaintReads w cap m (t .pending) (withPending rest st)
+  unfolding withPending
+  rest-reads = record {
+    table = r .table;
+    for-levels = r .for-levels;
+    for-times = r .for-times;
+    base = omega (arith, r .base, e .base, e .start);
+    start = omega (arith, v .some, e .start, e .end);
+    end = omega (arith, r .end, e .end);
+    vis = r .vis;
+    hid = r .hid;
+    stale = r .stale;
+    queue = refl;
+    queued = λ s i. r .queued s (taken-in e s (inr i));
+    known = r .known;
+  }
+
+  turn-is : turn w st (st .pending) ≡ pass w (passed st (idOf (m .names) (t .slot))) (parentsOf (read w (idOf (m .names) (t .slot)))) (withPending rest st)
+  turn-is = ap (turn w st) first-is ∙ turn-first w st (entryAt (m .names) (m .levels) (m .times) (t .slot)) rest
+
+module _ {c : Cache} {g s : List ℕ} {cap : ℕ} {m : Lent} {p : Pending} {t : Taken} (v : Pops p (m .line) t) where
+  pub turn-some : {m′ : Lent} {d : Commit} {y : Id} {n b : ℕ} {r : Marked} → t .found ≡ true → n ≡ getD (m .marks) (t .slot) 0 → b ≡ passedBits n → y ≡ padded (idOf (m .names) (t .slot))
+      → ReadsCommit c g s y d → PassesAll c g s cap m m′ (t .pending) d b r → TakesTurn c g s cap m m′ p r
+  turn-some {m′} {d} {y} {n} {b} {r} fd en eb ey rd o = record {
+    right = λ f u st h.
+        let a = v .waits fd in
+        let e = v .took a in
+        let i = h .reads .queued (t .slot) (taken-in e (t .slot) (inl refl)) in
+        let x : Id = idOf (m .names) (t .slot) in
+        let ex : y ≡ idOf (m .names) (t .slot) = ey ∙ padded-id (idOf (m .names) (t .slot)) (width-of (t .slot) (h .reads .table .sized) (i .0)) in
+        let ebits : b ≡ passedBits (getD (m .marks) (t .slot) 0) = eb ∙ ap passedBits en in
+        let k : passed st (idOf (m .names) (t .slot)) ≡ marksOf b = passed-is (h .reads) (t .slot) (i .0) (i .1) ∙ ap marksOf (sym ebits) in
+        let st′ : Paint = withPending (rest (h .reads) a e) st in
+        let gone : Goes (worldUnder c g s) cap u p m m (t .pending) (going (withPending (rest (h .reads) a e) st)) =
+        record {
+          state = withPending (rest (h .reads) a e) st;
+          is = refl;
+          reads = rest-reads (h .reads) a e;
+          named = h .named;
+          spares = spares-none cap (p .base) m;
+          base = e .base;
+          end = e .end;
+        } in
+        ends-then m′ r gone
+        (ap
+        (λ (z : Marks). pass (worldUnder c g s) z (parentsOf (read (worldUnder c g s) (idOf (m .names) (t .slot)))) (withPending (rest (h .reads) a e) st)) (sym k)
+        ∙ sym (turn-is (h .reads) a e))
+        (o .right f (idOf (m .names) (t .slot)) (subst (λ (z : Id). IsRead c g s z d) ex (rd .right (f .store-ok) (f .graph-ok))) u (withPending (rest (h .reads) a e) st)
+        (record {
+          reads = rest-reads (h .reads) a e;
+          named = h .named;
+          in-u = h .parents-in (idOf (m .names) (t .slot));
+          some-mark = ap isPainted ebits ∙ painted-passed (getD (m .marks) (t .slot) 0) (i .1);
+          room = λ j st″ q.
+              omega (
+                arith,
+                h .room (entryAt (m .names) (m .levels) (m .times) (t .slot)) (rest (h .reads) a e) (first-is (h .reads) a e) j st″
+                    (ap (λ (z : Marks). pass (worldUnder c g s) z (take j (parentsOf (read (worldUnder c g s) (idOf (m .names) (t .slot))))) (withPending (rest (h .reads) a e) st)) k ∙ q),
+                e .base,
+                e .end,
+              );
+        }));
+  }
+
+  pub turn-none : t .found ≡ false → TakesTurn c g s cap m m p (Going p)
+  turn-none fd = record {
+    right = λ f u st h.
+        let l : p .end ≤ p .start = ⊎-elim (λ k. clash (v .took (record { some = k; inside = h .reads .end }) .found) fd) (λ k. k) (less? (p .start) (p .end)) in
+        let e : st .pending ≡ [] = h .reads .queue ∙ ap (map (entryAt (m .names) (m .levels) (m .times))) (empty-slots p (m .line) l) in
+        goes-still (ap (turn (worldUnder c g s) st) e ∙ turn-empty (worldUnder c g s) st) (h .reads) (h .named);
+  }
+
+-- ---- the turns of the walk's painting
+
+no-turn : (w : World) (k : ℕ) (st : Paint) → fresh (st .stale) (st .pending) ≡ false → turns w k st ≡ going st
+unfolding turns
+no-turn w zero st h = refl
+no-turn w (suc k) st h = rw h
+
+turns-zero : (w : World) (st : Paint) → turns w 0 st ≡ going st
+unfolding turns
+turns-zero w st = refl
+
+one-turn : (w : World) (st : Paint) → fresh (st .stale) (st .pending) ≡ true → turns w 1 st ≡ turn w st (st .pending)
+unfolding turns
+one-turn w st h = rw h (then-going (turn w st (st .pending)))
+
+turns-add : (w : World) (i d : ℕ) (st : Paint) → turns w (i + d) st ≡ then (turns w i st) (λ st′. turns w d st′)
+unfolding turns
+turns-add w zero d st = let e : zero + d ≡ d = omega arith in ap (λ (k : ℕ). turns w k st) e ∙ sym (then-is (λ st′. turns w d st′) st)
+turns-add w (suc i) d st =
+    let e : suc i + d ≡ suc (i + d) = omega arith in
+    ap (λ (k : ℕ). turns w k st) e
+    ∙ byCases (fresh (st .stale) (st .pending))
+    (λ h. rw h (then-both (turn w st (st .pending)) (λ s. turns w (i + d) s) (λ s. turns w i s) (λ s. turns w d s) (λ s. turns-add w i d s)))
+    (λ h. rw h (sym (no-turn w d st h) ∙ sym (then-is (λ st′. turns w d st′) st)))
+
+-- ---- the loop
+
+due-some : (marks line : List ℕ) (left : ℕ) (p : Pending) → dueAfter marks line left (Going p) ≡ true → (0 < left) × (anyFresh (staleAt marks) (slotsIn p line) ≡ true)
+due-some marks line left p e =
+    (ltb-true 0 left (guard-test (ltb 0 left) (anyFresh (staleAt marks) (slotsIn p line)) e), guarded (ltb 0 left) (anyFresh (staleAt marks) (slotsIn p line)) e)
+
+due-left : (marks line : List ℕ) (left : ℕ) (r : Marked) → dueAfter marks line left r ≡ true → 0 < left
+due-left marks line left (Going p) e = due-some marks line left p e .0
+due-left marks line left (Stop n) e = clash e refl
+due-left marks line left NoRoom e = clash e refl
+
+due-none : (marks line : List ℕ) (left : ℕ) (p : Pending) → dueAfter marks line left (Going p) ≡ false → (left ≡ 0) ⊎ (anyFresh (staleAt marks) (slotsIn p line) ≡ false)
+due-none marks line left p e =
+    byCases (ltb 0 left)
+    (λ h. inr (sym (ap (λ (b : Bool). cond b (anyFresh (staleAt marks) (slotsIn p line)) false) h) ∙ e))
+    (λ h. inl (omega (arith, ltb-false 0 left h)))
+
+-- painting has come to the memory m and the answer r after i turns
+pub record AfterTurns (w : World) (cap : ℕ) (m₀ m : Lent) (p : Pending) (i : ℕ) (r : Marked) : Type 0 where
+  pub ends : (u : List Id) (st : Paint) → MayTurns w cap u m₀ p st → Ends w cap u p m₀ m r (turns w i st)
+
+module _ {c : Cache} {g s : List ℕ} {cap : ℕ} {m₀ m m′ : Lent} {p : Pending} {left most : ℕ} {r′ : Marked} (f : Files c g s) (l : left ≤ most) where
+  next-turn : (r : Marked) → dueAfter (m .marks) (m .line) left r ≡ true → AfterTurns (worldUnder c g s) cap m₀ m p (most - left) r → TurnTakenAfter c g s cap m m′ r r′
+      → AfterTurns (worldUnder c g s) cap m₀ m′ p (most - (left - 1)) r′
+  next-turn (Going q) e so o = record {
+    ends = λ u st h.
+        let gone = so .ends u st h in
+        let a = due-some (m .marks) (m .line) left q e in
+        let fr : fresh (gone .state .stale) (gone .state .pending) ≡ true = sym (fresh-is (gone .reads)) ∙ a .1 in
+        let n : most - (left - 1) ≡ most - left + 1 = omega (arith, a .0) in
+        let k : turns (worldUnder c g s) (most - (left - 1)) st ≡ turn (worldUnder c g s) (gone .state) (gone .state .pending) =
+        ap (λ (j : ℕ). turns (worldUnder c g s) j st) n
+        ∙ turns-add (worldUnder c g s) (most - left) 1 st
+        ∙ ap (λ (b : Painting). then b (λ st′. turns (worldUnder c g s) 1 st′)) (gone .is)
+        ∙ then-is (λ st′. turns (worldUnder c g s) 1 st′) (gone .state)
+        ∙ one-turn (worldUnder c g s) (gone .state) fr in
+        ends-then m′ r′ gone (sym k)
+        (o .right f u (gone .state)
+        (record {
+          reads = gone .reads;
+          named = gone .named;
+          parents-in = h .parents-in;
+          room = λ x xs z j st′ d. omega (arith, h .room (most - left) (gone .state) (gone .is) fr x xs z j st′ d, gone .base, gone .end);
+        }));
+  }
+  next-turn (Stop n) e so o = clash e refl
+  next-turn NoRoom e so o = clash e refl
+
+most-is : (w : World) (left most : ℕ) (st : Paint) → left ≤ most → turns w most st ≡ then (turns w (most - left) st) (λ st′. turns w left st′)
+most-is w left most st l = let e : most ≡ most - left + left = omega arith in ap (λ (k : ℕ). turns w k st) e ∙ turns-add w (most - left) left st
+
+module _ {w : World} {cap : ℕ} {m₀ m : Lent} {p : Pending} {left most : ℕ} (l : left ≤ most) where
+  last-turn : (r : Marked) → dueAfter (m .marks) (m .line) left r ≡ false → AfterTurns w cap m₀ m p (most - left) r → AfterTurns w cap m₀ m p most r
+  last-turn (Going q) e so = record {
+    ends = λ u st h.
+        let gone = so .ends u st h in
+        let still : turns w left (gone .state) ≡ going (gone .state) =
+        ⊎-elim (λ z. ap (λ (k : ℕ). turns w k (gone .state)) z ∙ turns-zero w (gone .state)) (λ z. no-turn w left (gone .state) (sym (fresh-is (gone .reads)) ∙ z))
+        (due-none (m .marks) (m .line) left q e) in
+        record {
+          state = gone .state;
+          is = most-is w left most st l ∙ ap (λ (b : Painting). then b (λ st′. turns w left st′)) (gone .is) ∙ then-is (λ st′. turns w left st′) (gone .state) ∙ still;
+          reads = gone .reads;
+          named = gone .named;
+          spares = gone .spares;
+          base = gone .base;
+          end = gone .end;
+        };
+  }
+  last-turn (Stop n) e so = record {
+    ends = λ u st h.
+        let gone = so .ends u st h in
+        record { is = most-is w left most st l ∙ ap (λ (b : Painting). then b (λ st′. turns w left st′)) (gone .is) ∙ then-stop n (λ st′. turns w left st′); table = gone .table; spares = gone .spares };
+  }
+  last-turn NoRoom e so = record { ends = λ u st h. absurd (so .ends u st h) }
+
+-- after an answer
+abbrev BegunTurns : Cache → List ℕ → List ℕ → ℕ → Lent → Lent → Marked → ℕ → Marked → Type 0
+BegunTurns c g s cap m₀ m (Going p) i r = Files c g s → AfterTurns (worldUnder c g s) cap m₀ m p i r
+BegunTurns c g s cap m₀ m (Stop n) i r = (m ≡ m₀) × (r ≡ Stop n)
+BegunTurns c g s cap m₀ m NoRoom i r = (m ≡ m₀) × (r ≡ NoRoom)
+
+-- the loop, with some turns left
+pub record Taking (c : Cache) (g s : List ℕ) (cap : ℕ) (m₀ m : Lent) (past : Marked) (most left : ℕ) (due : Bool) (r : Marked) : Type 0 where
+  pub few : left ≤ most
+  pub long : Long m₀ m
+  pub due-is : due ≡ dueAfter (m .marks) (m .line) left r
+  pub begun : BegunTurns c g s cap m₀ m past (most - left) r
+
+pub taking-first : (c : Cache) (g s : List ℕ) (cap : ℕ) (m : Lent) (past : Marked) (most : ℕ) {due : Bool} → due ≡ dueAfter (m .marks) (m .line) most past
+    → Taking c g s cap m m past most most due past
+taking-first c g s cap m past most e = record { few = omega arith; long = long-none m; due-is = e; begun = go past }
+  where
+    go : (past : Marked) → BegunTurns c g s cap m m past (most - most) past
+    go (Going p) = λ f. record {
+      ends = λ u st h.
+          let z : most - most ≡ 0 = omega arith in
+          goes-still (ap (λ (k : ℕ). turns (worldUnder c g s) k st) z ∙ turns-zero (worldUnder c g s) st) (h .reads) (h .named);
+    }
+    go (Stop n) = (refl, refl)
+    go NoRoom = (refl, refl)
+
+pub taking-next : {c : Cache} {g s : List ℕ} {cap : ℕ} {m₀ m m′ : Lent} {past : Marked} {most left : ℕ} {due due′ : Bool} {r r′ : Marked} → Taking c g s cap m₀ m past most left due r
+    → due ≡ true → Long m m′ → TakesTurnAfter c g s cap m m′ r r′ → due′ ≡ dueAfter (m′ .marks) (m′ .line) (left - 1) r′ → Taking c g s cap m₀ m′ past most (left - 1) due′ r′
+taking-next {c} {g} {s} {cap} {m₀} {m} {m′} {past} {most} {left} {due} {due′} {r} {r′} v y b o e = record { few = omega (arith, v .few); long = long-then (v .long) b; due-is = e; begun = go past (v .begun) }
+  where
+    d : dueAfter (m .marks) (m .line) left r ≡ true
+    d = sym (v .due-is) ∙ y
+
+    go : (past : Marked) → BegunTurns c g s cap m₀ m past (most - left) r → BegunTurns c g s cap m₀ m′ past (most - (left - 1)) r′
+    go (Going p) so = λ f. next-turn f (v .few) r d (so f) (o .does)
+    go (Stop n) so = clash (ap (dueAfter (m .marks) (m .line) left) (sym (so .1)) ∙ d) refl
+    go NoRoom so = clash (ap (dueAfter (m .marks) (m .line) left) (sym (so .1)) ∙ d) refl
+
+pub taking-left : {c : Cache} {g s : List ℕ} {cap : ℕ} {m₀ m : Lent} {past : Marked} {most left : ℕ} {due : Bool} {r : Marked} → Taking c g s cap m₀ m past most left due r → due ≡ true → 0 < left
+taking-left {m = m} {left = left} {r = r} v y = due-left (m .marks) (m .line) left r (sym (v .due-is) ∙ y)
+
+pub taking-last : {c : Cache} {g s : List ℕ} {cap : ℕ} {m₀ m : Lent} {past : Marked} {most left : ℕ} {due : Bool} {r : Marked} → Taking c g s cap m₀ m past most left due r
+    → due ≡ false → TakesTurnsAfter c g s cap m₀ m past most r
+taking-last {c} {g} {s} {cap} {m₀} {m} {past} {most} {left} {due} {r} v y = record { does = go past (v .begun) }
+  where
+    go : (past : Marked) → BegunTurns c g s cap m₀ m past (most - left) r → TurnsTakenAfter c g s cap m₀ m past most r
+    go (Going p) so = record { right = λ f u st h. last-turn (v .few) r (sym (v .due-is) ∙ y) (so f) .ends u st h }
+    go (Stop n) so = so
+    go NoRoom so = so

@@ -1,0 +1,69 @@
+-- The turns of painting: `turn` and `turns` of the walk's painting, told of the lent memory. Assumes nothing.
+use Prim.Native.Nat.{ℕ, _-_}
+use mathlib.Core.Path.{_≡_}
+use mathlib.Core.Bool.{Bool, true, false, cond}
+use mathlib.Core.List.{List, _∷_, List·Memᴰ}
+use lib.ListN.{take}
+use lib.Dec.{ltb}
+use Rattle.hash.specs.Bytes.{Id}
+use Rattle.commit.specs.declared.Cache.{Cache}
+use Rattle.revwalk.specs.Pending.{staleAt, slotsIn, fresh as anyFresh}
+use Rattle.revwalk.specs.declared.pending.Pending.{Pending}
+use Rattle.walk.specs.Lookup.{World, Pair, read, parentsOf}
+use Rattle.walk.specs.Painting.{Paint, Painting, going, pass, passed, withPending, fresh, turn, turns}
+use Rattle.reading.specs.Files.{worldUnder}
+use Rattle.frontier.specs.declared.marking.Marked.{Marked}
+use Rattle.frontier.specs.declared.marking.Marked.the-variants.{Going, Stop, NoRoom}
+use Rattle.frontier.specs.Paint.{Lent, Files, PaintReads, Named, Short, Ends}
+
+-- a turn leaves room for k in the queue, whatever part of the parents has been looked at
+abbrev pub TurnFits : World → ℕ → Paint → Type 0
+TurnFits w k st = (q : Pair × Id) (qs : List (Pair × Id)) → st .pending ≡ q ∷ qs
+    → (i : ℕ) → Short k (pass w (passed st (q .1)) (take i (parentsOf (read w (q .1)))) (withPending qs st))
+
+-- a turn may be taken: there is room for what it queues, and u has every id that is a parent
+pub record MayTurn (w : World) (cap : ℕ) (u : List Id) (m : Lent) (p : Pending) (st : Paint) : Type 0 where
+  pub reads : PaintReads w cap m p st
+  pub named : Named cap u m
+  pub parents-in : (x y : Id) → List·Memᴰ y (parentsOf (read w x)) → List·Memᴰ y u
+  pub room : TurnFits w (p .end - p .base) st
+
+-- what `turn` does: `turn`
+pub record TakesTurn (c : Cache) (g s : List ℕ) (cap : ℕ) (m m′ : Lent) (p : Pending) (r : Marked) : Type 0 where
+  pub right : Files c g s → (u : List Id) (st : Paint) → MayTurn (worldUnder c g s) cap u m p st
+      → Ends (worldUnder c g s) cap u p m m′ r (turn (worldUnder c g s) st (st .pending))
+
+-- the same after an answer: where painting does not go on, nothing is done
+abbrev pub TurnTakenAfter : Cache → List ℕ → List ℕ → ℕ → Lent → Lent → Marked → Marked → Type 0
+TurnTakenAfter c g s cap m m′ (Going p) r = TakesTurn c g s cap m m′ p r
+TurnTakenAfter c g s cap m m′ (Stop n) r = (m′ ≡ m) × (r ≡ Stop n)
+TurnTakenAfter c g s cap m m′ NoRoom r = (m′ ≡ m) × (r ≡ NoRoom)
+
+pub record TakesTurnAfter (c : Cache) (g s : List ℕ) (cap : ℕ) (m m′ : Lent) (past r : Marked) : Type 0 where
+  pub does : TurnTakenAfter c g s cap m m′ past r
+
+-- another turn is due after an answer: some are left, painting goes on, and "a queued commit lacks STALE"
+abbrev pub dueAfter : List ℕ → List ℕ → ℕ → Marked → Bool
+dueAfter marks line left (Going p) = cond (ltb 0 left) (anyFresh (staleAt marks) (slotsIn p line)) false
+dueAfter marks line left (Stop n) = false
+dueAfter marks line left NoRoom = false
+
+-- the turns may be taken: there is room for each
+pub record MayTurns (w : World) (cap : ℕ) (u : List Id) (m : Lent) (p : Pending) (st : Paint) : Type 0 where
+  pub reads : PaintReads w cap m p st
+  pub named : Named cap u m
+  pub parents-in : (x y : Id) → List·Memᴰ y (parentsOf (read w x)) → List·Memᴰ y u
+  pub room : (i : ℕ) (st′ : Paint) → turns w i st ≡ going st′ → fresh (st′ .stale) (st′ .pending) ≡ true → TurnFits w (p .end - p .base) st′
+
+-- what `turns` does: `turns`, at most k of them
+pub record TakesTurns (c : Cache) (g s : List ℕ) (cap : ℕ) (m m′ : Lent) (p : Pending) (k : ℕ) (r : Marked) : Type 0 where
+  pub right : Files c g s → (u : List Id) (st : Paint) → MayTurns (worldUnder c g s) cap u m p st
+      → Ends (worldUnder c g s) cap u p m m′ r (turns (worldUnder c g s) k st)
+
+abbrev pub TurnsTakenAfter : Cache → List ℕ → List ℕ → ℕ → Lent → Lent → Marked → ℕ → Marked → Type 0
+TurnsTakenAfter c g s cap m m′ (Going p) k r = TakesTurns c g s cap m m′ p k r
+TurnsTakenAfter c g s cap m m′ (Stop n) k r = (m′ ≡ m) × (r ≡ Stop n)
+TurnsTakenAfter c g s cap m m′ NoRoom k r = (m′ ≡ m) × (r ≡ NoRoom)
+
+pub record TakesTurnsAfter (c : Cache) (g s : List ℕ) (cap : ℕ) (m m′ : Lent) (past : Marked) (k : ℕ) (r : Marked) : Type 0 where
+  pub does : TurnsTakenAfter c g s cap m m′ past k r

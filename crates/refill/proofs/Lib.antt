@@ -1,0 +1,5 @@
+pub mod Lists
+pub mod Rereading
+pub mod Draining
+pub mod Refilling
+pub mod Ending

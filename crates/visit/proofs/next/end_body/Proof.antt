@@ -1,0 +1,48 @@
+-- `visit::next::end_body` meets its contract: an answer for each end of the reading. Assumes nothing.
+use mathlib.Core.Path.{sym, ap, _∙_}
+use Rattle.reading.specs.declared.body.BodyEnd.{BodyEnd}
+use Rattle.visit.specs.Taking.{endGiven}
+use borrow.Author.Needs.{needs}
+use Rattle.visit.proofs.next.end_body.Statement.{statement}
+use Rattle.visit.proofs.next.end_body.Tie as tie
+
+enum-told : tie.Need-enum-told
+enum-told c = search needs
+
+give-requires : tie.Need-give-requires
+give-requires c κs = search needs
+
+enum-told-2 : tie.Need-enum-told-2
+enum-told-2 c = search needs
+
+refuse-requires : tie.Need-refuse-requires
+refuse-requires c κs = search needs
+
+enum-told-3 : tie.Need-enum-told-3
+enum-told-3 c = search needs
+
+refuse-requires-2 : tie.Need-refuse-requires-2
+refuse-requires-2 c κs = search needs
+
+returns : tie.Need-returns
+returns c = let a = c .before .before .before .args in record { is = c .give .ensures ∙ ap (λ (e : BodyEnd). endGiven e (a .id .bytes) (a .seen .parents) (a .time) (a .seen .after)) (sym (c .before .enum-told .given .1)) }
+
+returns-2 : tie.Need-returns-2
+returns-2 c = let a = c .before .before .before .args in record { is = c .refuse .ensures ∙ ap (λ (e : BodyEnd). endGiven e (a .id .bytes) (a .seen .parents) (a .time) (a .seen .after)) (sym (c .before .enum-told2 .given .1)) }
+
+returns-3 : tie.Need-returns-3
+returns-3 c = let a = c .before .before .before .args in record { is = c .refuse2 .ensures ∙ ap (λ (e : BodyEnd). endGiven e (a .id .bytes) (a .seen .parents) (a .time) (a .seen .after)) (sym (c .before .enum-told3 .given .1)) }
+
+pub end-body-spec : {M : Type 1} → statement M
+end-body-spec =
+    tie.close
+    (tie.spec
+    enum-told
+    give-requires
+    enum-told-2
+    refuse-requires
+    enum-told-3
+    refuse-requires-2
+    returns
+    returns-2
+    returns-3)

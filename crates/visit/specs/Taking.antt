@@ -1,0 +1,101 @@
+-- What taking the next commit promises: the walk's own answer in all its fields, the ids at the start of the buffer parents, and the walk's own
+-- state after it. Assumes nothing.
+use Prim.Native.Nat.{ℕ, _+_, _≤_, _<_}
+use mathlib.Core.Path.{_≡_}
+use mathlib.Core.Bool.{Bool, true, false, cond, _||_}
+use mathlib.Core.Option.{some}
+use mathlib.Core.List.{List, map, List·Memᴰ}
+use lib.ListN.{length, take, getD}
+use lib.IntN.{ℤ}
+use Rattle.hash.specs.Bytes.{Id}
+use Rattle.date.specs.declared.Seconds.{Seconds}
+use Rattle.object.specs.Header.{Header}
+use Rattle.odb.specs.Store.{storeOk}
+use Rattle.commitgraph.specs.Graph.{graphOk, layoutOf}
+use Rattle.commitgraph.specs.declared.Layout.{Layout}
+use Rattle.commitgraph.specs.declared.Level.{Level}
+use Rattle.walk.specs.declared.Settings.{Settings}
+use Rattle.walk.specs.declared.Outcome.{Outcome}
+use Rattle.walk.specs.declared.Outcome.the-variants.{Commit, Refused}
+use Rattle.walk.specs.declared.Refusal.the-variants.{CommitUnreadable, TooManyParents}
+use Rattle.walk.specs.declared.MaybeLevel.{MaybeLevel}
+use Rattle.walk.specs.declared.MaybeLevel.the-variants.{NoGeneration}
+use Rattle.walk.specs.declared.MaybeSeconds.{MaybeSeconds}
+use Rattle.walk.specs.declared.MaybeSeconds.the-variants.{Time, NoTime}
+use Rattle.walk.specs.Settings.{followed}
+use Rattle.walk.specs.Lookup.{row, rowAt, worldOf}
+use Rattle.walk.specs.State.{Walk, State, isEmpty}
+use Rattle.walk.specs.Next.{Step, fromRow, fromBody, takeStore, takeNext}
+use Rattle.walk.specs.Given.{noId, given, parentsGiven}
+use Rattle.reading.specs.declared.body.BodyEnd.{BodyEnd}
+use Rattle.reading.specs.declared.body.BodyEnd.the-variants.{Whole, Unreadable, Crowded}
+use Rattle.state.specs.declared.Record.{Record}
+use Rattle.state.specs.Reads.{Memory, Shape, Reads, Universe}
+use Rattle.visit.specs.declared.body.BodyVisited.{BodyVisited}
+use Rattle.visit.specs.declared.next.Taken.{Taken}
+use Rattle.visit.specs.Link.{GoesBy, Ready}
+
+-- an answer with the running numbers of the record r
+abbrev pub gave : Outcome → Id → ℕ → MaybeLevel → MaybeSeconds → Record → Taken
+gave o x n l t r = record {
+  answer = record { outcome = o; id = x; parents = n; generation = l; time = t; admitted = r .admitted; struck = r .struck; waiting = r .queue .count };
+  after = r;
+}
+
+abbrev pub timeGiven : Bool → Seconds → MaybeSeconds
+timeGiven b s = cond b (Time s) NoTime
+
+-- how many of n parents are followed
+pub record Follows (settings : Settings) (n k : ℕ) : Type 0 where
+  pub right : (ps : List (Id × ℤ)) → n ≡ length ps → k ≡ length (followed settings ps)
+
+abbrev pub endGiven : BodyEnd → Id → ℕ → MaybeSeconds → Record → Taken
+endGiven Whole x n t r = gave Commit x n NoGeneration t r
+endGiven Unreadable x n t r = gave (Refused CommitUnreadable) noId n NoGeneration NoTime r
+endGiven Crowded x n t r = gave (Refused TooManyParents) noId n NoGeneration NoTime r
+
+-- the answer after the parents of a body
+pub record EndsBody (seen : BodyVisited) (x : Id) (t : MaybeSeconds) (a : Taken) : Type 0 where
+  pub is : a ≡ endGiven (seen .ends) x (seen .parents) t (seen .after)
+
+-- the record r and the memory m read as the state st, whose ids lie in u; 256 commits more may be admitted
+pub record Rests (sh : Shape) (r : Record) (m : Memory) (st : State) (u : List Id) : Type 0 where
+  pub reads : Reads r m sh st
+  pub inside : Universe sh st u
+  pub slots : sh .cap ≤ 4294967296
+  pub numbers : st .admitted + 256 + 2 < 4294967296
+
+-- the answer a, the buffer b′ and the memory m′ are those of the step s
+pub record Gives (sh : Shape) (m m′ : Memory) (b b′ : List ℕ) (a : Taken) (s : Step) : Type 0 where
+  pub answer : a .answer ≡ given (s .answer)
+  pub down : b′ ≡ parentsGiven (s .answer) b
+  pub reads : Reads (a .after) m′ sh (s .state)
+  pub line-kept : (k : ℕ) → sh .cap + sh .cap ≤ k → getD (m′ .line) k 0 ≡ getD (m .line) k 0
+
+-- the parents that the two files name lie in u
+pub record InRows (v : Walk) (u : List Id) : Type 0 where
+  pub inside : (x p : Id) (ps : List (Id × ℤ)) (l : ℕ) (s : ℤ) → v .world .graph x ≡ row ps l s → List·Memᴰ p (map (λ q. q .0) ps) → List·Memᴰ p u
+
+pub record InStore (v : Walk) (u : List Id) : Type 0 where
+  pub inside : (x p : Id) (h : Header) → v .world .store x ≡ some h → List·Memᴰ p (h .ids) → List·Memᴰ p u
+
+-- the commit x, queued with t seconds and out of the queue already, from its row
+pub record TakesRow (excluded : List ℕ) (settings : Settings) (g : List ℕ) (l : Layout) (p n : ℕ) (c : Level) (r : Record) (x : Id) (t : ℤ) (m m′ : Memory) (b b′ : List ℕ) (a : Taken) : Type 0 where
+  pub right : graphOk g ≡ true → l ≡ layoutOf g → (ps : List (Id × ℤ)) (s : ℤ) → rowAt g p ≡ row ps (c .0) s → n ≡ length ps → (v : Walk) (sh : Shape) (st : State) (u : List Id) (t′ : ℤ)
+      → GoesBy v sh excluded settings → Ready sh r m st u 256 → ((q : Id) → List·Memᴰ q (map (λ q. q .0) ps) → List·Memᴰ q u) → (sh .timed ≡ true → t ≡ t′) → 5120 ≤ length b
+      → Gives sh m m′ b b′ a (fromRow v st x t′ ps (c .0))
+
+-- from the store
+pub record TakesBody (excluded : List ℕ) (settings : Settings) (store : List ℕ) (r : Record) (x : Id) (t : ℤ) (m m′ : Memory) (b b′ : List ℕ) (a : Taken) : Type 0 where
+  pub right : storeOk store ≡ true → (g : List ℕ) (v : Walk) (sh : Shape) (st : State) (u : List Id) (t′ : ℤ) → GoesBy v sh excluded settings → v .world ≡ worldOf store g
+      → Ready sh r m st u 256 → InStore v u → (sh .timed ≡ true → t ≡ t′) → 5120 ≤ length b → Gives sh m m′ b b′ a (fromBody v st x t′ (v .world .store x))
+
+-- the first of the queue, from the store alone
+pub record TakesStored (excluded : List ℕ) (settings : Settings) (store : List ℕ) (r : Record) (m m′ : Memory) (b b′ : List ℕ) (a : Taken) : Type 0 where
+  pub right : storeOk store ≡ true → (g : List ℕ) (v : Walk) (sh : Shape) (st : State) (u : List Id) → GoesBy v sh excluded settings → v .world ≡ worldOf store g
+      → Rests sh r m st u → InStore v u → 5120 ≤ length b → Gives sh m m′ b b′ a (takeStore v st (st .queue))
+
+-- the next commit
+pub record TakesNext (excluded : List ℕ) (settings : Settings) (graph store : List ℕ) (r : Record) (m m′ : Memory) (b b′ : List ℕ) (a : Taken) : Type 0 where
+  pub right : storeOk store ≡ true → (isEmpty graph || graphOk graph) ≡ true → (v : Walk) (sh : Shape) (st : State) (u : List Id) → GoesBy v sh excluded settings
+      → v .world ≡ worldOf store graph → Rests sh r m st u → InRows v u → InStore v u → 5120 ≤ length b → Gives sh m m′ b b′ a (takeNext v st)

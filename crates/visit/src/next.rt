@@ -1,0 +1,320 @@
+// The next commit of the queue.
+use crate::body::BodyVisited;
+use crate::body::visit_body;
+use crate::link::only_first;
+use crate::row::visit_row;
+use commitgraph::Layout;
+use commitgraph::Level;
+use date::Seconds;
+use object::ObjectId;
+use odb::Located;
+use reading::BodyEnd;
+use reading::RowRead;
+use state::Record;
+use walk::Answer;
+use walk::MaybeLevel;
+use walk::MaybeSeconds;
+use walk::Outcome;
+use walk::Refusal;
+use walk::Settings;
+ghost use mathlib.Core.Path.{_≡_};
+ghost use Rattle.walk.specs.declared.Outcome.the-variants.{Refused};
+ghost use Rattle.walk.specs.declared.MaybeLevel.the-variants.{NoGeneration};
+ghost use Rattle.walk.specs.declared.MaybeSeconds.the-variants.{NoTime};
+ghost use Rattle.walk.specs.Given.{noId};
+ghost use Rattle.state.specs.Steps.{mem};
+ghost use Rattle.visit.specs.Taking.{gave, timeGiven, Follows, EndsBody, TakesRow, TakesBody, TakesStored, TakesNext};
+
+// An answer, and the record after it.
+pub struct Taken {
+    pub answer: Answer,
+    pub after: Record,
+}
+
+// An answer with the running numbers of a record.
+fn give(
+    outcome: Outcome,
+    id: ObjectId,
+    parents: usize,
+    generation: MaybeLevel,
+    time: MaybeSeconds,
+    r: Record,
+) -> Taken
+    ensures { λ a. ⌜ a ≡ gave outcome (id .bytes) parents generation time r ⌝ }
+{
+    let q = r.queue;
+    let bytes = id.bytes;
+    let answer = Answer {
+        outcome,
+        id: bytes,
+        parents,
+        generation,
+        time,
+        admitted: r.admitted,
+        struck: r.struck,
+        waiting: q.count,
+    };
+    Taken { answer, after: r }
+}
+
+// A refusal, with the number of parents set down before it.
+fn refuse(why: Refusal, parents: usize, r: Record) -> Taken
+    ensures { λ a. ⌜ a ≡ gave (Refused why) noId parents NoGeneration NoTime r ⌝ }
+{
+    give(
+        Outcome::Refused(why),
+        ObjectId { bytes: [0u8; 20] },
+        parents,
+        MaybeLevel::NoGeneration,
+        MaybeSeconds::NoTime,
+        r,
+    )
+}
+
+// The seconds that a commit was queued with, in a queue by time.
+fn time_given(timed: bool, s: Seconds) -> MaybeSeconds
+    ensures { λ a. ⌜ a ≡ timeGiven timed s ⌝ }
+{
+    if timed {
+        return MaybeSeconds::Time(s);
+    }
+    MaybeSeconds::NoTime
+}
+
+// How many of n parents are followed.
+fn followed_count(settings: Settings, n: usize) -> usize
+    ensures { λ a. ⌜ Follows settings n a ⌝ }
+{
+    if only_first(settings) {
+        if 1 < n {
+            return 1;
+        }
+    }
+    n
+}
+
+// The commit from its row.
+fn take_row(
+    r: Record,
+    id: ObjectId,
+    s: Seconds,
+    graph: &[u8],
+    l: Layout,
+    position: usize,
+    count: usize,
+    level: Level,
+    names: &mut [u8],
+    marks: &mut [u8],
+    times: &mut [i64],
+    line: &mut [u32],
+    parents: &mut [u8],
+    excluded: &[u8],
+    settings: Settings,
+) -> Taken
+    ensures { λ a. ⌜ TakesRow (now (excluded .entry)) settings (now (graph .entry)) l position count level r (id .bytes) (s .0) (mem (now (names .entry)) (now (marks .entry)) (now (times .entry)) (now (line .entry))) (mem (now (names .exit)) (now (marks .exit)) (now (times .exit)) (now (line .exit))) (now (parents .entry)) (now (parents .exit)) a ⌝ }
+{
+    let q = r.queue;
+    let time = time_given(q.timed, s);
+    let n = followed_count(settings, count);
+    let at = visit_row(
+        r,
+        graph,
+        l,
+        position,
+        n,
+        names,
+        marks,
+        times,
+        line,
+        parents,
+        excluded,
+        settings,
+    );
+    give(
+        Outcome::Commit,
+        id,
+        n,
+        MaybeLevel::Generation(level),
+        time,
+        at,
+    )
+}
+
+// The answer after the parents of a body.
+fn end_body(seen: BodyVisited, id: ObjectId, time: MaybeSeconds) -> Taken
+    ensures { λ a. ⌜ EndsBody seen (id .bytes) time a ⌝ }
+{
+    let ends = seen.ends;
+    match ends {
+        BodyEnd::Whole => give(
+            Outcome::Commit,
+            id,
+            seen.parents,
+            MaybeLevel::NoGeneration,
+            time,
+            seen.after,
+        ),
+        BodyEnd::Unreadable => refuse(Refusal::CommitUnreadable, seen.parents, seen.after),
+        BodyEnd::Crowded => refuse(Refusal::TooManyParents, seen.parents, seen.after),
+    }
+}
+
+// The commit from the store.
+fn take_body(
+    r: Record,
+    id: ObjectId,
+    s: Seconds,
+    store: &[u8],
+    names: &mut [u8],
+    marks: &mut [u8],
+    times: &mut [i64],
+    line: &mut [u32],
+    parents: &mut [u8],
+    excluded: &[u8],
+    settings: Settings,
+) -> Taken
+    ensures { λ a. ⌜ TakesBody (now (excluded .entry)) settings (now (store .entry)) r (id .bytes) (s .0) (mem (now (names .entry)) (now (marks .entry)) (now (times .entry)) (now (line .entry))) (mem (now (names .exit)) (now (marks .exit)) (now (times .exit)) (now (line .exit))) (now (parents .entry)) (now (parents .exit)) a ⌝ }
+{
+    let q = r.queue;
+    match odb::locate(store, &id.bytes) {
+        Located::Body { start, end } => {
+            let seen = visit_body(
+                r,
+                store,
+                start,
+                end,
+                names,
+                marks,
+                times,
+                line,
+                parents,
+                excluded,
+                settings,
+            );
+            end_body(seen, id, time_given(q.timed, s))
+        }
+        Located::Absent => refuse(Refusal::CommitNotFound, 0, r),
+    }
+}
+
+// The end of the walk.
+fn end_walk(r: Record) -> Taken
+    ensures { λ a. ⌜ a ≡ gave Outcome.End noId 0 NoGeneration NoTime r ⌝ }
+{
+    give(
+        Outcome::End,
+        ObjectId { bytes: [0u8; 20] },
+        0,
+        MaybeLevel::NoGeneration,
+        MaybeSeconds::NoTime,
+        r,
+    )
+}
+
+// The first commit of the queue, from the store alone.
+fn take_stored(
+    r: Record,
+    store: &[u8],
+    names: &mut [u8],
+    marks: &mut [u8],
+    times: &mut [i64],
+    line: &mut [u32],
+    parents: &mut [u8],
+    excluded: &[u8],
+    settings: Settings,
+) -> Taken
+    ensures { λ a. ⌜ TakesStored (now (excluded .entry)) settings (now (store .entry)) r (mem (now (names .entry)) (now (marks .entry)) (now (times .entry)) (now (line .entry))) (mem (now (names .exit)) (now (marks .exit)) (now (times .exit)) (now (line .exit))) (now (parents .entry)) (now (parents .exit)) a ⌝ }
+{
+    let first = state::pop(r, names, times, line);
+    if first.found {
+        return take_body(
+            first.rest,
+            first.id,
+            first.seconds,
+            store,
+            names,
+            marks,
+            times,
+            line,
+            parents,
+            excluded,
+            settings,
+        );
+    }
+    end_walk(r)
+}
+
+// The next commit of the queue: it is looked up, and its parents are visited. A corrupt parent list drops the commit-graph file for good, and
+// the call goes on from the store.
+pub fn take_next(
+    r: Record,
+    graph: &[u8],
+    store: &[u8],
+    names: &mut [u8],
+    marks: &mut [u8],
+    times: &mut [i64],
+    line: &mut [u32],
+    parents: &mut [u8],
+    excluded: &[u8],
+    settings: Settings,
+) -> Taken
+    ensures { λ a. ⌜ TakesNext (now (excluded .entry)) settings (now (graph .entry)) (now (store .entry)) r (mem (now (names .entry)) (now (marks .entry)) (now (times .entry)) (now (line .entry))) (mem (now (names .exit)) (now (marks .exit)) (now (times .exit)) (now (line .exit))) (now (parents .entry)) (now (parents .exit)) a ⌝ }
+{
+    let first = state::pop(r, names, times, line);
+    if !first.found {
+        return end_walk(r);
+    }
+    let cache = reading::cache_of(graph, r.kept);
+    let l = reading::layout_of(cache);
+    let id = first.id;
+    match reading::row_of(cache, graph, &id.bytes) {
+        RowRead::Row {
+            position,
+            parents: count,
+            level,
+        } => take_row(
+            first.rest,
+            id,
+            first.seconds,
+            graph,
+            l,
+            position,
+            count,
+            level,
+            names,
+            marks,
+            times,
+            line,
+            parents,
+            excluded,
+            settings,
+        ),
+        RowRead::Corrupt => {
+            let back = state::drop_graph(first.rest, times, line, first.slot);
+            take_stored(
+                back,
+                store,
+                names,
+                marks,
+                times,
+                line,
+                parents,
+                excluded,
+                settings,
+            )
+        }
+        RowRead::NoRow => take_body(
+            first.rest,
+            id,
+            first.seconds,
+            store,
+            names,
+            marks,
+            times,
+            line,
+            parents,
+            excluded,
+            settings,
+        ),
+    }
+}
