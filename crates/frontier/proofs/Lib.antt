@@ -5,3 +5,8 @@ pub mod MarkAnswers
 pub mod Steps
 pub mod Runs
 pub mod TurnLaws
+pub mod SortedIds
+pub mod Collect
+pub mod Wash
+pub mod PaintRoom
+pub mod PaintAll

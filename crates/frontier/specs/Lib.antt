@@ -4,3 +4,5 @@ pub mod Paint
 pub mod Mark
 pub mod Lists
 pub mod Turns
+pub mod Prepare
+pub mod Painted

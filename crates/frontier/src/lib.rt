@@ -1,8 +1,99 @@
 // The frontier (compute_hidden_frontier of gix_traverse::commit::simple): commits reachable both from the commits that wait and from the
 // hidden tips. Painting works in lent memory: a slot's id, mark, generation and seconds, and a queue of slots. Every function is total
 // and safe on any bytes and numbers.
-pub mod bits;
-pub mod lists;
-pub mod marking;
-pub mod slots;
-pub mod turns;
+mod bits;
+mod lists;
+mod marking;
+mod prepare;
+mod slots;
+mod turns;
+
+pub use marking::Marked;
+
+use commit::Cache;
+use hashtable::marks::HIDDEN;
+use hashtable::marks::VISIBLE;
+use revwalk::pending::Pending;
+use revwalk::queue::Queue;
+ghost use mathlib.Core.Path.{_≡_};
+ghost use Prim.Native.Nat.{_*_, _≤_};
+ghost use lib.ListN.{length};
+ghost use Rattle.walk.specs.Opening.{listIds};
+ghost use Rattle.frontier.specs.Paint.{lent};
+ghost use Rattle.frontier.specs.Painted.{loweredTo, PaintsFrom, Paints};
+
+// An answer whose queue may reach down to another place.
+fn lowered(past: Marked, base: usize) -> Marked
+    ensures { λ r. ⌜ r ≡ loweredTo base past ⌝ }
+{
+    match past {
+        Marked::Going(p) => Marked::Going(Pending {
+            base,
+            start: p.start,
+            end: p.end,
+        }),
+        Marked::Stop(n) => Marked::Stop(n),
+        Marked::NoRoom => Marked::NoRoom,
+    }
+}
+
+// Painting, where the commits that wait stand in the n slots from line[2 * cap] on by rising id. While these get VISIBLE the queue keeps
+// clear of them.
+fn paint_from(
+    names: &mut [u8],
+    marks: &mut [u8],
+    levels: &mut [u32],
+    times: &mut [i64],
+    line: &mut [u32],
+    cap: usize,
+    cache: Cache,
+    graph: &[u8],
+    store: &[u8],
+    n: usize,
+    hidden: &[u8],
+) -> Marked
+    requires { ⌜ (5 * cap ≤ length (now line)) × (n ≤ cap) ⌝ }
+    ensures { λ r. ⌜ PaintsFrom cache (now (graph .entry)) (now (store .entry)) cap (lent (now (names .entry)) (now (marks .entry)) (now (levels .entry)) (now (times .entry)) (now (line .entry))) (lent (now (names .exit)) (now (marks .exit)) (now (levels .exit)) (now (times .exit)) (now (line .exit))) n (listIds (now (hidden .entry))) r ⌝ }
+{
+    let from = 2 * cap;
+    let end = 5 * cap;
+    let most = 4 * cap;
+    let p = Pending {
+        base: from + n,
+        start: end,
+        end,
+    };
+    let shown = lists::mark_run(names, marks, levels, times, line, cap, cache, graph, store, p, from, n, VISIBLE);
+    let low = lowered(shown, from);
+    let both = lists::mark_list(names, marks, levels, times, line, cap, cache, graph, store, low, hidden, HIDDEN);
+    turns::turns(names, marks, levels, times, line, cap, cache, graph, store, both, most)
+}
+
+// Paints: the commits that wait get VISIBLE, the hidden tips HIDDEN, and these marks go from parent to parent, with STALE where both have
+// met. The frontier is every id that has both.
+pub fn paint(
+    names: &mut [u8],
+    marks: &mut [u8],
+    levels: &mut [u32],
+    times: &mut [i64],
+    line: &mut [u32],
+    cap: usize,
+    cache: Cache,
+    graph: &[u8],
+    store: &[u8],
+    waiting: Queue,
+    hidden: &[u8],
+) -> Marked
+    ensures { λ r. ⌜ Paints cache (now (graph .entry)) (now (store .entry)) cap (lent (now (names .entry)) (now (marks .entry)) (now (levels .entry)) (now (times .entry)) (now (line .entry))) (lent (now (names .exit)) (now (marks .exit)) (now (levels .exit)) (now (times .exit)) (now (line .exit))) waiting (listIds (now (hidden .entry))) r ⌝ }
+{
+    let n = waiting.count;
+    if line.len() / 5 < cap {
+        return Marked::NoRoom;
+    }
+    if cap < n {
+        return Marked::NoRoom;
+    }
+    prepare::wash(marks, cap);
+    prepare::collect(line, names, waiting, 2 * cap);
+    paint_from(names, marks, levels, times, line, cap, cache, graph, store, n, hidden)
+}
