@@ -1,3 +1,4 @@
 pub mod Link
 pub mod Parents
 pub mod Taking
+pub mod Plain

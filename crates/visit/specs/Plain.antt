@@ -1,0 +1,33 @@
+-- What holds of taking the next commit on any bytes, files and numbers (document 01: "a call gives some answer of this paper"). Assumes
+-- nothing.
+use Prim.Native.Nat.{ℕ, _*_, _≤_}
+use mathlib.Core.Path.{_≡_}
+use mathlib.Core.List.{List}
+use lib.ListN.{getD}
+use Rattle.hash.specs.Bytes.{idBytes}
+use Rattle.object.specs.Header.{most}
+use Rattle.walk.specs.declared.Outcome.{Outcome}
+use Rattle.walk.specs.declared.Outcome.the-variants.{Commit, End, Refused}
+use Rattle.walk.specs.declared.MaybeLevel.the-variants.{NoGeneration}
+use Rattle.walk.specs.declared.MaybeSeconds.the-variants.{NoTime}
+use Rattle.walk.specs.AnyInput.{OfCall}
+use Rattle.walk.specs.Given.{Given, noId}
+
+-- "A refusal or end carries no id, level or seconds (zeros there)"
+pub record Bare (a : Given) : Type 0 where
+  pub no-id : a .id ≡ noId
+  pub no-generation : a .generation ≡ NoGeneration
+  pub no-time : a .time ≡ NoTime
+
+-- a commit; the end, with no parents; or refusal 9, 10 or 11
+abbrev pub ShapedBy : Outcome → Given → Type 0
+ShapedBy Commit a = Unit {0}
+ShapedBy End a = Bare a × (a .parents ≡ 0)
+ShapedBy (Refused r) a = Bare a × OfCall r
+
+-- an answer of document 01, with the buffer parents before and after it: at most 256 parents are counted, and "parents past the ids given
+-- keeps its bytes"
+pub record Plain (b b′ : List ℕ) (a : Given) : Type 0 where
+  pub shape : ShapedBy (a .outcome) a
+  pub few : a .parents ≤ most
+  pub past : (k : ℕ) → idBytes * a .parents ≤ k → getD b′ k 0 ≡ getD b k 0
