@@ -3,8 +3,7 @@
 use mathlib.Core.Path.{_≡_, refl, sym, ap, _∙_, subst}
 use Prim.Native.Nat.{ℕ, suc, _+_, _*_, _≤_, _<_}
 use mathlib.Core.Bool.{Bool, true, false, cond, not, _&&_}
-use mathlib.Core.Option.{none, some}
-use mathlib.Core.List.{List, [], _∷_, _++_, map}
+use mathlib.Core.List.{List, [], _∷_}
 use native.Mathlib.Omega.{arith}
 use lib.ListN.{length, take, getD, length-map}
 use lib.Seq.{length-take-le, take-suc, take-all}
@@ -12,7 +11,6 @@ use lib.IntN.{ℤ}
 use Rattle.hash.specs.Bytes.{Id, idBytes, setDown}
 use Rattle.hash.proofs.Tests.{byCases, clash}
 use Rattle.object.specs.Header.{Header, header}
-use Rattle.object.specs.declared.ObjectId.{ObjectId}
 use Rattle.object.proofs.Headers.{no-header, parent-width}
 use Rattle.odb.specs.Store.{storeOk}
 use Rattle.walk.specs.declared.Settings.{Settings}
@@ -20,8 +18,7 @@ use Rattle.walk.specs.Settings.{onlyFirst, followed}
 use Rattle.walk.specs.Lookup.{World, worldOf, secondsFor}
 use Rattle.walk.specs.State.{Walk, isEmpty}
 use Rattle.walk.specs.Next.{withSeconds, ending}
-use Rattle.reading.specs.Body.{endOf, refusalOf, StepsBody, GivesBodyParent}
-use Rattle.reading.specs.declared.body.BodyEnd.{BodyEnd}
+use Rattle.reading.specs.Body.{refusalOf, StepsBody}
 use Rattle.reading.specs.declared.body.BodyEnd.the-variants.{Whole, Unreadable}
 use Rattle.reading.specs.declared.body.BodyStep.{BodyStep}
 use Rattle.reading.proofs.Lines.{step-taken, step-ended, ending-tree, ending-stopped, ending-read}
@@ -30,7 +27,9 @@ use Rattle.state.specs.declared.Record.{Record}
 use Rattle.state.specs.Reads.{Memory}
 use Rattle.visit.specs.declared.body.BodyRead.{BodyRead}
 use Rattle.visit.specs.Link.{Visits, VisitsStored}
-use Rattle.visit.specs.Parents.{VisitsAll, stored, VisitsBodyParent, VisitsParents, EndsFirst, EndsAll, ReadsBody, VisitsBody}
+use Rattle.visit.specs.Parents.{SetsParent, VisitsAll, stored, VisitsBodyParent, VisitsParents, EndsFirst, EndsAll, ReadsBody, VisitsBody}
+use Rattle.visit.specs.Plain.{Past}
+use Rattle.visit.proofs.Past.{past-none, past-next}
 use Rattle.visit.proofs.Parents.{map-snoc, Run, run-start, run-next}
 
 pub not-true : (b : Bool) → not b ≡ true → b ≡ false
@@ -57,23 +56,25 @@ seconds-stored v (x ∷ l) = ap (λ (r : List (Id × ℤ)). (x, secondsFor (v .w
 -- ---- the visits
 
 pub body-parent : {excluded : List ℕ} {settings : Settings} {store d : List ℕ} {k : ℕ} {r r′ : Record} {m m′ : Memory} {b b′ : List ℕ} {y : Id}
-    → (header d .tree ≡ true → k < length (header d .ids) → y ≡ getD (header d .ids) k []) → (k < 256 → b′ ≡ setDown b (idBytes * k) y) → VisitsStored excluded settings store r m m′ y r′
+    → (header d .tree ≡ true → k < length (header d .ids) → y ≡ getD (header d .ids) k []) → SetsParent k y b b′ → VisitsStored excluded settings store r m m′ y r′
     → VisitsBodyParent excluded settings store d k r m m′ b b′ r′
 body-parent {excluded} {settings} {store} {d} {k} {r} {r′} {m} {m′} {b} {b′} {y} i s v = record {
   right = λ ok g t h.
       let e = i t h in (
         subst (λ (x : Id). Visits excluded settings r m m′ x (secondsFor (worldOf store g) x) r′) e (v .right ok g),
-        s (omega (arith, h, header-few d)) ∙ ap (setDown b (idBytes * k)) e,
+        s .down (omega (arith, h, header-few d)) (omega (arith, ap length e, parent-width d t k h)) ∙ ap (setDown b (idBytes * k)) e,
       );
+  past = s .past;
 }
 
 -- after k parents of the body d
 pub record BodyRun (excluded : List ℕ) (settings : Settings) (store d : List ℕ) (k : ℕ) (r : Record) (m m′ : Memory) (b b′ : List ℕ) (r′ : Record) : Type 0 where
   pub right : storeOk store ≡ true → (g : List ℕ) → k ≤ length (header d .ids) → Run excluded settings r m m′ b b′ (stored (worldOf store g) (take k (header d .ids))) r′
+  pub past : Past k b b′
 
 module _ {excluded : List ℕ} {settings : Settings} {store d : List ℕ} {r : Record} {m : Memory} {b : List ℕ} where
   pub body-start : BodyRun excluded settings store d 0 r m m b b r
-  body-start = record { right = λ ok g h. run-start }
+  body-start = record { right = λ ok g h. run-start; past = past-none }
 
   pub body-next : {k : ℕ} {r′ r″ : Record} {m′ m″ : Memory} {b′ b″ : List ℕ} → BodyRun excluded settings store d k r m m′ b b′ r′ → VisitsBodyParent excluded settings store d k r′ m′ m″ b′ b″ r″
       → BodyRun excluded settings store d (k + 1) r m m″ b b″ r″
@@ -89,11 +90,12 @@ module _ {excluded : List ℕ} {settings : Settings} {store d : List ℕ} {r : R
         (ap (λ (j : ℕ). stored w (take j l)) n ∙ ap (stored w) (take-suc l k [] s) ∙ map-snoc (λ (x : Id). (x, secondsFor w x)) (take k l) (getD l k []))
         (length-map (take k l) (λ (x : Id). (x, secondsFor w x)) ∙ length-take-le k l (omega arith))
         (omega (arith, s, header-few d)) (parent-width d t k s) (run .right ok g (omega arith)) (f .0) (f .1);
+    past = past-next (run .past) (one .past);
   }
 
   pub body-done : {k n : ℕ} {r′ : Record} {m′ : Memory} {b′ : List ℕ} → BodyRun excluded settings store d k r m m′ b b′ r′ → k ≡ n → VisitsParents excluded settings store d n r m m′ b b′ r′
   body-done {k} {n} {r′} {m′} {b′} run e =
-      subst (λ (j : ℕ). VisitsParents excluded settings store d j r m m′ b b′ r′) e (record { right = λ ok g h. run .right ok g h .all })
+      subst (λ (j : ℕ). VisitsParents excluded settings store d j r m m′ b b′ r′) e (record { right = λ ok g h. run .right ok g h .all; past = run .past })
 
 -- ---- how many, and how the reading ends
 
@@ -184,4 +186,5 @@ body-visited {excluded} {settings} {store} {d} {r} {r′} {m} {m′} {b} {b′} 
       let n : a .parents ≤ length l = omega (arith, e .parents, f .1) in
       let i : take (a .parents) l ≡ followed settings l = ap (λ (j : ℕ). take j l) (e .parents) ∙ f .0 in
       subst (λ (k : List Id). VisitsAll excluded settings r m m′ b b′ (stored (worldOf store g) k) r′) i (v .right ok g n);
+  past = v .past;
 })

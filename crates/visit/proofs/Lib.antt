@@ -1,3 +1,4 @@
+pub mod Past
 pub mod Links
 pub mod Parents
 pub mod Bodies

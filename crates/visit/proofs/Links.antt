@@ -2,7 +2,7 @@
 -- The ids stay in the universe, since the parent is in it, and at most one commit more is admitted. Assumes nothing.
 use mathlib.Core.Path.{_≡_, refl, sym, ap, _∙_, subst}
 use mathlib.Core.Logic.{⊎-elim}
-use Prim.Native.Nat.{ℕ, suc, _+_, _≤_, _<_}
+use Prim.Native.Nat.{ℕ, suc}
 use mathlib.Core.Bool.{Bool, true, false, cond, not, _&&_, _||_}
 use mathlib.Core.List.{List, List·Memᴰ}
 use native.Mathlib.Omega.{arith}
@@ -18,7 +18,7 @@ use Rattle.walk.specs.Next.{admits, visit}
 use Rattle.walk.proofs.Laws.{add-cases}
 use Rattle.state.specs.declared.Record.{Record}
 use Rattle.state.specs.declared.Seen.{Seen}
-use Rattle.state.specs.Reads.{Memory, Shape, Reads, Universe}
+use Rattle.state.specs.Reads.{Shape, Reads, Universe}
 use Rattle.state.specs.Shapes.{beforeOf, shapeFor, joins}
 use Rattle.state.specs.Steps.{mem, Sees, Waits}
 use Rattle.state.proofs.Shapes.{waits-shape}

@@ -23,7 +23,9 @@ use Rattle.reading.proofs.Rows.{row-few, row-width}
 use Rattle.state.specs.declared.Record.{Record}
 use Rattle.state.specs.Reads.{Memory, Shape}
 use Rattle.visit.specs.Link.{GoesBy, Ready, Went, Visits}
-use Rattle.visit.specs.Parents.{VisitsAll, VisitsRowParent, VisitsRow}
+use Rattle.visit.specs.Parents.{SetsParent, VisitsAll, VisitsRowParent, VisitsRow}
+use Rattle.visit.specs.Plain.{Past}
+use Rattle.visit.proofs.Past.{past-none, past-next, row-narrow}
 
 -- ---- one more at the end of a list
 
@@ -114,24 +116,26 @@ module _ {excluded : List ℕ} {settings : Settings} {r : Record} {m : Memory} {
 -- ---- the parents of a row
 
 pub row-parent : {excluded : List ℕ} {settings : Settings} {g : List ℕ} {l : Layout} {p k : ℕ} {r r′ : Record} {m m′ : Memory} {b b′ : List ℕ} {y : Id} {s : Seconds}
-    → GivesRowParent g l p k y → GivesRowParentSeconds g l p k s → (k < 256 → b′ ≡ setDown b (idBytes * k) y) → Visits excluded settings r m m′ y (s .0) r′
+    → GivesRowParent g l p k y → GivesRowParentSeconds g l p k s → SetsParent k y b b′ → Visits excluded settings r m m′ y (s .0) r′
     → VisitsRowParent excluded settings g l p k r m m′ b b′ r′
 row-parent {excluded} {settings} {g} {l} {p} {k} {r} {r′} {m} {m′} {b} {b′} {y} {s} i t d v = record {
   right = λ own ps u w e h.
       let x = i .right own ps u w e h in
       let z = t .right own ps u w e h in (
         subst (λ (q : Id). Visits excluded settings r m m′ q (getD ps k ([], pos 0) .1) r′) x (subst (λ (q : ℤ). Visits excluded settings r m m′ y q r′) z v),
-        d (omega (arith, h, row-few g p ps u w e)) ∙ ap (setDown b (idBytes * k)) x,
+        d .down (omega (arith, h, row-few g p ps u w e)) (omega (arith, ap length x, row-narrow g p ps u w e k h)) ∙ ap (setDown b (idBytes * k)) x,
       );
+  past = d .past;
 }
 
 -- after k parents of the row at position p
 pub record RowRun (excluded : List ℕ) (settings : Settings) (g : List ℕ) (l : Layout) (p k : ℕ) (r : Record) (m m′ : Memory) (b b′ : List ℕ) (r′ : Record) : Type 0 where
   pub right : graphOk g ≡ true → l ≡ layoutOf g → (ps : List (Id × ℤ)) (v : ℕ) (t : ℤ) → rowAt g p ≡ row ps v t → k ≤ length ps → Run excluded settings r m m′ b b′ (take k ps) r′
+  pub past : Past k b b′
 
 module _ {excluded : List ℕ} {settings : Settings} {g : List ℕ} {l : Layout} {p : ℕ} {r : Record} {m : Memory} {b : List ℕ} where
   pub row-start : RowRun excluded settings g l p 0 r m m b b r
-  row-start = record { right = λ ok own ps v t e h. run-start }
+  row-start = record { right = λ ok own ps v t e h. run-start; past = past-none }
 
   pub row-next : {k : ℕ} {r′ r″ : Record} {m′ m″ : Memory} {b′ b″ : List ℕ} → RowRun excluded settings g l p k r m m′ b b′ r′ → VisitsRowParent excluded settings g l p k r′ m′ m″ b′ b″ r″
       → RowRun excluded settings g l p (k + 1) r m m″ b b″ r″
@@ -142,11 +146,12 @@ module _ {excluded : List ℕ} {settings : Settings} {g : List ℕ} {l : Layout}
         let w = one .right own ps v t e s in
         run-next (take (k + 1) ps) (getD ps k ([], pos 0)) k (ap (λ (j : ℕ). take j ps) n ∙ take-suc ps k ([], pos 0) s) (length-take-le k ps (omega arith))
         (omega (arith, s, row-few g p ps v t e)) (row-width g p ps v t e ok k s) (run .right ok own ps v t e (omega arith)) (w .0) (w .1);
+    past = past-next (run .past) (one .past);
   }
 
   pub row-done : {k n : ℕ} {r′ : Record} {m′ : Memory} {b′ : List ℕ} → RowRun excluded settings g l p k r m m′ b b′ r′ → k ≡ n → VisitsRow excluded settings g l p n r m m′ b b′ r′
   row-done {k} {n} {r′} {m′} {b′} run e =
-      subst (λ (j : ℕ). VisitsRow excluded settings g l p j r m m′ b b′ r′) e (record { right = λ ok own ps v t q h. run .right ok own ps v t q h .all })
+      subst (λ (j : ℕ). VisitsRow excluded settings g l p j r m m′ b b′ r′) e (record { right = λ ok own ps v t q h. run .right ok own ps v t q h .all; past = run .past })
 
 -- ---- the lent buffers keep their lengths
 

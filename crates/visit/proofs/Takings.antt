@@ -1,22 +1,22 @@
 -- Taking the next commit is the walk's own step: the row or the body that the two files have decides its case, the visits give its state, and the
 -- running numbers are those that the record reads as. Assumes nothing.
 use mathlib.Core.Path.{_≡_, refl, sym, ap, _∙_, subst}
-use Prim.Native.Nat.{ℕ, suc, _+_, _-_, _≤_, _<_}
+use Prim.Native.Nat.{ℕ, _+_, _-_, _≤_, _<_}
 use mathlib.Core.Bool.{Bool, true, false, cond, _||_}
 use mathlib.Core.Option.{Option, none, some}
 use mathlib.Core.List.{List, [], _∷_, map, List·Memᴰ}
 use native.Mathlib.Omega.{arith}
 use lib.ListN.{length, take, getD, length-map}
-use lib.IntN.{ℤ, pos}
-use Rattle.hash.specs.Bytes.{Id, idBytes, setDown}
+use lib.IntN.{ℤ}
+use Rattle.hash.specs.Bytes.{Id, setDown}
 use Rattle.hash.proofs.Tests.{byCases, clash}
 use Rattle.date.specs.declared.Seconds.{Seconds}
-use Rattle.object.specs.Header.{Header, header}
+use Rattle.object.specs.Header.{Header, header, most}
 use Rattle.odb.specs.Store.{storeOk}
 use Rattle.odb.specs.Lookup.{Locates, partOf}
 use Rattle.odb.specs.declared.Located.{Located}
 use Rattle.odb.specs.declared.Located.the-variants.{Body, Absent}
-use Rattle.commitgraph.specs.Graph.{graphOk, layoutOf}
+use Rattle.commitgraph.specs.Graph.{graphOk}
 use Rattle.commitgraph.specs.declared.Layout.{Layout}
 use Rattle.commitgraph.specs.declared.Level.{Level}
 use Rattle.walk.specs.declared.Settings.{Settings}
@@ -29,7 +29,7 @@ use Rattle.walk.specs.declared.MaybeLevel.the-variants.{Generation, NoGeneratio
 use Rattle.walk.specs.declared.MaybeSeconds.{MaybeSeconds}
 use Rattle.walk.specs.declared.MaybeSeconds.the-variants.{Time, NoTime}
 use Rattle.walk.specs.Settings.{followed, byTime, onlyFirst}
-use Rattle.walk.specs.Lookup.{secondsFor, World, Row, row, no-row, corrupt, rowAt, worldOf}
+use Rattle.walk.specs.Lookup.{secondsFor, World, Row, row, no-row, corrupt, worldOf}
 use Rattle.walk.specs.State.{Walk, State, withQueue, isEmpty}
 use Rattle.walk.specs.Next.{Kind, end, refused, handed, Step, step, visitAll, withSeconds, queuedSeconds, ending, kindOf, fromRow, fromBody, takeStore, dropped, back, takeRow, takeQueue, takeNext}
 use Rattle.walk.specs.Given.{noId, outcomeOf, idOfKind, levelOfKind, secondsOfKind, secondsGiven, joined, given, parentsGiven}
@@ -45,17 +45,19 @@ use Rattle.reading.proofs.World.{located-body, located-none, good-cache, kept-w
 use Rattle.reading.proofs.Rows.{row-few}
 use Rattle.reading.proofs.Whole.{header-few}
 use Rattle.state.specs.declared.Record.{Record}
-use Rattle.state.specs.Reads.{Memory, Shape, Reads, Universe}
+use Rattle.state.specs.Reads.{Memory, Shape, Reads}
 use Rattle.state.specs.declared.Next.{Next}
 use Rattle.state.specs.Shapes.{shapeFor, backTo}
 use Rattle.state.specs.Steps.{mem, Pops, Drops}
 use Rattle.state.proofs.States.{queue-length}
-use Rattle.state.proofs.Shapes.{back-shape, dropped-again}
+use Rattle.state.proofs.Shapes.{back-shape}
 use Rattle.visit.specs.declared.body.BodyVisited.{BodyVisited}
 use Rattle.visit.specs.declared.next.Taken.{Taken}
-use Rattle.visit.specs.Link.{GoesBy, Ready, Went}
+use Rattle.visit.specs.Link.{GoesBy, Ready}
 use Rattle.visit.specs.Parents.{VisitsAll, VisitsRow, VisitsBody, stored}
 use Rattle.visit.specs.Taking.{gave, timeGiven, Follows, endGiven, EndsBody, Rests, Gives, InRows, InStore, TakesRow, TakesBody, TakesStored, TakesNext}
+use Rattle.visit.specs.Plain.{Plain}
+use Rattle.visit.proofs.Past.{past-none, plain-end, plain-bare, plain-ends}
 use Rattle.visit.proofs.Parents.{set-down-none}
 use Rattle.visit.proofs.Bodies.{followed-take, followed-one, followed-all, seconds-stored}
 
@@ -101,14 +103,14 @@ time-right {v} {sh} {excluded} {settings} {r} by g s t e =
 -- ---- how many parents are followed
 
 pub follows-one : {settings : Settings} {n : ℕ} → onlyFirst settings ≡ true → 1 < n → Follows settings n 1
-follows-one {settings} {n} o h = record { right = λ ps e. go ps (omega (arith, e)) ∙ ap length (sym (followed-one settings ps o)) }
+follows-one {settings} {n} o h = record { right = λ ps e. go ps (omega (arith, e)) ∙ ap length (sym (followed-one settings ps o)); few = omega arith }
   where
     go : (ps : List (Id × ℤ)) → 1 < length ps → 1 ≡ length (take 1 ps)
     go [] k = absurd (omega arith)
     go (p ∷ ps) k = refl
 
 pub follows-few : {settings : Settings} {n : ℕ} → onlyFirst settings ≡ true → n ≤ 1 → Follows settings n n
-follows-few {settings} {n} o h = record { right = λ ps e. e ∙ go ps (omega (arith, e)) ∙ ap length (sym (followed-one settings ps o)) }
+follows-few {settings} {n} o h = record { right = λ ps e. e ∙ go ps (omega (arith, e)) ∙ ap length (sym (followed-one settings ps o)); few = omega arith }
   where
     go : (ps : List (Id × ℤ)) → length ps ≤ 1 → length ps ≡ length (take 1 ps)
     go [] k = refl
@@ -116,7 +118,7 @@ follows-few {settings} {n} o h = record { right = λ ps e. e ∙ go ps (omega (a
     go (p ∷ (q ∷ ps)) k = absurd (omega arith)
 
 pub follows-all : {settings : Settings} {n : ℕ} → onlyFirst settings ≡ false → Follows settings n n
-follows-all {settings} o = record { right = λ ps e. e ∙ ap length (sym (followed-all settings ps o)) }
+follows-all {settings} o = record { right = λ ps e. e ∙ ap length (sym (followed-all settings ps o)); few = omega arith }
 
 -- ---- from the row
 
@@ -144,6 +146,7 @@ takes-row {excluded} {settings} {g} {l} {p} {n} {k} {c} {r} {r′} {x} {s} {m} {
       (rw (followed-map (v .settings) (λ (q : Id × ℤ). q .0) ps) at (mem-map (λ (q : Id × ℤ). q .0) a fs y)))) in
       gives-step (handed x (some (c .0)) (queuedSeconds v t′)) (map (λ a. a .0) fs) (went .ready .reads) refl refl (many ∙ sym (length-map fs (λ (a : Id × ℤ). a .0))) refl
       (time-right by (d .reads) s t′ t) (all .down z) (went .line-kept);
+  plain = λ h. record { shape = tt; few = omega (arith, h, f .few); past = w .past .same };
 }
 
 -- ---- from the body
@@ -184,6 +187,10 @@ takes-body {excluded} {settings} {store} {r} {x} {s} {m} {m′} {b} {b′} {seen
       (subst (λ (q : Taken). Gives sh m m′ b b′ q (step (kindOf (ending (v .settings) h) (handed x none (queuedSeconds v t′))) fs (visitAll v st (withSeconds v fs)))) (sym (k .is))
       (ends-kind (seen .ends) (ending (v .settings) h) fs x (queuedSeconds v t′) (w .ends ∙ ap (λ (q : Settings). ending q h) (sym (by .same-settings))) reads (w .parents ∙ ap length same)
       (time-right by (d .reads) s t′ t) down (went .line-kept)));
+  plain =
+      let h : Header = header (partOf store (Body y e)) in
+      let short : seen .parents ≤ most = omega (arith, w .parents, followed-take settings (h .ids) .1, header-few (partOf store (Body y e))) in
+      subst (λ (q : Taken). Plain b b′ (q .answer)) (sym (k .is)) (plain-ends (seen .ends) x (timeGiven (r .queue .timed) s) (seen .after) short (w .past));
 }
 
 pub takes-absent : {excluded : List ℕ} {settings : Settings} {store : List ℕ} {r : Record} {x : Id} {t : ℤ} {m : Memory} {b : List ℕ} {o : Located} → Locates store x o → o ≡ Absent
@@ -194,6 +201,7 @@ takes-absent {excluded} {settings} {store} {r} {x} {t} {m} {b} f i = record {
       let there : v .world .store x ≡ none = ap (λ (q : World). q .store x) own ∙ located-none g f i ok in
       subst (λ (q : Option Header). Gives sh m m b b (gave (Refused CommitNotFound) noId 0 NoGeneration NoTime r) (fromBody v st x t′ q)) (sym there)
       (gives-step (refused CommitNotFound) [] (d .reads) refl refl refl refl refl (set-down-none b) (λ k h. refl));
+  plain = plain-bare r (omega arith, omega arith) (omega arith) past-none;
 }
 
 -- ---- the first of the queue
@@ -237,7 +245,7 @@ module _ {excluded : List ℕ} {settings : Settings} {store : List ℕ} {r : Rec
   pub stored-some : {m′ : Memory} {b′ : List ℕ} {a : Taken} → Pops r names times line line′ n → n .found ≡ true
       → TakesBody excluded settings store (n .rest) (n .id .bytes) (n .seconds .0) (mem names marks times line′) m′ b b′ a → TakesStored excluded settings store r (mem names marks times line) m′ b b′ a
   unfolding takeStore
-  stored-some {m′} {b′} {a} p f w = record { right = λ ok g v sh st u by own d j z. go ok g v sh st u by own d j z (st .queue) refl }
+  stored-some {m′} {b′} {a} p f w = record { right = λ ok g v sh st u by own d j z. go ok g v sh st u by own d j z (st .queue) refl; plain = w .plain }
     where
       go : storeOk store ≡ true → (g : List ℕ) (v : Walk) (sh : Shape) (st : State) (u : List Id) → GoesBy v sh excluded settings → v .world ≡ worldOf store g
           → Rests sh r (mem names marks times line) st u → InStore v u → 5120 ≤ length b → (q : List (Id × ℤ)) → st .queue ≡ q → Gives sh (mem names marks times line) m′ b b′ a (takeStore v st q)
@@ -251,7 +259,7 @@ module _ {excluded : List ℕ} {settings : Settings} {store : List ℕ} {r : Rec
   pub stored-none : Pops r names times line line′ n → n .found ≡ false
       → TakesStored excluded settings store r (mem names marks times line) (mem names marks times line′) b b (gave End noId 0 NoGeneration NoTime r)
   unfolding takeStore
-  stored-none p f = record { right = λ ok g v sh st u by own d j z. ended d p f (takeStore v st (st .queue)) (λ e. ap (takeStore v st) (sym e)) }
+  stored-none p f = record { right = λ ok g v sh st u by own d j z. ended d p f (takeStore v st (st .queue)) (λ e. ap (takeStore v st) (sym e)); plain = plain-end r }
 
 -- ---- the next commit
 

@@ -1,5 +1,5 @@
--- What the visits of a commit's parents promise: the state after the walk's own visits, and the ids at the start of the buffer parents.
--- Assumes nothing.
+-- What the visits of a commit's parents promise: the state after the walk's own visits, and the ids at the start of the buffer parents; on any
+-- bytes, that the buffer past these ids is as it was. Assumes nothing.
 use Prim.Native.Nat.{ℕ, _+_, _*_, _≤_, _<_}
 use mathlib.Core.Path.{_≡_}
 use mathlib.Core.Bool.{true}
@@ -7,7 +7,7 @@ use mathlib.Core.List.{List, [], map, List·Memᴰ}
 use lib.ListN.{length, take, getD}
 use lib.IntN.{ℤ, pos}
 use Rattle.hash.specs.Bytes.{Id, idBytes, setDown}
-use Rattle.object.specs.Header.{Header, header}
+use Rattle.object.specs.Header.{Header, header, most}
 use Rattle.odb.specs.Store.{storeOk}
 use Rattle.commitgraph.specs.Graph.{graphOk, layoutOf}
 use Rattle.commitgraph.specs.declared.Layout.{Layout}
@@ -24,6 +24,12 @@ use Rattle.state.specs.Reads.{Memory, Shape}
 use Rattle.visit.specs.declared.body.BodyRead.{BodyRead}
 use Rattle.visit.specs.declared.body.BodyVisited.{BodyVisited}
 use Rattle.visit.specs.Link.{GoesBy, Ready, Went, Visits}
+use Rattle.visit.specs.Plain.{Past}
+
+-- the id x is set down as that of parent k, within its 20 bytes
+pub record SetsParent (k : ℕ) (x : Id) (b b′ : List ℕ) : Type 0 where
+  pub down : k < most → length x ≤ idBytes → b′ ≡ setDown b (idBytes * k) x
+  pub past : Past (k + 1) b b′
 
 -- the parents ps, each with its seconds, are visited, and their ids set down at the start of the buffer b
 pub record VisitsAll (excluded : List ℕ) (settings : Settings) (r : Record) (m m′ : Memory) (b b′ : List ℕ) (ps : List (Id × ℤ)) (r′ : Record) : Type 0 where
@@ -37,10 +43,12 @@ pub record VisitsAll (excluded : List ℕ) (settings : Settings) (r : Record) (m
 pub record VisitsRowParent (excluded : List ℕ) (settings : Settings) (g : List ℕ) (l : Layout) (p k : ℕ) (r : Record) (m m′ : Memory) (b b′ : List ℕ) (r′ : Record) : Type 0 where
   pub right : l ≡ layoutOf g → (ps : List (Id × ℤ)) (v : ℕ) (t : ℤ) → rowAt g p ≡ row ps v t → k < length ps
       → Visits excluded settings r m m′ (getD ps k ([], pos 0) .0) (getD ps k ([], pos 0) .1) r′ × (b′ ≡ setDown b (idBytes * k) (getD ps k ([], pos 0) .0))
+  pub past : Past (k + 1) b b′
 
 -- the first n parents of the row at position p
 pub record VisitsRow (excluded : List ℕ) (settings : Settings) (g : List ℕ) (l : Layout) (p n : ℕ) (r : Record) (m m′ : Memory) (b b′ : List ℕ) (r′ : Record) : Type 0 where
   pub right : graphOk g ≡ true → l ≡ layoutOf g → (ps : List (Id × ℤ)) (v : ℕ) (t : ℤ) → rowAt g p ≡ row ps v t → n ≤ length ps → VisitsAll excluded settings r m m′ b b′ (take n ps) r′
+  pub past : Past n b b′
 
 -- ---- of a body
 
@@ -53,10 +61,12 @@ pub record VisitsBodyParent (excluded : List ℕ) (settings : Settings) (store d
   pub right : storeOk store ≡ true → (g : List ℕ) → header d .tree ≡ true → k < length (header d .ids)
       → Visits excluded settings r m m′ (getD (header d .ids) k []) (secondsFor (worldOf store g) (getD (header d .ids) k [])) r′
       × (b′ ≡ setDown b (idBytes * k) (getD (header d .ids) k []))
+  pub past : Past (k + 1) b b′
 
 -- the first n parents of the body d
 pub record VisitsParents (excluded : List ℕ) (settings : Settings) (store d : List ℕ) (n : ℕ) (r : Record) (m m′ : Memory) (b b′ : List ℕ) (r′ : Record) : Type 0 where
   pub right : storeOk store ≡ true → (g : List ℕ) → n ≤ length (header d .ids) → VisitsAll excluded settings r m m′ b b′ (stored (worldOf store g) (take n (header d .ids))) r′
+  pub past : Past n b b′
 
 -- "save where First has stopped": the first parent alone, and how the reading of a header with a good tree line ends
 pub record EndsFirst (h : Header) (r : BodyRead) : Type 0 where
@@ -79,3 +89,4 @@ pub record VisitsBody (excluded : List ℕ) (settings : Settings) (store : List 
   pub parents : a .parents ≡ length (followed settings (h .ids))
   pub ends : refusalOf (a .ends) ≡ ending settings h
   pub right : storeOk store ≡ true → (g : List ℕ) → VisitsAll excluded settings r m m′ b b′ (stored (worldOf store g) (followed settings (h .ids))) (a .after)
+  pub past : Past (a .parents) b b′

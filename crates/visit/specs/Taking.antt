@@ -1,15 +1,15 @@
 -- What taking the next commit promises: the walk's own answer in all its fields, the ids at the start of the buffer parents, and the walk's own
--- state after it. Assumes nothing.
+-- state after it; on any bytes, an answer of document 01. Assumes nothing.
 use Prim.Native.Nat.{ℕ, _+_, _≤_, _<_}
 use mathlib.Core.Path.{_≡_}
-use mathlib.Core.Bool.{Bool, true, false, cond, _||_}
+use mathlib.Core.Bool.{Bool, true, cond, _||_}
 use mathlib.Core.Option.{some}
 use mathlib.Core.List.{List, map, List·Memᴰ}
-use lib.ListN.{length, take, getD}
+use lib.ListN.{length, getD}
 use lib.IntN.{ℤ}
 use Rattle.hash.specs.Bytes.{Id}
 use Rattle.date.specs.declared.Seconds.{Seconds}
-use Rattle.object.specs.Header.{Header}
+use Rattle.object.specs.Header.{Header, most}
 use Rattle.odb.specs.Store.{storeOk}
 use Rattle.commitgraph.specs.Graph.{graphOk, layoutOf}
 use Rattle.commitgraph.specs.declared.Layout.{Layout}
@@ -34,6 +34,7 @@ use Rattle.state.specs.Reads.{Memory, Shape, Reads, Universe}
 use Rattle.visit.specs.declared.body.BodyVisited.{BodyVisited}
 use Rattle.visit.specs.declared.next.Taken.{Taken}
 use Rattle.visit.specs.Link.{GoesBy, Ready}
+use Rattle.visit.specs.Plain.{Plain}
 
 -- an answer with the running numbers of the record r
 abbrev pub gave : Outcome → Id → ℕ → MaybeLevel → MaybeSeconds → Record → Taken
@@ -48,6 +49,7 @@ timeGiven b s = cond b (Time s) NoTime
 -- how many of n parents are followed
 pub record Follows (settings : Settings) (n k : ℕ) : Type 0 where
   pub right : (ps : List (Id × ℤ)) → n ≡ length ps → k ≡ length (followed settings ps)
+  pub few : k ≤ n
 
 abbrev pub endGiven : BodyEnd → Id → ℕ → MaybeSeconds → Record → Taken
 endGiven Whole x n t r = gave Commit x n NoGeneration t r
@@ -84,16 +86,19 @@ pub record TakesRow (excluded : List ℕ) (settings : Settings) (g : List ℕ) (
   pub right : graphOk g ≡ true → l ≡ layoutOf g → (ps : List (Id × ℤ)) (s : ℤ) → rowAt g p ≡ row ps (c .0) s → n ≡ length ps → (v : Walk) (sh : Shape) (st : State) (u : List Id) (t′ : ℤ)
       → GoesBy v sh excluded settings → Ready sh r m st u 256 → ((q : Id) → List·Memᴰ q (map (λ q. q .0) ps) → List·Memᴰ q u) → (sh .timed ≡ true → t ≡ t′) → 5120 ≤ length b
       → Gives sh m m′ b b′ a (fromRow v st x t′ ps (c .0))
+  pub plain : n ≤ most → Plain b b′ (a .answer)
 
 -- from the store
 pub record TakesBody (excluded : List ℕ) (settings : Settings) (store : List ℕ) (r : Record) (x : Id) (t : ℤ) (m m′ : Memory) (b b′ : List ℕ) (a : Taken) : Type 0 where
   pub right : storeOk store ≡ true → (g : List ℕ) (v : Walk) (sh : Shape) (st : State) (u : List Id) (t′ : ℤ) → GoesBy v sh excluded settings → v .world ≡ worldOf store g
       → Ready sh r m st u 256 → InStore v u → (sh .timed ≡ true → t ≡ t′) → 5120 ≤ length b → Gives sh m m′ b b′ a (fromBody v st x t′ (v .world .store x))
+  pub plain : Plain b b′ (a .answer)
 
 -- the first of the queue, from the store alone
 pub record TakesStored (excluded : List ℕ) (settings : Settings) (store : List ℕ) (r : Record) (m m′ : Memory) (b b′ : List ℕ) (a : Taken) : Type 0 where
   pub right : storeOk store ≡ true → (g : List ℕ) (v : Walk) (sh : Shape) (st : State) (u : List Id) → GoesBy v sh excluded settings → v .world ≡ worldOf store g
       → Rests sh r m st u → InStore v u → 5120 ≤ length b → Gives sh m m′ b b′ a (takeStore v st (st .queue))
+  pub plain : Plain b b′ (a .answer)
 
 -- the next commit
 pub record TakesNext (excluded : List ℕ) (settings : Settings) (graph store : List ℕ) (r : Record) (m m′ : Memory) (b b′ : List ℕ) (a : Taken) : Type 0 where

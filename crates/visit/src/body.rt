@@ -6,7 +6,6 @@ use odb::Located;
 use reading::BodyEnd;
 use state::Record;
 use walk::Settings;
-ghost use mathlib.Core.Path.{_≡_};
 ghost use Rattle.object.specs.Header.{header};
 ghost use Rattle.odb.specs.Lookup.{partOf};
 ghost use Rattle.odb.specs.declared.Located.the-variants.{Body};

@@ -24,6 +24,7 @@ ghost use Rattle.walk.specs.declared.MaybeSeconds.the-variants.{NoTime};
 ghost use Rattle.walk.specs.Given.{noId};
 ghost use Rattle.state.specs.Steps.{mem};
 ghost use Rattle.visit.specs.Taking.{gave, timeGiven, Follows, EndsBody, TakesRow, TakesBody, TakesStored, TakesNext};
+ghost use Rattle.visit.specs.Plain.{Plain};
 
 // An answer, and the record after it.
 pub struct Taken {
@@ -258,7 +259,7 @@ pub fn take_next(
     excluded: &[u8],
     settings: Settings,
 ) -> Taken
-    ensures { λ a. ⌜ TakesNext (now (excluded .entry)) settings (now (graph .entry)) (now (store .entry)) r (mem (now (names .entry)) (now (marks .entry)) (now (times .entry)) (now (line .entry))) (mem (now (names .exit)) (now (marks .exit)) (now (times .exit)) (now (line .exit))) (now (parents .entry)) (now (parents .exit)) a ⌝ }
+    ensures { λ a. ⌜ TakesNext (now (excluded .entry)) settings (now (graph .entry)) (now (store .entry)) r (mem (now (names .entry)) (now (marks .entry)) (now (times .entry)) (now (line .entry))) (mem (now (names .exit)) (now (marks .exit)) (now (times .exit)) (now (line .exit))) (now (parents .entry)) (now (parents .exit)) a × Plain (now (parents .entry)) (now (parents .exit)) (a .answer) ⌝ }
 {
     let first = state::pop(r, names, times, line);
     if !first.found {

@@ -3,20 +3,17 @@ use crate::link::visit_cached;
 use commitgraph::Layout;
 use state::Record;
 use walk::Settings;
-ghost use mathlib.Core.Path.{_≡_};
-ghost use Prim.Native.Nat.{_*_, _<_};
-ghost use Rattle.hash.specs.Bytes.{idBytes, setDown};
 ghost use Rattle.state.specs.Steps.{mem};
-ghost use Rattle.visit.specs.Parents.{VisitsRowParent, VisitsRow};
+ghost use Rattle.visit.specs.Parents.{SetsParent, VisitsRowParent, VisitsRow};
 
 // The most parents of a commit.
 const MOST_PARENTS: usize = 256;
 
-// Sets down the id of parent k.
+// Sets down the id of parent k in the 20 bytes that are its place; a longer one is not set down.
 pub(crate) fn set_parent(parents: &mut [u8], k: usize, id: &[u8])
-    ensures { λ r. ⌜ (k < 256 → now (parents .exit) ≡ setDown (now (parents .entry)) (idBytes * k) (now (id .entry))) ⌝ }
+    ensures { λ r. ⌜ SetsParent k (now (id .entry)) (now (parents .entry)) (now (parents .exit)) ⌝ }
 {
-    if k < MOST_PARENTS {
+    if k < MOST_PARENTS && id.len() <= hash::ID_BYTES {
         hash::set_down(parents, hash::ID_BYTES * k, id);
     }
 }

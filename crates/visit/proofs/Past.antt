@@ -1,0 +1,104 @@
+-- What is set down stays inside the ids that are counted, and the answer has one of document 01's shapes, on any bytes: an id of at most 20
+-- bytes changes nothing past its own place, and at most 256 parents come out of either file. Assumes nothing.
+use mathlib.Core.Path.{_≡_, refl, sym, ap, _∙_}
+use Prim.Native.Nat.{ℕ, _+_, _*_, _-_, _≤_, _<_}
+use mathlib.Core.Bool.{true, false}
+use mathlib.Core.Option.{some}
+use mathlib.Core.List.{List, [], _++_}
+use native.Mathlib.Omega.{arith}
+use lib.Dec.{leb}
+use lib.ListN.{length, take, drop, getD, length-take}
+use lib.Seq.{getD-append-add, getD-drop, length-take-le}
+use lib.IntN.{ℤ, pos}
+use borrow.Author.Tests.{leb-true, leb-false}
+use Rattle.hash.specs.Bytes.{Id, idBytes, at, setDown}
+use Rattle.hash.proofs.Bytes.{setDown-fits, setDown-not}
+use Rattle.hash.proofs.Tests.{byCases}
+use Rattle.object.specs.Header.{most}
+use Rattle.commitgraph.specs.Graph.{graphParents, layoutOf, idIn}
+use Rattle.commitgraph.specs.declared.Level.{Level}
+use Rattle.commit.specs.declared.Cache.{Cache}
+use Rattle.walk.specs.declared.Outcome.the-variants.{End, Refused}
+use Rattle.walk.specs.declared.Refusal.{Refusal}
+use Rattle.walk.specs.declared.MaybeLevel.the-variants.{NoGeneration}
+use Rattle.walk.specs.declared.MaybeSeconds.{MaybeSeconds}
+use Rattle.walk.specs.declared.MaybeSeconds.the-variants.{NoTime}
+use Rattle.walk.specs.AnyInput.{OfCall}
+use Rattle.walk.specs.Given.{noId}
+use Rattle.walk.specs.Lookup.{row, rowAt}
+use Rattle.reading.specs.declared.body.BodyEnd.{BodyEnd}
+use Rattle.reading.specs.declared.body.BodyEnd.the-variants.{Whole, Unreadable, Crowded}
+use Rattle.reading.specs.Row.{ReadsRow}
+use Rattle.reading.specs.declared.row.RowRead.{RowRead}
+use Rattle.reading.specs.declared.row.RowRead.the-variants.{Row as RowAt}
+use Rattle.reading.proofs.Rows.{row-parts, parent-there}
+use Rattle.state.specs.declared.Record.{Record}
+use Rattle.visit.specs.Parents.{SetsParent}
+use Rattle.visit.specs.Plain.{Past, Plain}
+use Rattle.visit.specs.Taking.{gave, endGiven}
+
+-- ---- the bytes past the ids
+
+pub past-none : {n : ℕ} {b : List ℕ} → Past n b b
+past-none = record { same = λ k h. refl }
+
+-- one id more
+pub past-next : {k : ℕ} {b b′ b″ : List ℕ} → Past k b b′ → Past (k + 1) b′ b″ → Past (k + 1) b b″
+past-next p q = record { same = λ j h. q .same j h ∙ p .same j (omega arith) }
+
+-- the bytes past those that are set down
+set-down-past : (b : List ℕ) (i : ℕ) (x : List ℕ) (j : ℕ) → i + length x ≤ j → getD (setDown b i x) j 0 ≡ getD b j 0
+set-down-past b i x j h = byCases (leb (i + length x) (length b)) fits misfit
+  where
+    fits : leb (i + length x) (length b) ≡ true → getD (setDown b i x) j 0 ≡ getD b j 0
+    fits e =
+        let n : i + length x ≤ length b = leb-true (i + length x) (length b) e in
+        let a : length (take i b) ≡ i = length-take-le i b (omega arith) in
+        let u : j ≡ length (take i b) + (length x + (j - (i + length x))) = omega (arith, a) in
+        let w : i + length x + (j - (i + length x)) ≡ j = omega arith in
+        ap (λ (l : List ℕ). getD l j 0) (setDown-fits b i x n)
+        ∙ ap (λ (k : ℕ). getD (take i b ++ (x ++ drop (i + length x) b)) k 0) u
+        ∙ getD-append-add (take i b) (x ++ drop (i + length x) b) (length x + (j - (i + length x))) 0
+        ∙ getD-append-add x (drop (i + length x) b) (j - (i + length x)) 0
+        ∙ getD-drop (i + length x) b (j - (i + length x)) 0
+        ∙ ap (λ (k : ℕ). getD b k 0) w
+
+    misfit : leb (i + length x) (length b) ≡ false → getD (setDown b i x) j 0 ≡ getD b j 0
+    misfit e = ap (λ (l : List ℕ). getD l j 0) (setDown-not b i x (leb-false (i + length x) (length b) e))
+
+pub parent-set : {k : ℕ} {x b b′ : List ℕ} → length x ≤ idBytes → b′ ≡ setDown b (idBytes * k) x → SetsParent k x b b′
+parent-set {k} {x} {b} h e = record {
+  down = λ i n. e;
+  past = record { same = λ j i. ap (λ (l : List ℕ). getD l j 0) e ∙ set-down-past b (idBytes * k) x j (omega arith) };
+}
+
+-- a parent past the most, or an id that does not fit its place
+pub parent-left : {k : ℕ} {x b : List ℕ} → (k < most → length x ≤ idBytes → ⊥) → SetsParent k x b b
+parent-left f = record { down = λ i n. absurd (f i n); past = past-none }
+
+-- the id of a row's parent has at most 20 bytes, whatever the file holds
+pub row-narrow : (g : List ℕ) (p : ℕ) (ps : List (Id × ℤ)) (v : ℕ) (t : ℤ) → rowAt g p ≡ row ps v t → (k : ℕ) → k < length ps → length (getD ps k ([], pos 0) .0) ≤ idBytes
+unfolding idIn at graphParents
+row-narrow g p ps v t e k h =
+    let parts = row-parts g p ps v t e in
+    let q : ℕ = getD (parts .places) k 0 in
+    let there = parent-there g p ps v t e {l = layoutOf g} {k = k} {q = q} refl (λ qs f n. let o : some (parts .places) ≡ some qs = sym (parts .listed) ∙ f in let z : parts .places ≡ qs = cc in ap (λ (l : List ℕ). getD l k 0) z) h in
+    omega (arith, ap (λ (a : Id × ℤ). length (a .0)) there, length-take idBytes (drop (layoutOf g .ids + idBytes * q) g))
+
+-- a row that is read lists at most 256 parents, whatever the file holds
+pub row-counted : {c : Cache} {g : List ℕ} {x : Id} {w : RowRead} {p n : ℕ} {v : Level} → ReadsRow c g x w → w ≡ RowAt p n v → n ≤ most
+row-counted e i = rw i at (e .few)
+
+-- ---- the shape of an answer
+
+pub plain-end : {b : List ℕ} (r : Record) → Plain b b (gave End noId 0 NoGeneration NoTime r .answer)
+plain-end r = record { shape = (record { no-id = refl; no-generation = refl; no-time = refl }, refl); few = omega arith; past = λ k h. refl }
+
+pub plain-bare : {b b′ : List ℕ} {w : Refusal} {n : ℕ} (r : Record) → OfCall w → n ≤ most → Past n b b′ → Plain b b′ (gave (Refused w) noId n NoGeneration NoTime r .answer)
+plain-bare r c h p = record { shape = (record { no-id = refl; no-generation = refl; no-time = refl }, c); few = h; past = p .same }
+
+-- after a body's parents
+pub plain-ends : {b b′ : List ℕ} {n : ℕ} (e : BodyEnd) (x : Id) (t : MaybeSeconds) (r : Record) → n ≤ most → Past n b b′ → Plain b b′ (endGiven e x n t r .answer)
+plain-ends Whole x t r h p = record { shape = tt; few = h; past = p .same }
+plain-ends Unreadable x t r h p = plain-bare r (omega arith, omega arith) h p
+plain-ends Crowded x t r h p = plain-bare r (omega arith, omega arith) h p
