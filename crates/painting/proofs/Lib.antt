@@ -1,0 +1,5 @@
+pub mod FirstState
+pub mod Ready
+pub mod Kept
+pub mod Finish
+pub mod First

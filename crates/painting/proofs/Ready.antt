@@ -1,0 +1,159 @@
+-- At the first call painting may begin, and what ends it may follow: the graph is used, so painting reads the walk's own files; P places are
+-- enough for both lists and for every parent; a taken slot is a seen one; and the numbers are small. Assumes nothing.
+use mathlib.Core.Path.{_≡_, refl, sym, ap, _∙_, subst}
+use mathlib.Core.Logic.{⊎-elim, inl, inr}
+use Prim.Native.Nat.{ℕ, _+_, _≤_, _<_}
+use mathlib.Core.Bool.{Bool, true, false, _||_}
+use mathlib.Core.Option.{none}
+use mathlib.Core.List.{List, [], _∷_, _++_, map}
+use native.Mathlib.Omega.{arith}
+use lib.ListN.{length, length-append, getD}
+use lib.IntN.{ℤ}
+use Rattle.hash.specs.Bytes.{Id}
+use Rattle.hash.proofs.Tests.{or-left, or-right}
+use Rattle.hashtable.specs.Marks.{visible, hidden, seen, frontier}
+use Rattle.hashtable.specs.Table.{idOf, liveAt, Table, markFor}
+use Rattle.hashtable.proofs.TableView.{look}
+use Rattle.commitgraph.specs.Graph.{graphOk}
+use Rattle.walk.specs.Settings.{byTime}
+use Rattle.walk.specs.Lookup.{World}
+use Rattle.walk.specs.State.{State, ids, isEmpty}
+use Rattle.walk.specs.Opening.{Input, P, walkOf, listIds, refusal}
+use Rattle.walk.specs.Reach.{Mem}
+use Rattle.walk.proofs.Tips.{open-accepted}
+use Rattle.walk.proofs.Whole.{open-fresh, names, accepted}
+use Rattle.walk.proofs.Enough.{kids-named}
+use Rattle.walk.proofs.Outside.{length-ids}
+use Rattle.walk.proofs.Room.{open-roomy, roomy-fits}
+use Rattle.walk.proofs.Universe.{universe, universe-length, open-named, hidden-in, kid-in}
+use Rattle.reading.specs.Files.{cacheOf, worldUnder}
+use Rattle.reading.proofs.World.{good-cache, kept-world}
+use Rattle.opening.proofs.Input.{places-few}
+use Rattle.state.specs.declared.Record.{Record}
+use Rattle.state.specs.Reads.{Memory, entryOf, waiting}
+use Rattle.state.specs.Shapes.{shapeFor}
+use Rattle.frontier.specs.Paint.{Lent, lent, Files, Named}
+use Rattle.frontier.specs.Painted.{Ample, waitingIds, MayPaint}
+use Rattle.refill.specs.Painted.{Due}
+use Rattle.painting.specs.First.{AtFirst}
+use Rattle.painting.proofs.FirstState.{opened-kept}
+
+-- the memory with the levels beside it
+abbrev pub lentOf : Memory → List ℕ → Lent
+lentOf m levels = lent (m .names) (m .marks) levels (m .times) (m .line)
+
+ids-entries : (timed : Bool) (names : List ℕ) (times : List ℤ) (l : List ℕ) → ids (map (entryOf timed names times) l) ≡ map (idOf names) l
+unfolding ids
+ids-entries timed names times [] = refl
+ids-entries timed names times (s ∷ l) = ap (λ (r : List Id). idOf names s ∷ r) (ids-entries timed names times l)
+
+module _ {i : Input} {r : Record} {m : Memory} {levels : List ℕ} {st : State} (a : AtFirst i r m levels st) where
+  none-refused : refusal i ≡ none
+  none-refused = open-accepted i st (a .accepted)
+
+  pub unpainted : r .painted ≡ false
+  unpainted = sym (a .reads .painted) ∙ open-fresh i st (a .accepted) .not-painted
+
+  pub kept : r .kept ≡ true
+  kept = sym (a .reads .kept) ∙ opened-kept i st (a .accepted)
+
+  pub waiting-ids : waitingIds (r .queue) (lentOf m levels) ≡ ids (st .queue)
+  waiting-ids = sym (ap ids (a .reads .queue) ∙ ids-entries (byTime (i .settings)) (m .names) (m .times) (waiting r m))
+
+  -- ---- the files
+
+  pub files : Files (cacheOf (i .graph) true) (i .graph) (i .store)
+  files =
+      let g = accepted i none-refused in
+      record {
+        store-ok = g .store-ok;
+        graph-ok = good-cache (i .graph) true (⊎-elim (or-left (isEmpty (i .graph)) (graphOk (i .graph))) (or-right (isEmpty (i .graph)) (graphOk (i .graph))) (g .graph-ok));
+      }
+
+  pub same-world : worldUnder (cacheOf (i .graph) true) (i .graph) (i .store) ≡ walkOf i .world
+  unfolding walkOf
+  same-world = kept-world (i .graph) (i .store)
+
+  -- ---- marks before painting
+
+  table : Table false (m .names) (m .marks) (P i)
+  table = subst (λ (b : Bool). Table b (m .names) (m .marks) (P i)) unpainted (a .reads .table)
+
+  taken-seen : (k : ℕ) → k < P i → liveAt false (m .marks) k ≡ true → seen (getD (m .marks) k 0) ≡ true
+  unfolding seen
+  taken-seen k l h = ap seen (a .reads .only-seen unpainted k l h)
+
+  pub taken-plain : (k : ℕ) → k < P i → liveAt false (m .marks) k ≡ true → frontier (getD (m .marks) k 0) ≡ false
+  unfolding frontier visible hidden
+  taken-plain k l h = ap frontier (a .reads .only-seen unpainted k l h)
+
+  held-seen : (y : Id) → (markFor false (m .names) (m .marks) (P i) y ≡ 0 → ⊥) → st .seen y ≡ true
+  held-seen y n =
+      ⊎-elim
+      (λ u.
+      a .reads .seen-is y ∙ ap (λ (b : Bool). seen (markFor b (m .names) (m .marks) (P i) y)) unpainted ∙ ap seen (u .mark)
+      ∙ taken-seen (u .slot) (u .holds .low) (u .holds .alive))
+      (λ u. absurd (n (u .1)))
+      (look false (m .names) (m .marks) (P i) y)
+
+  -- ---- room
+
+  named : Named (P i) (universe i) (lentOf m levels)
+  named = record {
+    few = universe-length i none-refused;
+    small = omega (arith, places-few i none-refused);
+    inside = λ y n. open-named i st (a .accepted) .seen-in y (held-seen y n);
+  }
+
+  lists-short : length (ids (st .queue)) + length (listIds (i .hidden)) + length (names i) ≤ P i
+  unfolding universe
+  lists-short =
+      omega (
+        arith,
+        open-fresh i st (a .accepted) .short,
+        length-ids (st .queue),
+        universe-length i none-refused,
+        length-append (listIds (i .tips)) (listIds (i .hidden) ++ names i),
+        length-append (listIds (i .hidden)) (names i),
+      )
+
+  ample : Ample (walkOf i .world) (P i) (universe i) (ids (st .queue)) (listIds (i .hidden))
+  unfolding walkOf
+  ample = record {
+    parents = names i;
+    short = lists-short;
+    each-parent = kids-named i;
+    waiting-in = open-named i st (a .accepted) .queue-in;
+    hidden-in = hidden-in i;
+    parents-in = kid-in i;
+  }
+
+  may-walk : MayPaint (walkOf i .world) (P i) (universe i) (lentOf m levels) (r .queue) (listIds (i .hidden))
+  may-walk = record {
+    table = table;
+    for-levels = a .for-levels;
+    for-times = a .reads .for-times;
+    for-line = a .reads .for-line;
+    queue-cap = a .reads .cap;
+    good = a .reads .good;
+    only-seen = taken-seen;
+    waits-seen = a .reads .waits-seen;
+    named = named;
+    ample = subst (λ (l : List Id). Ample (walkOf i .world) (P i) (universe i) l (listIds (i .hidden))) (sym waiting-ids) ample;
+  }
+
+  pub may-paint : MayPaint (worldUnder (cacheOf (i .graph) true) (i .graph) (i .store)) (P i) (universe i) (lentOf m levels) (r .queue) (listIds (i .hidden))
+  may-paint = subst (λ (w : World). MayPaint w (P i) (universe i) (lentOf m levels) (r .queue) (listIds (i .hidden))) (sym same-world) may-walk
+
+  -- ---- what ends painting
+
+  pub due : Due r m (shapeFor (i .settings) (P i)) st
+  due =
+      let f = open-fresh i st (a .accepted) in
+      let n = roomy-fits i none-refused st (open-roomy i st (a .accepted)) in
+      record {
+        reads = a .reads;
+        unpainted = unpainted;
+        waited = omega (arith, f .tallied);
+        few = omega (arith, f .tallied, n .admitted-fits, a .reads .struck, places-few i none-refused);
+      }
