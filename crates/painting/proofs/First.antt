@@ -1,7 +1,7 @@
 -- The first call's painting, put together: where it is not due the state is the next commit's at once; else the painting in lent memory is the
 -- walk's painting, and what ends it leaves the walk's state after painting, or its refusal. Assumes nothing.
 use mathlib.Core.Path.{_≡_, refl, sym, ap, ap₂, _∙_, subst, subst₂, subst₃}
-use mathlib.Core.Logic.{_⊎_, inl, inr, ⊎-elim}
+use mathlib.Core.Logic.{_⊎_, inl, ⊎-elim}
 use Prim.Native.Nat.{ℕ, _*_, _≤_, _<_}
 use mathlib.Core.Bool.{Bool, true, false, cond, _&&_, _||_}
 use mathlib.Core.List.{List, [], _∷_}
@@ -10,16 +10,16 @@ use lib.ListN.{length}
 use lib.IntN.{ℤ}
 use Rattle.hash.specs.Bytes.{Id}
 use Rattle.hash.proofs.Tests.{and-first, clash, or-left, or-right}
-use Rattle.hashtable.specs.Marks.{visible, hidden, frontier}
-use Rattle.hashtable.specs.Table.{Table, markFor}
+use Rattle.hashtable.specs.Marks.{frontier}
+use Rattle.hashtable.specs.Table.{markFor}
 use Rattle.commit.specs.declared.Cache.{Cache}
 use Rattle.revwalk.specs.declared.pending.Pending.{Pending}
 use Rattle.walk.specs.declared.Refusal.{Refusal}
 use Rattle.walk.specs.Lookup.{World}
 use Rattle.walk.specs.State.{Walk, State, nobody, ids, isEmpty}
-use Rattle.walk.specs.Opening.{Input, P, walkOf, listIds, Opening, opened, openWalk}
-use Rattle.walk.specs.Painting.{Paint, Painting, stop, going, paint, bothMarks}
-use Rattle.walk.specs.Next.{Kind, refused, Step, step, takeNext, outside, paintedWith, afterPaint, firstCall, next}
+use Rattle.walk.specs.Opening.{Input, P, walkOf, listIds, Opening}
+use Rattle.walk.specs.Painting.{Painting, stop, paint, bothMarks}
+use Rattle.walk.specs.Next.{refused, Step, step, takeNext, outside, paintedWith, afterPaint, firstCall}
 use Rattle.walk.specs.Calls.{stateOf, stateAfter, answerOn, answerAt}
 use Rattle.walk.specs.Reach.{Mem}
 use Rattle.walk.specs.AnyInput.{OfCall, RefusedByCall}
@@ -37,12 +37,12 @@ use Rattle.state.specs.Steps.{mem}
 use Rattle.state.proofs.States.{queue-length}
 use Rattle.frontier.specs.declared.marking.Marked.{Marked}
 use Rattle.frontier.specs.declared.marking.Marked.the-variants.{Going, Stop, NoRoom}
-use Rattle.frontier.specs.Paint.{Lent, lent, Goes, Stops, Ends}
+use Rattle.frontier.specs.Paint.{lent, Goes, Stops, Ends}
 use Rattle.frontier.specs.Painted as all
 use Rattle.refill.specs.Painted.{Skips, Leaves, Fails}
 use Rattle.painting.specs.declared.Painted.{Painted}
-use Rattle.painting.specs.declared.Painted.the-variants.{Done, Refused, Touched}
-use Rattle.painting.specs.First.{AtFirst, GoesOn, GivesUp, Told, RefusesBy, Paints}
+use Rattle.painting.specs.declared.Painted.the-variants.{Done}
+use Rattle.painting.specs.First.{AtFirst, GoesOn, GivesUp, Told, Paints}
 use Rattle.painting.specs.Inner.{RefusesCall, Finished, Finishes}
 use Rattle.painting.proofs.FirstState.{opened-timed}
 use Rattle.painting.proofs.Ready.{lentOf, kept, waiting-ids, files, same-world, taken-plain, may-paint, due}

@@ -1,9 +1,9 @@
 -- At the first call painting may begin, and what ends it may follow: the graph is used, so painting reads the walk's own files; P places are
 -- enough for both lists and for every parent; a taken slot is a seen one; and the numbers are small. Assumes nothing.
 use mathlib.Core.Path.{_≡_, refl, sym, ap, _∙_, subst}
-use mathlib.Core.Logic.{⊎-elim, inl, inr}
+use mathlib.Core.Logic.{⊎-elim}
 use Prim.Native.Nat.{ℕ, _+_, _≤_, _<_}
-use mathlib.Core.Bool.{Bool, true, false, _||_}
+use mathlib.Core.Bool.{Bool, true, false}
 use mathlib.Core.Option.{none}
 use mathlib.Core.List.{List, [], _∷_, _++_, map}
 use native.Mathlib.Omega.{arith}
@@ -19,7 +19,6 @@ use Rattle.walk.specs.Settings.{byTime}
 use Rattle.walk.specs.Lookup.{World}
 use Rattle.walk.specs.State.{State, ids, isEmpty}
 use Rattle.walk.specs.Opening.{Input, P, walkOf, listIds, refusal}
-use Rattle.walk.specs.Reach.{Mem}
 use Rattle.walk.proofs.Tips.{open-accepted}
 use Rattle.walk.proofs.Whole.{open-fresh, names, accepted}
 use Rattle.walk.proofs.Enough.{kids-named}

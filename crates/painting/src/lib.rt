@@ -44,7 +44,14 @@ fn finish_painting(
     ensures { λ y. ⌜ Finishes a r (now (store .entry)) (now (names .entry)) (now (marks .entry)) (now (times .entry)) (now (times .exit)) (now (line .entry)) (now (line .exit)) y ⌝ }
 {
     match a {
-        Marked::Going(_) => Painted::Done(refill::leave_frontier(r, store, names, marks, times, line)),
+        Marked::Going(_) => Painted::Done(refill::leave_frontier(
+            r,
+            store,
+            names,
+            marks,
+            times,
+            line,
+        )),
         Marked::Stop(n) => Painted::Refused {
             why: call_refusal(n),
             after: refill::fail_painting(r),
@@ -75,6 +82,18 @@ pub fn compute_hidden_frontier(
         return Painted::Done(refill::skip_painting(r));
     }
     let cache = reading::cache_of(graph, r.kept);
-    let a = frontier::paint(names, marks, levels, times, line, q.cap, cache, graph, store, q, hidden);
+    let a = frontier::paint(
+        names,
+        marks,
+        levels,
+        times,
+        line,
+        q.cap,
+        cache,
+        graph,
+        store,
+        q,
+        hidden,
+    );
     finish_painting(a, r, store, names, marks, times, line)
 }

@@ -3,53 +3,37 @@ use Rattle.painting.proofs.Finish.{finish-going, finish-stop, finish-fu
 use borrow.Author.Needs.{needs}
 use Rattle.painting.proofs.finish_painting.Statement.{statement}
 use Rattle.painting.proofs.finish_painting.Tie as tie
-use Rattle.painting.proofs.finish_painting.Reads as reads
-use Rattle.painting.proofs.finish_painting.Lts as lts
-use Rattle.painting.proofs.call_refusal.Reads as call-refusal-reads
-use Rattle.refill.proofs.fail_painting.Reads as fail-painting-reads
-use Rattle.refill.proofs.leave_frontier.Reads as leave-frontier-reads
 
--- src/lib.rt:47:90
 enum-told : tie.Need-enum-told
 enum-told c = search needs
 
--- src/lib.rt:47:43
 leave-frontier-requires : tie.Need-leave-frontier-requires
 leave-frontier-requires c κs = search needs
 
--- src/lib.rt:48:22
 enum-known-a : tie.Need-enum-known-a
 enum-known-a c = search needs
 
--- src/lib.rt:49:18
 call-refusal-requires : tie.Need-call-refusal-requires
 call-refusal-requires c κs = search needs
 
--- src/lib.rt:50:20
 fail-painting-requires : tie.Need-fail-painting-requires
 fail-painting-requires c κs = search needs
 
--- src/lib.rt:52:27
 enum-told-2 : tie.Need-enum-told-2
 enum-told-2 c = search needs
 
--- src/lib.rt:35:1
 same-length : tie.Need-same-length
 same-length c = search needs
 
--- src/lib.rt:35:1
 same-length-2 : tie.Need-same-length-2
 same-length-2 c = search needs
 
--- src/lib.rt:35:1
 returns : tie.Need-returns
 returns c = finish-going (c .before .before .before .before .before .before .enum-told .given .1) (c .before .before .before .leave-frontier .ensures)
 
--- src/lib.rt:35:1
 returns-2 : tie.Need-returns-2
 returns-2 c = finish-stop (c .before .before .before .a .given .1) (c .before .call-refusal .ensures) (c .fail-painting .ensures)
 
--- src/lib.rt:35:1
 returns-3 : tie.Need-returns-3
 returns-3 c = finish-full (c .enum-told2 .given .1)
 
