@@ -4,3 +4,6 @@ pub mod ThirdDemand
 pub mod OpenTips
 pub mod OpenLoop
 pub mod OpenSaid
+pub mod Standing
+pub mod Paper
+pub mod NextSaid

@@ -1,5 +1,6 @@
 -- What an opening and a next call promise (document 01: Opening, A next call, and what follows its table). Assumes nothing.
 use Prim.Native.Nat.{ℕ, suc, _≤_}
+use Rattle.hash.specs.Bytes.{Id, idBytes}
 use Rattle.object.specs.Header.{most}
 use mathlib.Core.Path.{_≡_}
 use mathlib.Core.Logic.{_⊎_}
@@ -18,6 +19,7 @@ use Rattle.walk.specs.State.{State}
 use Rattle.walk.specs.Opening.{Input, Lengths, P, roomFor, openWalk, closed, opened}
 use Rattle.walk.specs.Next.{Answer, end, refused}
 use Rattle.walk.specs.Calls.{stateAfter, answerAt, shut}
+use Rattle.walk.specs.Reach.{Mem}
 use Rattle.walk.specs.AnyInput.{OfCall}
 use Rattle.walk.specs.Given.{Given, given, parentsGiven, openGiven}
 use Rattle.state.specs.declared.Record.{Record}
@@ -88,13 +90,14 @@ abbrev pub closedAnswer : Given
 closedAnswer = given shut
 
 -- "On touched memory … a call gives some answer of this paper": a commit, the end, or a refusal 9 to 12, with document 01's zeros; the ids
--- that it counts stand at the start of parents, and "parents past the ids given keeps its bytes"
+-- that it counts, of 20 bytes each, stand at the start of parents, and "parents past the ids given keeps its bytes"
 pub record OfPaper (a : Given) (before after : List ℕ) : Type 0 where
   pub model : Answer
   pub is : a ≡ given model
   pub kind : (r : Refusal) → model .kind ≡ refused r → OfCall r ⊎ (model ≡ shut)
   pub bare-end : model .kind ≡ end → model .parents ≡ []
   pub few : length (model .parents) ≤ most
+  pub wide : (x : Id) → Mem x (model .parents) → length x ≡ idBytes
   pub set-down : after ≡ parentsGiven model before
 
 -- what a call promises for the files f, the record r and the memory m, with what it gives back o and the memory after it m′

@@ -1,3 +1,4 @@
 pub mod Contract
 pub mod Open
 pub mod Demand
+pub mod Next

@@ -1,5 +1,6 @@
 // The walk over commits (gix_traverse::commit::simple): opened once, advanced call by call through one small record of counters, over
 // memory that the caller lends.
+pub mod next;
 pub mod open;
 
 use state::Record;
