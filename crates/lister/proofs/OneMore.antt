@@ -1,0 +1,95 @@
+-- One call more: the answers to k + 1 calls are those to k calls and the answer of call k, so each count goes on by that answer alone.
+-- Assumes nothing.
+use mathlib.Core.Path.{_≡_, refl, sym, _∙_, ap}
+use Prim.Native.Nat.{ℕ, zero, suc, _+_, _*_}
+use mathlib.Core.List.{List, [], _∷_, _++_, append-assoc, append-nil}
+use native.Mathlib.Omega.{arith}
+use lib.ListN.{length, length-append}
+use Rattle.hash.specs.Bytes.{Id, idBytes, setDown}
+use Rattle.walk.specs.declared.Refusal.{Refusal}
+use Rattle.walk.specs.declared.Outcome.{Outcome}
+use Rattle.walk.specs.declared.Outcome.the-variants.{Commit, End, Refused}
+use Rattle.walk.specs.Opening.{Input}
+use Rattle.walk.specs.Next.{Kind, end, refused, handed, Answer}
+use Rattle.walk.specs.Calls.{answerAt, answers, upTo}
+use Rattle.walk.specs.AnyInput.{handedBy, handedIds}
+use Rattle.walk.specs.Given.{outcomeOf, idOfKind, parentsGiven}
+use Rattle.walk.proofs.Calls.{answers-at}
+use Rattle.lister.specs.Walked.{refusedBy, refusals, refusalOr, firstRefusal, parentsLeft, putDown, commitsAfter, refusedAfter, reasonAfter, idsAfter}
+
+upTo-more : {A : Type 0} (f : ℕ → A) (k : ℕ) → upTo f (suc k) ≡ upTo f k ++ (f k ∷ [])
+unfolding upTo
+upTo-more f zero = refl
+upTo-more f (suc k) = ap (λ (l : List _). f zero ∷ l) (upTo-more (λ n. f (suc n)) k)
+
+pub no-answers : (i : Input) → answers i 0 ≡ []
+unfolding upTo
+no-answers i = answers-at i 0
+
+pub answers-more : (i : Input) (k : ℕ) → answers i (suc k) ≡ answers i k ++ (answerAt i k ∷ [])
+answers-more i k = answers-at i (suc k) ∙ upTo-more (answerAt i) k ∙ ap (λ (l : List Answer). l ++ (answerAt i k ∷ [])) (sym (answers-at i k))
+
+-- ---- what a list of answers comes to
+
+pub handed-more : (l : List Answer) (a : Answer) → handedIds (l ++ (a ∷ [])) ≡ handedIds l ++ handedBy (a .kind)
+unfolding handedIds
+handed-more [] a = append-nil (handedBy (a .kind))
+handed-more (b ∷ l) a = ap (λ (r : List Id). handedBy (b .kind) ++ r) (handed-more l a) ∙ sym (append-assoc (handedBy (b .kind)) (handedIds l) (handedBy (a .kind)))
+
+pub refusals-more : (l : List Answer) (a : Answer) → refusals (l ++ (a ∷ [])) ≡ refusals l + refusedBy (a .kind)
+unfolding refusals
+refusals-more [] a = omega arith
+refusals-more (b ∷ l) a = omega (arith, refusals-more l a)
+
+stays-first : (r : Refusal) (o : Outcome) → Refused r ≡ reasonAfter (Refused r) o
+stays-first r Commit = refl
+stays-first r End = refl
+stays-first r (Refused n) = refl
+
+first-only : (k : Kind) → refusalOr k End ≡ reasonAfter End (outcomeOf k)
+first-only end = refl
+first-only (refused r) = refl
+first-only (handed x g t) = refl
+
+first-later : (k : Kind) (o first now : Outcome) → now ≡ reasonAfter first o → refusalOr k now ≡ reasonAfter (refusalOr k first) o
+first-later end o first now e = e
+first-later (refused r) o first now e = stays-first r o
+first-later (handed x g t) o first now e = e
+
+pub first-more : (l : List Answer) (a : Answer) → firstRefusal (l ++ (a ∷ [])) ≡ reasonAfter (firstRefusal l) (outcomeOf (a .kind))
+unfolding firstRefusal
+first-more [] a = first-only (a .kind)
+first-more (b ∷ l) a = first-later (b .kind) (outcomeOf (a .kind)) (firstRefusal l) (firstRefusal (l ++ (a ∷ []))) (first-more l a)
+
+pub parents-more : (l : List Answer) (a : Answer) (b : List ℕ) → parentsLeft (l ++ (a ∷ [])) b ≡ parentsGiven a (parentsLeft l b)
+unfolding parentsLeft
+parents-more [] a b = refl
+parents-more (c ∷ l) a b = parents-more l a (parentsGiven c b)
+
+put-more : (b : List ℕ) (n : ℕ) (l : List Id) (x : Id) → putDown b n (l ++ (x ∷ [])) ≡ setDown (putDown b n l) (idBytes * (n + length l)) x
+unfolding putDown
+put-more b n [] x = let e : n ≡ n + 0 = omega arith in ap (λ (k : ℕ). setDown b (idBytes * k) x) e
+put-more b n (y ∷ l) x =
+    let e : suc n + length l ≡ n + suc (length l) = omega arith in
+    put-more (setDown b (idBytes * n) y) (suc n) l x ∙ ap (λ (k : ℕ). setDown (putDown (setDown b (idBytes * n) y) (suc n) l) (idBytes * k) x) e
+
+-- ---- what one answer adds
+
+pub commits-on : (l : List Id) (k : Kind) → commitsAfter (length l) (outcomeOf k) ≡ length (l ++ handedBy k)
+unfolding handedBy
+commits-on l end = sym (ap length (append-nil l))
+commits-on l (refused r) = sym (ap length (append-nil l))
+commits-on l (handed x g t) = sym (length-append l (x ∷ []))
+
+pub refused-on : (n : ℕ) (k : Kind) → refusedAfter n (outcomeOf k) ≡ n + refusedBy k
+refused-on n end = omega arith
+refused-on n (refused r) = omega arith
+refused-on n (handed x g t) = omega arith
+
+pub ids-on : (b : List ℕ) (l : List Id) (k : Kind) → idsAfter (putDown b 0 l) (length l) (outcomeOf k) (idOfKind k) ≡ putDown b 0 (l ++ handedBy k)
+unfolding handedBy
+ids-on b l end = sym (ap (putDown b 0) (append-nil l))
+ids-on b l (refused r) = sym (ap (putDown b 0) (append-nil l))
+ids-on b l (handed x g t) =
+    let e : length l ≡ 0 + length l = omega arith in
+    ap (λ (n : ℕ). setDown (putDown b 0 l) (idBytes * n) x) e ∙ sym (put-more b 0 l x)

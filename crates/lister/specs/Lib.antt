@@ -1,0 +1,3 @@
+pub mod Walked
+pub mod Says
+pub mod Demand

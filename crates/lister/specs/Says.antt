@@ -1,0 +1,81 @@
+-- What a whole walk promises: every commit, in order, in the caller's buffer. Assumes nothing.
+use Prim.Native.Nat.{ℕ, _+_, _/_}
+use mathlib.Core.Path.{_≡_}
+use mathlib.Core.List.{List}
+use lib.ListN.{length, take}
+use Rattle.hash.specs.Bytes.{idBytes, setDown}
+use Rattle.walk.specs.declared.Refusal.{Refusal}
+use Rattle.walk.specs.declared.Outcome.the-variants.{End}
+use Rattle.walk.specs.declared.OpenOutcome.{OpenOutcome}
+use Rattle.walk.specs.declared.OpenOutcome.the-variants.{Accepted, NotOpened}
+use Rattle.walk.specs.State.{State}
+use Rattle.walk.specs.Opening.{Input, P, roomFor, openWalk, closed, opened}
+use Rattle.walk.specs.Calls.{answers, stateAfter}
+use Rattle.walk.specs.AnyInput.{handedIds}
+use Rattle.walk.specs.Given.{joined}
+use Rattle.state.specs.declared.Record.{Record}
+use Rattle.state.specs.Reads.{Reads, closedRecord}
+use Rattle.traverse.specs.declared.Opened.{Opened}
+use Rattle.traverse.specs.declared.Out.{Out}
+use Rattle.traverse.specs.Contract.{Files, Lent, inputWith, lengthsOf, shapeOf}
+use Rattle.lister.specs.declared.Listing.{Listing}
+use Rattle.lister.specs.Walked.{allAnswers, wholeList, refusals, firstRefusal, parentsLeft, putDown, commitsAfter, refusedAfter, reasonAfter}
+
+-- ---- list
+
+-- a listing with nothing counted
+abbrev pub listing : OpenOutcome → Record → Listing
+listing outcome r = record { outcome = outcome; commits = 0; refused = 0; reason = End; «record» = r }
+
+-- of an accepted opening, with the caller's buffer ids before and ids′ after, and the lent memory m before and m′ after
+pub record Whole (i : Input) (m : Lent) (ids : List ℕ) (l : Listing) (m′ : Lent) (ids′ : List ℕ) : Type 0 where
+  pub accepted : l .outcome ≡ Accepted
+  -- how many commits there are in all, also those that ids has no room for
+  pub commits : l .commits ≡ length (wholeList i)
+  -- how many calls were refused, and the first refusal
+  pub refused : l .refused ≡ refusals (allAnswers i)
+  pub reason : l .reason ≡ firstRefusal (allAnswers i)
+  -- the list from the start of ids, 20 bytes an id, as far as whole ids fit; every other byte is as it was
+  pub set-down : ids′ ≡ setDown ids 0 (joined (take (length ids / idBytes) (wholeList i)))
+  -- what the calls leave in parents, and working memory that reads as the walk's last state
+  pub parents : m′ .parents ≡ parentsLeft (allAnswers i) (m .parents)
+  pub reads : Reads (l .record) (m′ .memory) (shapeOf i) (stateAfter i (P i + 2))
+
+-- list: refused as the opening is, with zeros and a closed record, and no lent byte altered; or the whole walk
+pub record ListSays (i : Input) (m : Lent) (ids : List ℕ) (l : Listing) (m′ : Lent) (ids′ : List ℕ) : Type 0 where
+  pub refused-open : (r : Refusal) → openWalk i (roomFor i (lengthsOf m)) ≡ closed r → (l ≡ listing (NotOpened r) closedRecord) × (m′ ≡ m) × (ids′ ≡ ids)
+  pub accepted-open : (st : State) → openWalk i (roomFor i (lengthsOf m)) ≡ opened st → Whole i m ids l m′ ids′
+  pub same-lengths : lengthsOf m′ ≡ lengthsOf m
+
+-- ---- its parts
+
+-- a listing before any call
+abbrev pub beforeCalls : Opened → Listing
+beforeCalls o = listing (o .answer .outcome) (o .record)
+
+-- a listing after one call more
+abbrev pub counted : Listing → Out → Listing
+counted l o = record {
+  outcome = l .outcome;
+  commits = commitsAfter (l .commits) (o .answer .outcome);
+  refused = refusedAfter (l .refused) (o .answer .outcome);
+  reason = reasonAfter (l .reason) (o .answer .outcome);
+  «record» = o .record;
+}
+
+-- k calls of the walk are made and counted; the buffers were ids₀ and parents₀ before them
+pub record Made (i : Input) (ids₀ parents₀ : List ℕ) (k : ℕ) (l : Listing) (m : Lent) (ids : List ℕ) : Type 0 where
+  pub accepted : l .outcome ≡ Accepted
+  pub commits : l .commits ≡ length (handedIds (answers i k))
+  pub refused : l .refused ≡ refusals (answers i k)
+  pub reason : l .reason ≡ firstRefusal (answers i k)
+  pub put-down : ids ≡ putDown ids₀ 0 (handedIds (answers i k))
+  pub parents : m .parents ≡ parentsLeft (answers i k) parents₀
+  pub reads : Reads (l .record) (m .memory) (shapeOf i) (stateAfter i k)
+
+-- call_all, with at most n calls, for the files f: none are made, or all that the walk can need
+pub record CallsAll (f : Files) (n : ℕ) (l : Listing) (m : Lent) (ids : List ℕ) (l′ : Listing) (m′ : Lent) (ids′ : List ℕ) : Type 0 where
+  pub no-call : n ≡ 0 → (l′ ≡ l) × (m′ ≡ m) × (ids′ ≡ ids)
+  pub all-calls : (tips : List ℕ) (st : State) → openWalk (inputWith f tips) (roomFor (inputWith f tips) (lengthsOf m)) ≡ opened st → n ≡ P (inputWith f tips) + 2
+      → Made (inputWith f tips) ids (m .parents) 0 l m ids → Made (inputWith f tips) ids (m .parents) (P (inputWith f tips) + 2) l′ m′ ids′
+  pub same-lengths : lengthsOf m′ ≡ lengthsOf m
