@@ -1,21 +1,20 @@
 -- What a next call comes to: a closed record gives 12; a painted one takes the next commit of the state that the memory reads as; the first call takes it
 -- from the state that painting leaves, or gives painting's refusal. So each answer is the walk's, and on any bytes one of document 01's. Assumes nothing.
 use mathlib.Core.Path.{_≡_, refl, sym, _∙_, ap, subst}
-use Prim.Native.Nat.{ℕ, suc, _≤_}
+use Prim.Native.Nat.{ℕ}
 use mathlib.Core.Bool.{Bool, true, false}
 use mathlib.Core.List.{List, []}
 use native.Mathlib.Omega.{arith}
 use lib.ListN.{length}
 use Rattle.hash.proofs.Tests.{clash}
 use Rattle.walk.specs.declared.Refusal.{Refusal}
-use Rattle.walk.specs.declared.Refusal.the-variants.{Closed}
 use Rattle.walk.specs.declared.Outcome.the-variants.{End, Refused}
 use Rattle.walk.specs.declared.MaybeLevel.the-variants.{NoGeneration}
 use Rattle.walk.specs.declared.MaybeSeconds.the-variants.{NoTime}
 use Rattle.walk.specs.State.{State}
-use Rattle.walk.specs.Opening.{Input, Lengths, walkOf, roomFor, opened, openWalk}
-use Rattle.walk.specs.Next.{refused, Step, step, takeNext, next, firstCall}
-use Rattle.walk.specs.Calls.{stateAfter, answerAt}
+use Rattle.walk.specs.Opening.{Input, walkOf}
+use Rattle.walk.specs.Next.{refused, step, takeNext, next, firstCall}
+use Rattle.walk.specs.Calls.{stateAfter}
 use Rattle.walk.specs.Given.{Given, noId, given, joined, parentsGiven}
 use Rattle.walk.proofs.FirstCall.{only-first}
 use Rattle.walk.proofs.Universe.{universe}
@@ -24,14 +23,14 @@ use Rattle.state.specs.declared.Record.{Record}
 use Rattle.state.specs.Reads.{Memory, Shape, Reads}
 use Rattle.state.proofs.States.{queue-length}
 use Rattle.visit.specs.declared.next.Taken.{Taken}
-use Rattle.visit.specs.Taking.{gave, Rests, Gives, TakesNext}
+use Rattle.visit.specs.Taking.{gave, Rests, TakesNext}
 use Rattle.visit.specs.Plain.{Plain}
 use Rattle.visit.proofs.Parents.{set-down-none}
 use Rattle.painting.specs.declared.Painted as painted
 use Rattle.painting.specs.declared.Painted.the-variants as painting
-use Rattle.painting.specs.First.{AtFirst, GoesOn, GivesUp, Told, RefusesBy, Paints}
+use Rattle.painting.specs.First.{AtFirst, GoesOn, Told, RefusesBy, Paints}
 use Rattle.traverse.specs.declared.Out.{Out}
-use Rattle.traverse.specs.Contract.{Files, inputWith, Lent, lengthsOf, shapeOf, closedAnswer, OfPaper, NextSays}
+use Rattle.traverse.specs.Contract.{Files, inputWith, Lent, lengthsOf, OfPaper, NextSays}
 use Rattle.traverse.specs.Next.{Whole, GivesBack, shutWith, Goes}
 use Rattle.traverse.proofs.Standing.{shapeIn, goes-by, world-is, in-rows, in-store, Stands, stands, good-store, good-graph, room-parents, room-levels, few-admitted, rests, stands-whole, says-step, next-painted, next-first, first-state, whole-room}
 use Rattle.traverse.proofs.Paper.{of-paper, plain-refused, plain-end, of-paper-shut, not-shut}

@@ -2,7 +2,7 @@
 -- past them the buffer is as it was. Assumes nothing.
 use mathlib.Core.Path.{_≡_, refl, sym, _∙_, ap, subst}
 use mathlib.Core.Logic.{inl, inr}
-use Prim.Native.Nat.{ℕ, zero, suc, _+_, _*_, _/_, _≤_, _<_}
+use Prim.Native.Nat.{ℕ, zero, suc, _+_, _*_, _/_, _≤_}
 use mathlib.Core.Option.{Option, none, some}
 use mathlib.Core.List.{List, [], _∷_, _++_, List·Memᴰ·not-nil}
 use native.Mathlib.Omega.{arith}
@@ -11,7 +11,6 @@ use lib.Seq.{length-take-le, take-length, take-add, getD-drop, ext-getD}
 use lib.IntN.{ℤ}
 use Rattle.hash.specs.Bytes.{Id, idBytes, setDown, idsOf}
 use Rattle.hash.proofs.Bytes.{setDown-fits}
-use Rattle.object.specs.Header.{most}
 use Rattle.walk.specs.declared.Refusal.{Refusal}
 use Rattle.walk.specs.declared.Refusal.the-variants.{Closed}
 use Rattle.walk.specs.declared.Outcome.{Outcome}

@@ -2,22 +2,21 @@
 -- universe of the input, which has no more ids than there are places, and the numbers are small, for P places suffice after every call. Assumes nothing.
 use mathlib.Core.Path.{_≡_, refl, sym, _∙_, ap, subst}
 use mathlib.Core.Logic.{⊎-elim}
-use Prim.Native.Nat.{ℕ, suc, _+_, _*_, _/_, _≤_}
-use mathlib.Core.Bool.{true, false, _||_}
+use Prim.Native.Nat.{ℕ, suc, _*_, _≤_}
+use mathlib.Core.Bool.{Bool, true, false, _||_}
 use mathlib.Core.Option.{none}
-use mathlib.Core.List.{List, []}
+use mathlib.Core.List.{[]}
 use native.Mathlib.Omega.{arith}
 use lib.ListN.{length, replicate, length-replicate}
 use Rattle.hash.proofs.Tests.{byCases, clash, or-left, or-right}
 use Rattle.odb.specs.Store.{storeOk}
 use Rattle.commitgraph.specs.Graph.{graphOk, graphCount}
-use Rattle.walk.specs.declared.Settings.{Settings}
 use Rattle.walk.specs.declared.Sorting.the-variants.{BreadthFirst}
 use Rattle.walk.specs.declared.Parents.the-variants.{All}
 use Rattle.walk.specs.Lookup.{worldOf}
 use Rattle.walk.specs.State.{Walk, State, isEmpty}
-use Rattle.walk.specs.Opening.{Input, Lengths, P, walkOf, refusal, roomFor, Opening, opened, openWalk}
-use Rattle.walk.specs.Next.{Step, takeNext, firstCall, next}
+use Rattle.walk.specs.Opening.{Input, Lengths, P, walkOf, refusal, roomFor, opened, openWalk}
+use Rattle.walk.specs.Next.{Answer, Step, takeNext, firstCall, next}
 use Rattle.walk.specs.Calls.{stateOf, stateAfter, answerOn, answerAt}
 use Rattle.walk.specs.AnyInput.{AllFit}
 use Rattle.walk.specs.Given.{given, parentsGiven}
@@ -109,10 +108,10 @@ module _ {i : Input} {m : Lent} {r : Record} {k : ℕ} {st : State} (s : Stands 
   }
 
   -- the record's own test
-  pub stands-whole : {l : Lengths} {a : _} → Whole r l a → l ≡ lengthsOf m → a ≡ true
+  pub stands-whole : {l : Lengths} {a : Bool} → Whole r l a → l ≡ lengthsOf m → a ≡ true
   stands-whole w e = w .alive (s .reads .alive) i (s .reads .cap) ∙ ap (roomFor i) e ∙ s .has-room
 
-  -- what a call says is the step s of the walk
+  -- what a call gives is the walk's next step
   pub says-step : (p : Step) → next (walkOf i) (stateAfter i k) ≡ p → (o : Out) (m′ : Lent) → o .answer ≡ given (p .answer) → m′ .parents ≡ parentsGiven (p .answer) (m .parents)
       → Reads (o .record) (m′ .memory) (shapeIn i) (p .state)
       → (o .answer ≡ given (answerAt i k)) × (m′ .parents ≡ parentsGiven (answerAt i k) (m .parents)) × Reads (o .record) (m′ .memory) (shapeOf i) (stateAfter i (suc k))
@@ -120,7 +119,7 @@ module _ {i : Input} {m : Lent} {r : Record} {k : ℕ} {st : State} (s : Stands 
   says-step p e o m′ a d g =
       let q : answerAt i k ≡ p .answer = ap (answerOn (walkOf i) (stateAfter i k)) (s .accepted) ∙ ap (λ (z : Step). z .answer) e in (
         a ∙ ap given (sym q),
-        d ∙ ap (λ (z : _). parentsGiven z (m .parents)) (sym q),
+        d ∙ ap (λ (z : Answer). parentsGiven z (m .parents)) (sym q),
         subst (λ (y : Shape). Reads (o .record) (m′ .memory) y (stateAfter i (suc k))) (shape-same i)
             (subst (λ (z : Step). Reads (o .record) (m′ .memory) (shapeIn i) (z .state)) (sym e) g),
       )
@@ -149,7 +148,7 @@ placed-P : (n : ℕ) → P (placed n) ≡ n
 unfolding P placed graphCount
 placed-P n = let z : ℕ = 0 in omega (arith, length-replicate (20 * n) z)
 
-pub whole-room : {r : Record} {l : Lengths} {a : _} → Whole r l a → a ≡ true → (r .live ≡ true) × (5120 ≤ l .parents)
+pub whole-room : {r : Record} {l : Lengths} {a : Bool} → Whole r l a → a ≡ true → (r .live ≡ true) × (5120 ≤ l .parents)
 whole-room {r} {l} w e =
     byCases (r .live)
     (λ h. (h, room (placed (r .queue .cap)) l (sym (w .alive h (placed (r .queue .cap)) (sym (placed-P (r .queue .cap)))) ∙ e) .parents-room))

@@ -10,6 +10,7 @@ use walk::Outcome;
 use walk::Refusal;
 use walk::Settings;
 ghost use mathlib.Core.Bool.{false};
+ghost use lib.ListN.{length};
 ghost use Rattle.walk.specs.declared.Outcome.the-variants.{Refused};
 ghost use Rattle.walk.specs.declared.MaybeLevel.the-variants.{NoGeneration};
 ghost use Rattle.walk.specs.declared.MaybeSeconds.the-variants.{NoTime};
@@ -23,20 +24,28 @@ ghost use Rattle.traverse.specs.Next.{filesLent, Whole, GivesBack, shutW
 // Whether the record is open, and every lent buffer has its size for the record's places.
 fn is_whole(
     record: Record,
-    names: usize,
-    marks: usize,
-    levels: usize,
-    times: usize,
-    line: usize,
-    parents: usize,
+    names: &[u8],
+    marks: &[u8],
+    levels: &[u32],
+    times: &[i64],
+    line: &[u32],
+    parents: &[u8],
 ) -> bool
-    ensures { λ a. ⌜ Whole «record» (lengthsOf names marks levels times line parents) a ⌝ }
+    ensures { λ a. ⌜ Whole «record» (lengthsOf (length (now (names .entry))) (length (now (marks .entry))) (length (now (levels .entry))) (length (now (times .entry))) (length (now (line .entry))) (length (now (parents .entry)))) a ⌝ }
 {
     if !record.live {
         return false;
     }
     let q = record.queue;
-    opening::has_room(q.cap, names, marks, levels, times, line, parents)
+    opening::has_room(
+        q.cap,
+        names.len(),
+        marks.len(),
+        levels.len(),
+        times.len(),
+        line.len(),
+        parents.len(),
+    )
 }
 
 // The answer to a closed record, and to memory that is seen to be touched: refusal 12 with zeros, and the same record.
@@ -150,15 +159,7 @@ pub fn step(
 ) -> Out
     ensures { λ o. ⌜ NextSays (filesLent (now (store .entry)) (now (graph .entry)) (now (hidden .entry)) (now (excluded .entry)) settings) «record» (lentOf (now (names .entry)) (now (marks .entry)) (now (levels .entry)) (now (times .entry)) (now (line .entry)) (now (parents .entry))) o (lentOf (now (names .exit)) (now (marks .exit)) (now (levels .exit)) (now (times .exit)) (now (line .exit)) (now (parents .exit))) ⌝ }
 {
-    if !is_whole(
-        record,
-        names.len(),
-        marks.len(),
-        levels.len(),
-        times.len(),
-        line.len(),
-        parents.len(),
-    ) {
+    if !is_whole(record, names, marks, levels, times, line, parents) {
         return closed(record);
     }
     if record.painted {

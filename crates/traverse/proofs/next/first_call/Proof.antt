@@ -48,7 +48,10 @@ same-length-6 : tie.Need-same-length-6
 same-length-6 c = search needs
 
 returns : tie.Need-returns
-returns c = done-goes (c .before .before .before .before .before .before .before .before .before .before .before .before .before .before .before .before .before .before .before .before .before .before .before .before .before .before .before .before .compute-hidden-frontier .ensures) _ (c .before .before .before .before .before .before .before .before .before .before .before .before .before .before .before .before .before .r .given .1) (c .before .before .before .before .before .before .before .before .before .before .take-next .ensures .0) (c .before .before .before .before .before .before .before .before .before .before .take-next .ensures .1) (c .before .before .before .before .before .before .before .before .before .before .take-next .kept .1 .1 .1 .1 .1 .1 .1 .0) (c .after .ensures)
+returns c =
+    let t = c .before .before .before .before .before .before .before .before .before .before in
+    let p = t .before .before .before .before .before .before .before in
+    done-goes (p .before .before .before .before .before .before .before .before .before .before .before .compute-hidden-frontier .ensures) _ (p .r .given .1) (t .take-next .ensures .0) (t .take-next .ensures .1) (t .take-next .kept .1 .1 .1 .1 .1 .1 .1 .0) (c .after .ensures)
 
 same-length-7 : tie.Need-same-length-7
 same-length-7 c = search needs
@@ -66,7 +69,9 @@ same-length-11 : tie.Need-same-length-11
 same-length-11 c = search needs
 
 returns-2 : tie.Need-returns-2
-returns-2 c = refused-goes (c .before .before .before .before .before .before .before .before .before .before .before .before .before .compute-hidden-frontier .ensures) _ _ (c .before .before .why .given .1) (c .bare .ensures)
+returns-2 c =
+    let p = c .before .before in
+    refused-goes (p .before .before .before .before .before .before .before .before .before .before .before .compute-hidden-frontier .ensures) _ _ (p .why .given .1) (c .bare .ensures)
 
 same-length-12 : tie.Need-same-length-12
 same-length-12 c = search needs
@@ -84,7 +89,9 @@ same-length-16 : tie.Need-same-length-16
 same-length-16 c = search needs
 
 returns-3 : tie.Need-returns-3
-returns-3 c = touched-goes (c .before .before .before .before .before .before .before .before .before .before .before .before .compute-hidden-frontier .ensures) _ _ (c .before .enum-told .given .1) (c .bare2 .ensures)
+returns-3 c =
+    let p = c .before in
+    touched-goes (p .before .before .before .before .before .before .before .before .before .before .before .compute-hidden-frontier .ensures) _ _ (p .enum-told .given .1) (c .bare2 .ensures)
 
 pub first-call-spec : {M : Type 1} → statement M
 first-call-spec =

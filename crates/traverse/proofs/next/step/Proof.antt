@@ -14,16 +14,6 @@ is-whole-requires c κs = search needs
 closed-requires : tie.Need-closed-requires
 closed-requires c κs = search needs
 
-returns : tie.Need-returns
-unfolding lengthsOf
-returns c = closed-says (c .before .before .is-whole .ensures) (not-true (c .before .before .is-whole .result) (c .before .if1 .taken)) (c .closed .ensures)
-
-take-next-requires : tie.Need-take-next-requires
-take-next-requires c κs = search needs
-
-after-requires : tie.Need-after-requires
-after-requires c κs = search needs
-
 same-length : tie.Need-same-length
 same-length c = search needs
 
@@ -39,15 +29,20 @@ same-length-4 c = search needs
 same-length-5 : tie.Need-same-length-5
 same-length-5 c = search needs
 
-returns-2 : tie.Need-returns-2
-unfolding lengthsOf
-returns-2 c = goes-says (c .before .before .before .before .before .before .before .before .before .before .before .before .before .before .before .before .before .before .is-whole .ensures) (not-false (c .before .before .before .before .before .before .before .before .before .before .before .before .before .before .before .before .before .before .is-whole .result) (c .before .before .before .before .before .before .before .before .before .before .before .before .before .before .before .before .before .if1 .left)) (c .before .before .before .before .before .before .before .before .before .before .before .before .before .before .before .before .if2 .taken) (taken-goes _ (c .before .before .before .before .before .before .before .before .before .before .take-next .ensures .0) (c .before .before .before .before .before .before .before .before .before .before .take-next .ensures .1) (c .before .before .before .before .before .before .before .before .before .before .take-next .kept .1 .1 .1 .1 .1 .1 .1 .0) (c .after .ensures)) (let t = c .before .before .before .before .before .before .before .before .before .before .take-next .kept in λ k. record { names = t .1 .1 .1 .0 k; marks = t .1 .1 .1 .1 .0 k; levels = length (c .before .before .before .before .before .before .before .before .before .before .before .before .before .before .before .before .before .before .before .before .before .before .before .before .before .before .before .before .args .levels .now); times = t .1 .1 .1 .1 .1 .0 k; line = t .1 .1 .1 .1 .1 .1 .0 k; parents = t .1 .1 .1 .1 .1 .1 .1 .0 k })
-
-first-call-requires : tie.Need-first-call-requires
-first-call-requires c κs = search needs
-
 same-length-6 : tie.Need-same-length-6
 same-length-6 c = search needs
+
+returns : tie.Need-returns
+unfolding lengthsOf
+returns c =
+    let w = c .before .before .is-whole in
+    closed-says (w .ensures) (not-true (w .result) (c .before .if1 .taken)) (c .closed .ensures)
+
+take-next-requires : tie.Need-take-next-requires
+take-next-requires c κs = search needs
+
+after-requires : tie.Need-after-requires
+after-requires c κs = search needs
 
 same-length-7 : tie.Need-same-length-7
 same-length-7 c = search needs
@@ -64,9 +59,50 @@ same-length-10 c = search needs
 same-length-11 : tie.Need-same-length-11
 same-length-11 c = search needs
 
+same-length-12 : tie.Need-same-length-12
+same-length-12 c = search needs
+
+returns-2 : tie.Need-returns-2
+unfolding lengthsOf
+returns-2 c =
+    let t = c .before .before .before .before .before .before .before .before .before .before in
+    let p = t .before .before .before .before .before .before in
+    let w = p .before .before .is-whole in
+    let x = p .before .before .before .before .before .before .before .before .before .before .before .before .before .before .before .before .before .before .args in
+    let k = t .take-next .kept in
+    goes-says (w .ensures) (not-false (w .result) (p .before .if1 .left)) (p .if2 .taken) (taken-goes _ (t .take-next .ensures .0) (t .take-next .ensures .1) (k .1 .1 .1 .1 .1 .1 .1 .0) (c .after .ensures))
+    (λ i. record { names = k .1 .1 .1 .0 i; marks = k .1 .1 .1 .1 .0 i; levels = length (x .levels .now); times = k .1 .1 .1 .1 .1 .0 i; line = k .1 .1 .1 .1 .1 .1 .0 i; parents = k .1 .1 .1 .1 .1 .1 .1 .0 i })
+
+first-call-requires : tie.Need-first-call-requires
+first-call-requires c κs = search needs
+
+same-length-13 : tie.Need-same-length-13
+same-length-13 c = search needs
+
+same-length-14 : tie.Need-same-length-14
+same-length-14 c = search needs
+
+same-length-15 : tie.Need-same-length-15
+same-length-15 c = search needs
+
+same-length-16 : tie.Need-same-length-16
+same-length-16 c = search needs
+
+same-length-17 : tie.Need-same-length-17
+same-length-17 c = search needs
+
+same-length-18 : tie.Need-same-length-18
+same-length-18 c = search needs
+
 returns-3 : tie.Need-returns-3
 unfolding lengthsOf
-returns-3 c = goes-says (c .before .before .before .before .before .before .before .before .before .before .before .before .before .before .before .before .before .before .before .before .is-whole .ensures) (not-false (c .before .before .before .before .before .before .before .before .before .before .before .before .before .before .before .before .before .before .before .before .is-whole .result) (c .before .before .before .before .before .before .before .before .before .before .before .before .before .before .before .before .before .before .before .if1 .left)) (c .before .before .before .before .before .before .before .before .before .before .before .before .before .before .before .before .before .before .if2 .left) (c .before .before .before .before .before .before .before .before .before .before .before .first-call .ensures) (let t = c .before .before .before .before .before .before .before .before .before .before .before .first-call .kept in λ k. record { names = t .1 .1 .1 .1 .1 .1 .0 k; marks = t .1 .1 .1 .1 .1 .1 .1 .0 k; levels = t .1 .1 .1 .1 .1 .1 .1 .1 .0 k; times = t .1 .1 .1 .1 .1 .1 .1 .1 .1 .0 k; line = t .1 .1 .1 .1 .1 .1 .1 .1 .1 .1 .0 k; parents = t .1 .1 .1 .1 .1 .1 .1 .1 .1 .1 .1 .0 k })
+returns-3 c =
+    let t = c .before .before .before .before .before .before .before .before .before .before .before in
+    let p = t .before .before .before .before .before .before .before in
+    let w = p .before .before .is-whole in
+    let k = t .first-call .kept .1 .1 .1 .1 .1 in
+    goes-says (w .ensures) (not-false (w .result) (p .before .if1 .left)) (p .if2 .left) (t .first-call .ensures)
+    (λ i. record { names = k .1 .0 i; marks = k .1 .1 .0 i; levels = k .1 .1 .1 .0 i; times = k .1 .1 .1 .1 .0 i; line = k .1 .1 .1 .1 .1 .0 i; parents = k .1 .1 .1 .1 .1 .1 .0 i })
 
 pub step-spec : {M : Type 1} → statement M
 step-spec =
@@ -74,20 +110,27 @@ step-spec =
     (tie.spec
     is-whole-requires
     closed-requires
-    returns
-    take-next-requires
-    after-requires
     same-length
     same-length-2
     same-length-3
     same-length-4
     same-length-5
-    returns-2
-    first-call-requires
     same-length-6
+    returns
+    take-next-requires
+    after-requires
     same-length-7
     same-length-8
     same-length-9
     same-length-10
     same-length-11
+    same-length-12
+    returns-2
+    first-call-requires
+    same-length-13
+    same-length-14
+    same-length-15
+    same-length-16
+    same-length-17
+    same-length-18
     returns-3)
