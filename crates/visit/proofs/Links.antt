@@ -11,8 +11,10 @@ use lib.IntN.{ℤ, pos}
 use Rattle.hash.specs.Bytes.{Id, idBytes, among}
 use Rattle.hash.proofs.Tests.{byCases, clash}
 use Rattle.walk.specs.declared.Settings.{Settings}
-use Rattle.walk.specs.Settings.{onlyFirst, cutoffOf, notBefore}
-use Rattle.walk.specs.State.{Walk, State, sees, waits}
+use Rattle.walk.specs.declared.Sorting.{Sorting}
+use Rattle.walk.specs.declared.Sorting.the-variants.{BreadthFirst, ByCommitTime, ByCommitTimeCutoff}
+use Rattle.walk.specs.Settings.{timed, onlyFirst, byTime, cutoffOf, notBefore}
+use Rattle.walk.specs.State.{Walk, State, sees, waits, enter}
 use Rattle.walk.specs.Opening.{listIds}
 use Rattle.walk.specs.Next.{admits, visit}
 use Rattle.walk.proofs.Laws.{add-cases}
@@ -72,6 +74,31 @@ module _ {excluded : List ℕ} {settings : Settings} {x : Id} {t : ℤ} where
   pub timed-admitted : {b c d : Bool} → b ≡ among x (listIds excluded) → b ≡ false → c ≡ onlyFirst settings → c ≡ false → d ≡ notBefore (cutoffOf (settings .sorting)) t
       → Admits excluded settings x t d
   timed-admitted e k f l m = record { right = λ v p q. m ∙ (rw (sym e ∙ k, sym f ∙ l) at (at-settings excluded settings x t v p q)) }
+
+-- ---- where commits do not wait by time, the seconds of a parent do not count
+
+-- breadth order has no cutoff, and First minds none
+never-before : (o : Sorting) (first : Bool) (t t′ : ℤ) → (timed o && not first) ≡ false → (first || notBefore (cutoffOf o) t) ≡ (first || notBefore (cutoffOf o) t′)
+unfolding timed cutoffOf notBefore
+never-before o true t t′ e = refl
+never-before BreadthFirst false t t′ e = refl
+never-before (ByCommitTime p) false t t′ e = refl
+never-before (ByCommitTimeCutoff p c) false t t′ e = clash refl e
+
+module _ (v : Walk) (st : State) (x : Id) (t t′ : ℤ) (e : byTime (v .settings) ≡ false) where
+  admits-same : admits v x t ≡ admits v x t′
+  unfolding admits byTime
+  admits-same = ap (λ (b : Bool). not (among x (v .excluded)) && b) (never-before (v .settings .sorting) (onlyFirst (v .settings)) t t′ e)
+
+  waits-same : waits v st x t ≡ waits v st x t′
+  unfolding waits enter
+  waits-same = rw e refl
+
+  pub visit-timeless : visit v st x t ≡ visit v st x t′
+  unfolding visit
+  visit-timeless =
+      ap (λ (b : Bool). cond (st .frontier x || st .seen x) st (cond b (waits v st x t) (sees st x))) admits-same
+      ∙ ap (λ (q : State). cond (st .frontier x || st .seen x) st (cond (admits v x t′) q (sees st x))) waits-same
 
 -- ---- a parent enters
 
@@ -154,6 +181,9 @@ module _ (excluded : List ℕ) (settings : Settings) (r r′ : Record) (names ma
           line-kept = λ j h. p .for-line .kept j (omega (arith, h, d .reads .cap));
         }
 
+    not-timed : r .queue .timed ≡ false → byTime (v .settings) ≡ false
+    not-timed j = ap byTime (by .same-settings) ∙ sym (ap (λ (q : Shape). q .timed) (by .shape)) ∙ sym (d .reads .timed) ∙ j
+
     went : (t : ℤ) → Enters excluded settings r times times′ line line′ x t a r′ → Goal (visit v st x t)
     went t e =
         byCases (st .frontier x || st .seen x)
@@ -162,18 +192,20 @@ module _ (excluded : List ℕ) (settings : Settings) (r r′ : Record) (names ma
         (λ n. subst Goal (sym (visit-new v st x t true k n)) (went-admitted e k n))
         (λ n. subst Goal (sym (visit-new v st x t false k n)) (went-turned e k n)))
 
-    -- the seconds of a known parent do not count
-    went-with : (t t′ : ℤ) → (a .fresh ≡ true → t ≡ t′) → Enters excluded settings r times times′ line line′ x t a r′ → Goal (visit v st x t′)
+    -- the seconds of a known parent do not count, nor do any where commits do not wait by time
+    went-with : (t t′ : ℤ) → (a .fresh ≡ true → r .queue .timed ≡ true → t ≡ t′) → Enters excluded settings r times times′ line line′ x t a r′ → Goal (visit v st x t′)
     went-with t t′ f e =
         byCases (st .frontier x || st .seen x)
         (λ k. subst Goal (sym (visit-old v st x t′ k)) (went-known e (s .old times line sh st (d .reads) k)))
-        (λ k.
-        let q : t ≡ t′ = f (s .new times line sh st (d .reads) (d .failed) w k u (d .inside) i .fresh) in
+        (λ k. byCases (r .queue .timed)
+        (λ j.
+        let q : t ≡ t′ = f (s .new times line sh st (d .reads) (d .failed) w k u (d .inside) i .fresh) j in
         subst (λ (z : ℤ). Goal (visit v st x z)) q (went t e))
+        (λ j. subst Goal (visit-timeless v st x t t′ (not-timed j)) (went t e)))
 
--- where the seconds t of a new parent are t′
+-- where the seconds t of a new parent are t′, in a queue by time
 pub visits : {excluded : List ℕ} {settings : Settings} {r r′ : Record} {names marks names′ marks′ : List ℕ} {times times′ : List ℤ} {line line′ : List ℕ} {x : Id} {a : Seen}
-    → Sees r names marks names′ marks′ x a → (t t′ : ℤ) → (a .fresh ≡ true → t ≡ t′) → Enters excluded settings r times times′ line line′ x t a r′
+    → Sees r names marks names′ marks′ x a → (t t′ : ℤ) → (a .fresh ≡ true → r .queue .timed ≡ true → t ≡ t′) → Enters excluded settings r times times′ line line′ x t a r′
     → Visits excluded settings r (mem names marks times line) (mem names′ marks′ times′ line′) x t′ r′
 visits {excluded} {settings} {r} {r′} {names} {marks} {names′} {marks′} {times} {times′} {line} {line′} {x} {a} s t t′ f e = record {
   right = λ v sh st u n by d w i. went-with excluded settings r r′ names marks names′ marks′ times times′ line line′ x a s v sh st u n by d w i t t′ f e;

@@ -87,12 +87,14 @@ pub fn visit_cached(
     enter(r, seen, times, line, excluded, settings, id, s)
 }
 
-// The seconds of a new parent in the store; of another they are not asked.
-fn new_seconds(store: &[u8], id: &[u8], fresh: bool) -> Seconds
-    ensures { λ r. ⌜ (fresh ≡ true → GivesSeconds (now (store .entry)) (now (id .entry)) r) ⌝ }
+// The seconds of a new parent in the store, where commits wait by time; else they are not asked.
+fn new_seconds(store: &[u8], id: &[u8], fresh: bool, timed: bool) -> Seconds
+    ensures { λ r. ⌜ (fresh ≡ true → timed ≡ true → GivesSeconds (now (store .entry)) (now (id .entry)) r) ⌝ }
 {
     if fresh {
-        return reading::seconds_for(store, id);
+        if timed {
+            return reading::seconds_for(store, id);
+        }
     }
     Seconds(0)
 }
@@ -112,6 +114,7 @@ pub fn visit_stored(
     ensures { λ a. ⌜ VisitsStored (now (excluded .entry)) settings (now (store .entry)) r (mem (now (names .entry)) (now (marks .entry)) (now (times .entry)) (now (line .entry))) (mem (now (names .exit)) (now (marks .exit)) (now (times .exit)) (now (line .exit))) (now (id .entry)) a ⌝ }
 {
     let seen = state::see(r, names, marks, id);
-    let s = new_seconds(store, id, seen.fresh);
+    let q = r.queue;
+    let s = new_seconds(store, id, seen.fresh, q.timed);
     enter(r, seen, times, line, excluded, settings, id, s)
 }

@@ -24,7 +24,7 @@ same-length-4 : tie.Need-same-length-4
 same-length-4 c = search needs
 
 returns : tie.Need-returns
-returns c = let t = c .before .before .before .before .before .before .before .before .before .before .before .before .before .before .before .before .before .before .args .s .0 in visits (c .before .before .before .before .before .before .before .before .before .before .see .ensures) t t (λ h. refl) (c .before .before .before .enter .ensures)
+returns c = let t = c .before .before .before .before .before .before .before .before .before .before .before .before .before .before .before .before .before .before .args .s .0 in visits (c .before .before .before .before .before .before .before .before .before .before .see .ensures) t t (λ h j. refl) (c .before .before .before .enter .ensures)
 
 pub visit-cached-spec : {M : Type 1} → statement M
 visit-cached-spec =

@@ -28,9 +28,9 @@ same-length-4 c = search needs
 
 returns : tie.Need-returns
 returns c =
-    let x = c .before .before .before .before .before .before .before .before .before .before .before .before .before .before .before .before .before .before .before .before .args in
+    let x = c .before .before .before .before .before .before .before .before .before .before .before .before .before .before .before .before .before .before .before .before .before .args in
     let s = c .before .before .before .before .before .before .new-seconds in
-    record { right = λ ok g. visits (c .before .before .before .before .before .before .before .before .before .before .before .see .ensures) (s .result .0) (secondsFor (worldOf (x .store .now) g) (x .id .now)) (λ h. s .ensures h .right ok g) (c .before .before .before .enter .ensures) }
+    record { right = λ ok g. visits (c .before .before .before .before .before .before .before .before .before .before .before .before .see .ensures) (s .result .0) (secondsFor (worldOf (x .store .now) g) (x .id .now)) (λ h j. s .ensures h j .right ok g) (c .before .before .before .enter .ensures) }
 
 pub visit-stored-spec : {M : Type 1} → statement M
 visit-stored-spec =
