@@ -1,0 +1,94 @@
+/* linenhatch: a walk over git commits whose every answer is proved to be the right one.
+ *
+ * The functions of target/staticlib/liblinenhatch.a, which `rt staticlib linenhatch` proves and builds for x86-64 Linux.
+ * What each promises is its contract in crates/linenhatch/src/lib.rt.
+ *
+ * Every lent buffer is a pointer and a number of elements (not of bytes). A pointer is never null, also where the number is 0, and is
+ * aligned for its type; no two buffers of one call overlap, but for those that are const. Nothing is kept between calls but what stands
+ * in the caller's own buffers, and nothing is allocated. Nothing is asked of the contents: every function is safe on any bytes.
+ */
+#ifndef LINENHATCH_H
+#define LINENHATCH_H
+
+#include <stddef.h>
+#include <stdint.h>
+
+#ifdef __cplusplus
+extern "C" {
+#endif
+
+/* ---- settings, as numbers */
+
+/* The order of a walk. Any other number is breadth order. */
+#define LINENHATCH_BREADTH 0u
+#define LINENHATCH_NEWEST 1u
+#define LINENHATCH_OLDEST 2u
+
+/* ---- sizes of the buffers, in elements; places is what linenhatch_places gives */
+
+#define LINENHATCH_ID_BYTES 20u
+#define LINENHATCH_NAMES(places) (LINENHATCH_ID_BYTES * (size_t)(places)) /* uint8_t */
+#define LINENHATCH_MARKS(places) ((size_t)(places))                       /* uint8_t */
+#define LINENHATCH_LEVELS(places) ((size_t)(places))                      /* uint32_t */
+#define LINENHATCH_TIMES(places) ((size_t)(places))                       /* int64_t */
+#define LINENHATCH_LINE(places) (5u * (size_t)(places))                   /* uint32_t */
+#define LINENHATCH_PARENTS 5120u                                          /* uint8_t: 256 ids */
+#define LINENHATCH_RECORD 12u                                             /* uint64_t */
+#define LINENHATCH_OPEN_NUMBERS 3u                                        /* uint64_t */
+
+/* ---- where a number stands in numbers */
+
+#define LINENHATCH_ADMITTED 0 /* commits that ever waited */
+#define LINENHATCH_STRUCK 1   /* of those, taken away by hiding */
+#define LINENHATCH_WAITING 2  /* of those, not handed out yet */
+
+/* ---- refusals of an opening */
+
+#define LINENHATCH_ACCEPTED 0u
+#define LINENHATCH_SHORT_MEMORY 1u   /* a lent buffer is below its size */
+#define LINENHATCH_OVERSIZE 2u       /* store or graph over 16,777,216 bytes, or a list over 20,480 bytes */
+#define LINENHATCH_RAGGED_LIST 3u    /* a list is not of whole ids */
+#define LINENHATCH_TORN_STORE 4u     /* the layout of the commit store is broken */
+#define LINENHATCH_FOREIGN_GRAPH 5u  /* the first 8 bytes of the graph file are other ones */
+#define LINENHATCH_TORN_GRAPH 6u     /* the rest of its layout is broken */
+#define LINENHATCH_LOST_TIP 7u       /* by time: a tip is not in the store */
+#define LINENHATCH_BLURRED_TIP 8u    /* by time: a tip's header cannot be read through its committer line */
+
+/* How many places a walk over these files and lists needs. It depends on no setting and on no excluded id, and is given for any bytes,
+ * also for files that an opening would refuse. */
+size_t linenhatch_places(
+    const uint8_t *store, size_t store_len,
+    const uint8_t *graph, size_t graph_len,
+    const uint8_t *tips, size_t tips_len,
+    const uint8_t *hidden, size_t hidden_len);
+
+/* Opens a walk: 0 where it is accepted, else the number of the first refusal in the order 2 to 6, 1, 7, 8.
+ *
+ * store: the commit store. graph: git's commit-graph file, of length 0 where there is none. tips, hidden, excluded: ids of 20 bytes end to
+ * end. sorting: see above. has_cutoff: 0 for no cutoff, any other number for one; breadth order has none. cutoff: the commits older than
+ * these seconds are left out. first: 0 to follow all parents, any other number to follow first parents alone.
+ *
+ * names to parents are the walk's memory; of a refused opening not a byte there is altered. record and numbers are set down in every case:
+ * after a refusal the record is the closed one (zeros), and the numbers are zeros. Where record or numbers is itself too short the result is
+ * 1, before all other tests, and nothing at all is altered. */
+uint32_t linenhatch_open(
+    const uint8_t *store, size_t store_len,
+    const uint8_t *graph, size_t graph_len,
+    const uint8_t *tips, size_t tips_len,
+    const uint8_t *hidden, size_t hidden_len,
+    const uint8_t *excluded, size_t excluded_len,
+    uint32_t sorting, uint32_t has_cutoff, int64_t cutoff, uint32_t first,
+    uint8_t *names, size_t names_len,
+    uint8_t *marks, size_t marks_len,
+    uint32_t *levels, size_t levels_len,
+    int64_t *times, size_t times_len,
+    uint32_t *line, size_t line_len,
+    uint8_t *parents, size_t parents_len,
+    uint64_t *record, size_t record_len,
+    uint64_t *numbers, size_t numbers_len);
+
+#ifdef __cplusplus
+}
+#endif
+
+#endif

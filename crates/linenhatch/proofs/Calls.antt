@@ -1,0 +1,85 @@
+-- A next call through the library: with no room nothing is done, else its answer and the words of its record are set down. The number 12
+-- stands for the refusal "closed" alone, which gives back the record that it was lent. Assumes nothing.
+use mathlib.Core.Path.{_≡_, refl, sym, _∙_, ap, subst}
+use Prim.Native.Nat.{ℕ, _≤_}
+use mathlib.Core.Bool.{Bool, true, false, _&&_}
+use mathlib.Core.List.{List}
+use native.Mathlib.Omega.{arith}
+use lib.ListN.{length}
+use lib.Dec.{eqb, leb}
+use lib.IntN.{ℤ}
+use borrow.Author.Tests.{leb-true, eqb-true}
+use Rattle.hash.specs.Bytes.{idBytes}
+use Rattle.hash.proofs.Tests.{byCases, clash, and-first}
+use Rattle.walk.specs.declared.Refusal.{Refusal}
+use Rattle.walk.specs.declared.Refusal.the-variants.{BufferTooSmall, InputTooLarge, PartialId, CorruptStore, UnknownGraph, CorruptGraph, TipNotFound, TipUnreadable, CommitNotFound, CommitUnreadable, TooManyParents, Closed}
+use Rattle.walk.specs.declared.Outcome.{Outcome}
+use Rattle.walk.specs.declared.Outcome.the-variants.{Commit, End, Refused}
+use Rattle.walk.specs.Refusals.{numberOf}
+use Rattle.state.specs.declared.Record.{Record}
+use Rattle.traverse.specs.declared.Out.{Out}
+use Rattle.traverse.specs.Contract.{Files, Lent, NextSays}
+use Rattle.wire.specs.Words.{recordOf, roomToCall, PutsRecord}
+use Rattle.wire.specs.Numbers.{callNumber, PutsAnswer}
+use Rattle.linenhatch.specs.Library.{Made, LibraryNext}
+
+twelve-is : (r : Refusal) → numberOf r ≡ 12 → r ≡ Closed
+twelve-is BufferTooSmall h = absurd (omega arith)
+twelve-is InputTooLarge h = absurd (omega arith)
+twelve-is PartialId h = absurd (omega arith)
+twelve-is CorruptStore h = absurd (omega arith)
+twelve-is UnknownGraph h = absurd (omega arith)
+twelve-is CorruptGraph h = absurd (omega arith)
+twelve-is TipNotFound h = absurd (omega arith)
+twelve-is TipUnreadable h = absurd (omega arith)
+twelve-is CommitNotFound h = absurd (omega arith)
+twelve-is CommitUnreadable h = absurd (omega arith)
+twelve-is TooManyParents h = absurd (omega arith)
+twelve-is Closed h = refl
+
+pub twelve-closed : (o : Outcome) → callNumber o ≡ 12 → o ≡ Refused Closed
+twelve-closed Commit h = absurd (omega arith)
+twelve-closed End h = absurd (omega arith)
+twelve-closed (Refused r) h = ap Refused (twelve-is r h)
+
+long-words : (words id numbers : List ℕ) (seconds : List ℤ) → roomToCall words id numbers seconds ≡ true → 12 ≤ length words
+unfolding roomToCall
+long-words words id numbers seconds h =
+    let a = leb 12 (length words) in
+    let b = leb idBytes (length id) in
+    let d = leb 7 (length numbers) in
+    leb-true 12 (length words) (and-first a b (and-first (a && b) d (and-first (a && b && d) (leb 1 (length seconds)) h)))
+
+pub no-room-says : (f : Files) (m : Lent) (words id numbers : List ℕ) (seconds : List ℤ) {b : Bool} → b ≡ roomToCall words id numbers seconds → b ≡ false
+    → LibraryNext f m m words words id id numbers numbers seconds seconds 1
+no-room-says f m words id numbers seconds r h = record {
+  no-room = λ g. (refl, record { same-memory = refl; same-words = refl; same-id = refl; same-numbers = refl; same-seconds = refl });
+  made = λ g. clash (r ∙ g) h;
+}
+
+-- the record that the words stand for after the call is the one that it gave back
+given-back : {f : Files} {m m′ : Lent} {words words′ id id′ numbers numbers′ : List ℕ} {seconds seconds′ : List ℤ} {n : ℕ} {o : Out} → 12 ≤ length words → NextSays f (recordOf words) m o m′
+    → PutsAnswer (o .answer) id id′ numbers numbers′ seconds seconds′ n → PutsRecord n (o .record) words words′ → recordOf words′ ≡ o .record
+given-back {words = words} {n = n} {o = o} l s a w =
+    byCases (eqb n 12)
+    (λ t.
+    let same = w .is ∙ rw t in
+    let c = twelve-closed (o .answer .outcome) (sym (a .result) ∙ eqb-true n 12 t) in
+    ap recordOf same ∙ sym (s .twelve c .0))
+    (λ t. w .back t l)
+
+made-as : {f : Files} {m m′ : Lent} {words words′ id id′ numbers numbers′ : List ℕ} {seconds seconds′ : List ℤ} {n : ℕ} {o : Out} → 12 ≤ length words → NextSays f (recordOf words) m o m′
+    → PutsAnswer (o .answer) id id′ numbers numbers′ seconds seconds′ n → PutsRecord n (o .record) words words′
+    → Made f m m′ words words′ id id′ numbers numbers′ seconds seconds′ n
+made-as {o = o} l s a w = record { out = o; says = s; answer = a; words-are = w .is; record-is = given-back l s a w }
+
+-- the call was lent the files f, which are g, and the record r, which the words stand for
+pub made-says : {f g : Files} {r : Record} {m m′ : Lent} {words words′ id id′ numbers numbers′ : List ℕ} {seconds seconds′ : List ℤ} {n : ℕ} {o : Out} {b : Bool} → f ≡ g → r ≡ recordOf words
+    → b ≡ roomToCall words id numbers seconds → b ≡ true → NextSays f r m o m′ → PutsAnswer (o .answer) id id′ numbers numbers′ seconds seconds′ n → PutsRecord n (o .record) words words′
+    → LibraryNext g m m′ words words′ id id′ numbers numbers′ seconds seconds′ n
+made-says {f = f} {m = m} {m′ = m′} {words = words} {id = id} {numbers = numbers} {seconds = seconds} {o = o} e d q t s a w = record {
+  no-room = λ g. clash t (q ∙ g);
+  made = λ g.
+      made-as (long-words words id numbers seconds g)
+      (subst (λ (x : Files). NextSays x (recordOf words) m o m′) e (subst (λ (y : Record). NextSays f y m o m′) d s)) a w;
+}

@@ -1,0 +1,124 @@
+-- `linenhatch::linenhatch_next` meets its contract: what the call says, with its answer and its record set down. Assumes nothing.
+use mathlib.Core.Path.{_≡_, _∙_, ap}
+use lib.IntN.{ℤ}
+use mir.Syntax.{w64}
+use mir.Val.{toZ, ofZ}
+use mir.Facts.{toZ-ofZ}
+use borrow.Author.Tests.{not-true, not-false}
+use Rattle.traverse.specs.Open.{lentOf}
+use Rattle.traverse.specs.Next.{filesLent}
+use Rattle.wire.specs.Numbers.{settingsOf}
+use Rattle.linenhatch.proofs.Calls.{no-room-says, made-says}
+use borrow.Author.Needs.{needs}
+use Rattle.linenhatch.proofs.linenhatch_next.Statement.{statement}
+use Rattle.linenhatch.proofs.linenhatch_next.Tie as tie
+
+can-call-requires : tie.Need-can-call-requires
+can-call-requires c κs = search needs
+
+same-length : tie.Need-same-length
+same-length c = search needs
+
+same-length-2 : tie.Need-same-length-2
+same-length-2 c = search needs
+
+same-length-3 : tie.Need-same-length-3
+same-length-3 c = search needs
+
+same-length-4 : tie.Need-same-length-4
+same-length-4 c = search needs
+
+returns : tie.Need-returns
+returns c =
+    let x = c .before .before .before .before .before .before .before .before .before .before .before .before .before .before .before .before .before .before .args in
+    no-room-says (filesLent (x .store .now) (x .graph .now) (x .hidden .now) (x .excluded .now) (settingsOf (x .sorting) (x .limited) (x .cutoff) (x .first))) (lentOf (x .names .now) (x .marks .now) (x .levels .now) (x .times .now) (x .line .now) (x .parents .now)) (x .words .now) (x .id .now) (x .numbers .now) (x .seconds .now)
+    (c .before .can-call .ensures) (not-true (c .before .can-call .result) (c .if1 .taken))
+
+settings-of-requires : tie.Need-settings-of-requires
+settings-of-requires c κs = search needs
+
+decode-requires : tie.Need-decode-requires
+decode-requires c κs = search needs
+
+step-requires : tie.Need-step-requires
+step-requires c κs = search needs
+
+put-answer-requires : tie.Need-put-answer-requires
+put-answer-requires c κs = search needs
+
+put-record-requires : tie.Need-put-record-requires
+put-record-requires c κs = search needs
+
+same-length-5 : tie.Need-same-length-5
+same-length-5 c = search needs
+
+same-length-6 : tie.Need-same-length-6
+same-length-6 c = search needs
+
+same-length-7 : tie.Need-same-length-7
+same-length-7 c = search needs
+
+same-length-8 : tie.Need-same-length-8
+same-length-8 c = search needs
+
+same-length-9 : tie.Need-same-length-9
+same-length-9 c = search needs
+
+same-length-10 : tie.Need-same-length-10
+same-length-10 c = search needs
+
+same-length-11 : tie.Need-same-length-11
+same-length-11 c = search needs
+
+same-length-12 : tie.Need-same-length-12
+same-length-12 c = search needs
+
+same-length-13 : tie.Need-same-length-13
+same-length-13 c = search needs
+
+same-length-14 : tie.Need-same-length-14
+same-length-14 c = search needs
+
+returns-2 : tie.Need-returns-2
+returns-2 c =
+    let a = c .before .before .before .before .before .before .before .before .before in
+    let o = a .before .before .before .before .before .before .before .before .before .before .before .before .before .before .before in
+    let d = o .before .before .before .before .before .before .before in
+    let t = d .before .before in
+    let r = t .before .before in
+    let s = r .before .before .before .before .before .before .before .before .before .before .before .before .before .before .before .before .before in
+    let x = s .args in
+    let l = o .step .last in
+    let told : toZ w64 (ofZ w64 (x .cutoff)) ≡ x .cutoff = toZ-ofZ (s .fits .cutoff) in
+    let e = t .settings-of .ensures ∙ ap (λ (z : ℤ). settingsOf (x .sorting) (x .limited) z (x .first)) told in
+    made-says {m = lentOf (x .names .now) (x .marks .now) (x .levels .now) (x .times .now) (x .line .now) (x .parents .now)}
+    {m′ = lentOf (l .1 .1 .1 .1 .1 .1 .0) (l .1 .1 .1 .1 .1 .1 .1 .0) (l .1 .1 .1 .1 .1 .1 .1 .1 .0) (l .1 .1 .1 .1 .1 .1 .1 .1 .1 .0) (l .1 .1 .1 .1 .1 .1 .1 .1 .1 .1 .0) (l .1 .1 .1 .1 .1 .1 .1 .1 .1 .1 .1 .0)}
+    (ap (filesLent (x .store .now) (x .graph .now) (x .hidden .now) (x .excluded .now)) e) (d .decode .ensures)
+    (r .can-call .ensures) (not-false (r .can-call .result) (t .before .if1 .left)) (o .step .ensures) (a .put-answer .ensures) (c .before .before .put-record .ensures)
+
+pub linenhatch-next-spec : {M : Type 1} → statement M
+linenhatch-next-spec =
+    tie.close
+    (tie.spec
+    can-call-requires
+    same-length
+    same-length-2
+    same-length-3
+    same-length-4
+    returns
+    settings-of-requires
+    decode-requires
+    step-requires
+    put-answer-requires
+    put-record-requires
+    same-length-5
+    same-length-6
+    same-length-7
+    same-length-8
+    same-length-9
+    same-length-10
+    same-length-11
+    same-length-12
+    same-length-13
+    same-length-14
+    returns-2)

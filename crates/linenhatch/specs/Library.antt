@@ -1,0 +1,64 @@
+-- What the library's functions promise: an opening and a next call with the record as words, and the answer set down in lent buffers
+-- (document 01: Opening, A next call). Assumes nothing.
+use Prim.Native.Nat.{ℕ}
+use mathlib.Core.Path.{_≡_}
+use mathlib.Core.Bool.{true, false}
+use mathlib.Core.List.{List}
+use lib.IntN.{ℤ}
+use Rattle.hash.specs.Bytes.{setDown}
+use Rattle.walk.specs.declared.Refusal.the-variants.{BufferTooSmall}
+use Rattle.walk.specs.declared.OpenAnswer.{OpenAnswer}
+use Rattle.walk.specs.Refusals.{numberOf}
+use Rattle.walk.specs.Opening.{Input, roomFor, openWalk}
+use Rattle.walk.specs.Given.{openNumber, openGiven}
+use Rattle.traverse.specs.declared.Opened.{Opened}
+use Rattle.traverse.specs.declared.Out.{Out}
+use Rattle.traverse.specs.Contract.{Files, Lent, lengthsOf, OpenSays, NextSays}
+use Rattle.wire.specs.Words.{wordsOf, wordsAfter, recordOf, openWords, roomToOpen, roomToCall}
+use Rattle.wire.specs.Numbers.{PutsAnswer}
+
+-- ---- an opening
+
+-- the answer of document 01's opening
+abbrev pub openAnswer : Input → Lent → OpenAnswer
+openAnswer i m = openGiven (openWalk i (roomFor i (lengthsOf m)))
+
+-- an opening that was tried: its answer set down, and the words of the record that it gives back, which read as that record again
+pub record Tried (i : Input) (m m′ : Lent) (words words′ numbers numbers′ : List ℕ) (n : ℕ) : Type 0 where
+  pub out : Opened
+  pub says : OpenSays i m out m′
+  pub result : n ≡ openNumber (openAnswer i m .outcome)
+  pub numbers-are : numbers′ ≡ setDown numbers 0 (openWords (openAnswer i m))
+  pub words-are : words′ ≡ setDown words 0 (wordsOf (out .record))
+  pub record-is : recordOf words′ ≡ out .record
+
+-- linenhatch_open, with its result n. Where the record or the numbers have no room it is "short memory", before all other tests, and
+-- nothing is altered
+pub record LibraryOpens (i : Input) (m m′ : Lent) (words words′ numbers numbers′ : List ℕ) (n : ℕ) : Type 0 where
+  pub no-room : roomToOpen words numbers ≡ false → (n ≡ numberOf BufferTooSmall) × (m′ ≡ m) × (words′ ≡ words) × (numbers′ ≡ numbers)
+  pub tried : roomToOpen words numbers ≡ true → Tried i m m′ words words′ numbers numbers′ n
+
+-- ---- a next call
+
+-- a call that was made, with the result n: its answer set down, and the words of the record that it gives back; "12 alters nothing", so
+-- there the words are as they were
+pub record Made (f : Files) (m m′ : Lent) (words words′ id id′ numbers numbers′ : List ℕ) (seconds seconds′ : List ℤ) (n : ℕ) : Type 0 where
+  pub out : Out
+  pub says : NextSays f (recordOf words) m out m′
+  pub answer : PutsAnswer (out .answer) id id′ numbers numbers′ seconds seconds′ n
+  pub words-are : words′ ≡ wordsAfter n (out .record) words
+  pub record-is : recordOf words′ ≡ out .record
+
+-- nothing is altered
+pub record AsLent (m m′ : Lent) (words words′ id id′ numbers numbers′ : List ℕ) (seconds seconds′ : List ℤ) : Type 0 where
+  pub same-memory : m′ ≡ m
+  pub same-words : words′ ≡ words
+  pub same-id : id′ ≡ id
+  pub same-numbers : numbers′ ≡ numbers
+  pub same-seconds : seconds′ ≡ seconds
+
+-- linenhatch_next, with its result n. Where the record or the answer has no room it is "short memory", no call is made and nothing is
+-- altered
+pub record LibraryNext (f : Files) (m m′ : Lent) (words words′ id id′ numbers numbers′ : List ℕ) (seconds seconds′ : List ℤ) (n : ℕ) : Type 0 where
+  pub no-room : roomToCall words id numbers seconds ≡ false → (n ≡ numberOf BufferTooSmall) × AsLent m m′ words words′ id id′ numbers numbers′ seconds seconds′
+  pub made : roomToCall words id numbers seconds ≡ true → Made f m m′ words words′ id id′ numbers numbers′ seconds seconds′ n

@@ -1,0 +1,117 @@
+// The walk for callers in C and Rust: every parameter is a number or a slice (a pointer and a length), and the walk's record stands as
+// words in lent memory. bindings/c/linenhatch.h declares the functions for C. Each is total on any bytes, numbers and lengths.
+ghost use Prim.Native.Nat.{ℕ};
+ghost use mathlib.Core.Path.{_≡_};
+ghost use mathlib.Core.List.{List};
+ghost use Rattle.walk.specs.declared.Settings.{Settings};
+ghost use Rattle.walk.specs.Opening.{P};
+ghost use Rattle.opening.specs.Checks.{inputOf};
+ghost use Rattle.traverse.specs.Open.{lentOf};
+ghost use Rattle.traverse.specs.Next.{filesLent};
+ghost use Rattle.wire.specs.Numbers.{settingsOf};
+ghost use Rattle.linenhatch.specs.Library.{LibraryOpens, LibraryNext};
+
+// How many places a walk needs (document 01's P), so that a caller knows how much memory to lend.
+#[no_mangle]
+pub extern "C" fn linenhatch_places(store: &[u8], graph: &[u8], tips: &[u8], hidden: &[u8]) -> usize
+    ensures { λ r. ⌜ ((excluded : List ℕ) (s : Settings) → r ≡ P (inputOf (now (store .entry)) (now (graph .entry)) (now (tips .entry)) (now (hidden .entry)) excluded s)) ⌝ }
+{
+    opening::capacity(store, graph, tips, hidden)
+}
+
+// Opens a walk. The result is 0 where it is accepted, else document 01's number of the refusal; the record's words and the walk's running
+// numbers are set down in every case, but where there is no room for them: that is refusal 1, before all other tests, and nothing is
+// altered.
+#[no_mangle]
+pub extern "C" fn linenhatch_open(
+    store: &[u8],
+    graph: &[u8],
+    tips: &[u8],
+    hidden: &[u8],
+    excluded: &[u8],
+    sorting: u32,
+    limited: u32,
+    cutoff: i64,
+    first: u32,
+    names: &mut [u8],
+    marks: &mut [u8],
+    levels: &mut [u32],
+    times: &mut [i64],
+    line: &mut [u32],
+    parents: &mut [u8],
+    words: &mut [u64],
+    numbers: &mut [u64],
+) -> u32
+    ensures { λ n. ⌜ LibraryOpens (inputOf (now (store .entry)) (now (graph .entry)) (now (tips .entry)) (now (hidden .entry)) (now (excluded .entry)) (settingsOf sorting limited cutoff first)) (lentOf (now (names .entry)) (now (marks .entry)) (now (levels .entry)) (now (times .entry)) (now (line .entry)) (now (parents .entry))) (lentOf (now (names .exit)) (now (marks .exit)) (now (levels .exit)) (now (times .exit)) (now (line .exit)) (now (parents .exit))) (now (words .entry)) (now (words .exit)) (now (numbers .entry)) (now (numbers .exit)) n ⌝ }
+{
+    if !wire::can_open(words, numbers) {
+        return 1;
+    }
+    let settings = wire::settings_of(sorting, limited, cutoff, first);
+    let o = traverse::open::open(
+        store,
+        graph,
+        tips,
+        hidden,
+        excluded,
+        settings,
+        names,
+        marks,
+        levels,
+        times,
+        line,
+        parents,
+    );
+    wire::encode(o.record, words);
+    wire::put_open_answer(o.answer, numbers)
+}
+
+// One call: the result is 0 where a commit is handed out, 100 at the end, else document 01's number of the refusal. The answer stands in
+// id, numbers, seconds and the start of parents, and the words are those of the record for the next call; after refusal 12 they are as they
+// were. Where there is no room for the record or the answer that is refusal 1: no call is made, and nothing is altered.
+#[no_mangle]
+pub extern "C" fn linenhatch_next(
+    words: &mut [u64],
+    store: &[u8],
+    graph: &[u8],
+    hidden: &[u8],
+    excluded: &[u8],
+    sorting: u32,
+    limited: u32,
+    cutoff: i64,
+    first: u32,
+    names: &mut [u8],
+    marks: &mut [u8],
+    levels: &mut [u32],
+    times: &mut [i64],
+    line: &mut [u32],
+    parents: &mut [u8],
+    id: &mut [u8],
+    numbers: &mut [u64],
+    seconds: &mut [i64],
+) -> u32
+    ensures { λ n. ⌜ LibraryNext (filesLent (now (store .entry)) (now (graph .entry)) (now (hidden .entry)) (now (excluded .entry)) (settingsOf sorting limited cutoff first)) (lentOf (now (names .entry)) (now (marks .entry)) (now (levels .entry)) (now (times .entry)) (now (line .entry)) (now (parents .entry))) (lentOf (now (names .exit)) (now (marks .exit)) (now (levels .exit)) (now (times .exit)) (now (line .exit)) (now (parents .exit))) (now (words .entry)) (now (words .exit)) (now (id .entry)) (now (id .exit)) (now (numbers .entry)) (now (numbers .exit)) (now (seconds .entry)) (now (seconds .exit)) n ⌝ }
+{
+    if !wire::can_call(words, id, numbers, seconds) {
+        return 1;
+    }
+    let settings = wire::settings_of(sorting, limited, cutoff, first);
+    let r = wire::decode(words);
+    let o = traverse::next::step(
+        r,
+        store,
+        graph,
+        hidden,
+        excluded,
+        settings,
+        names,
+        marks,
+        levels,
+        times,
+        line,
+        parents,
+    );
+    let n = wire::put_answer(o.answer, id, numbers, seconds);
+    wire::put_record(n, o.record, words);
+    n
+}

@@ -1,0 +1,49 @@
+-- A record comes back from its words: each field is read at the place where its word stands, a yes is 1, and the number that the next
+-- commit is queued under is below 2 ^ 32. Assumes nothing.
+use mathlib.Core.Path.{_≡_, refl, _∙_, ap}
+use Prim.Native.Nat.{ℕ, _+_, _%_, _≤_, _<_}
+use mathlib.Core.Bool.{Bool, true, false}
+use mathlib.Core.List.{List, [], _++_}
+use native.Mathlib.Omega.{arith}
+use lib.ListN.{length, drop}
+use lib.Dec.{eqb}
+use Rattle.hash.specs.Bytes.{setDown}
+use Rattle.hash.proofs.Bytes.{setDown-fits}
+use Rattle.state.specs.declared.Record.{Record}
+use Rattle.wire.specs.Words.{bitOf, wordsOf, queueOf, recordOf}
+
+bit-back : (b : Bool) → eqb (bitOf b) 1 ≡ b
+bit-back true = refl
+bit-back false = refl
+
+-- whatever words stand after them
+pub words-back : (r : Record) (rest : List ℕ) → r .queue .next < 4294967296 → recordOf (wordsOf r ++ rest) ≡ r
+unfolding wordsOf queueOf recordOf
+words-back r rest h =
+    let low : r .queue .next % 4294967296 ≡ r .queue .next = omega arith in
+    λ k. record {
+      live = bit-back (r .live) k;
+      painted = bit-back (r .painted) k;
+      failed = bit-back (r .failed) k;
+      kept = bit-back (r .kept) k;
+      queue = record {
+        timed = bit-back (r .queue .timed) k;
+        newest = bit-back (r .queue .newest) k;
+        cap = r .queue .cap;
+        head = r .queue .head;
+        count = r .queue .count;
+        next = low k;
+      };
+      admitted = r .admitted;
+      struck = r .struck;
+    }
+
+-- `recordOf` undoes `wordsOf`
+pub round-trip : (r : Record) → r .queue .next < 4294967296 → recordOf (wordsOf r) ≡ r
+unfolding wordsOf
+round-trip r h = words-back r [] h
+
+-- a record set down in lent words, with room for all twelve, is read back from them
+pub set-down-back : (w : List ℕ) (r : Record) → r .queue .next < 4294967296 → 12 ≤ length w → recordOf (setDown w 0 (wordsOf r)) ≡ r
+unfolding wordsOf
+set-down-back w r h n = ap recordOf (setDown-fits w 0 (wordsOf r) (omega arith)) ∙ words-back r (drop (0 + 12) w) h

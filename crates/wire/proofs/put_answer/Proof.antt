@@ -1,0 +1,73 @@
+-- `wire::put_answer` meets its contract, buffer by buffer; the seconds come through their 64 bits unchanged. Assumes nothing.
+use mathlib.Core.Path.{_≡_, _∙_, ap}
+use lib.ListN.{set}
+use mir.Syntax.{w64}
+use mir.Val.{toZ, ofZ}
+use mir.Facts.{toZ-ofZ}
+use Rattle.hash.specs.Bytes.{setDown}
+use borrow.Author.Needs.{needs}
+use Rattle.wire.proofs.put_answer.Statement.{statement}
+use Rattle.wire.proofs.put_answer.Tie as tie
+
+answer-words-requires : tie.Need-answer-words-requires
+answer-words-requires c κs = search needs
+
+slice-aggregate-put : tie.Need-slice-aggregate-put
+slice-aggregate-put c = search needs
+
+put-requires : tie.Need-put-requires
+put-requires c κs = search needs
+
+slice-aggregate-set-down : tie.Need-slice-aggregate-set-down
+slice-aggregate-set-down c = search needs
+
+set-down-requires : tie.Need-set-down-requires
+set-down-requires c κs = search needs
+
+seconds-value-requires : tie.Need-seconds-value-requires
+seconds-value-requires c κs = search needs
+
+put-seconds-requires : tie.Need-put-seconds-requires
+put-seconds-requires c κs = search needs
+
+call-number-requires : tie.Need-call-number-requires
+call-number-requires c κs = search needs
+
+same-length : tie.Need-same-length
+same-length c = search needs
+
+same-length-2 : tie.Need-same-length-2
+same-length-2 c = search needs
+
+same-length-3 : tie.Need-same-length-3
+same-length-3 c = search needs
+
+returns : tie.Need-returns
+returns c =
+    let v = c .before .before .before .before .before in
+    let x = c .before .before .before .before .before .before .before .before .before .before .before .before .before .before .before .before .before .before .before .before .args in
+    let z = v .seconds-value .result .0 in
+    let told : toZ w64 (ofZ w64 z) ≡ z = toZ-ofZ {w = w64} {z = z} (record { sfits = c .before .before .before .struct-told .given .0 .1 }) in
+    record {
+      result = c .call-number .ensures;
+      id-is = c .before .before .before .before .before .before .before .before .set-down .ensures;
+      numbers-are = c .before .before .before .before .before .before .before .before .before .before .before .before .before .before .put .ensures ∙ ap (setDown (x .numbers .now) 0) (c .before .before .before .before .before .before .before .before .before .before .before .before .before .before .before .before .before .answer-words .ensures);
+      seconds-are = c .before .before .put-seconds .ensures ∙ ap (set (x .seconds .now) 0) (told ∙ v .seconds-value .ensures);
+    }
+
+pub put-answer-spec : {M : Type 1} → statement M
+put-answer-spec =
+    tie.close
+    (tie.spec
+    answer-words-requires
+    slice-aggregate-put
+    put-requires
+    slice-aggregate-set-down
+    set-down-requires
+    seconds-value-requires
+    put-seconds-requires
+    call-number-requires
+    same-length
+    same-length-2
+    same-length-3
+    returns)

@@ -1,0 +1,98 @@
+-- A record and the numbers of an answer as words, each a number below 2 ^ 64. Assumes nothing.
+use Prim.Native.Nat.{ℕ, _%_, _≤_}
+use mathlib.Core.Path.{_≡_}
+use mathlib.Core.Bool.{Bool, true, false, cond, _&&_}
+use mathlib.Core.List.{List, [], _∷_}
+use lib.ListN.{length, getD}
+use lib.Dec.{eqb, leb}
+use lib.IntN.{ℤ}
+use Rattle.hash.specs.Bytes.{idBytes, setDown}
+use Rattle.revwalk.specs.declared.queue.Queue.{Queue}
+use Rattle.walk.specs.declared.OpenAnswer.{OpenAnswer}
+use Rattle.walk.specs.declared.MaybeLevel.{MaybeLevel}
+use Rattle.walk.specs.declared.MaybeLevel.the-variants.{Generation, NoGeneration}
+use Rattle.walk.specs.declared.MaybeSeconds.{MaybeSeconds}
+use Rattle.walk.specs.declared.MaybeSeconds.the-variants.{Time, NoTime}
+use Rattle.walk.specs.declared.Refusal.the-variants.{Closed}
+use Rattle.walk.specs.Refusals.{numberOf}
+use Rattle.walk.specs.Given.{Given, levelValue}
+use Rattle.state.specs.declared.Record.{Record}
+
+abbrev pub bitOf : Bool → ℕ
+bitOf true = 1
+bitOf false = 0
+
+-- ---- a record (document 01: one small record of counters)
+
+-- its twelve words
+unfoldable pub wordsOf : Record → List ℕ
+wordsOf r =
+    bitOf (r .live) ∷ bitOf (r .painted) ∷ bitOf (r .failed) ∷ bitOf (r .kept)
+    ∷ bitOf (r .queue .timed) ∷ bitOf (r .queue .newest) ∷ r .queue .cap ∷ r .queue .head ∷ r .queue .count ∷ r .queue .next
+    ∷ r .admitted ∷ r .struck ∷ []
+
+-- a word past the end is 0, a yes or no is yes where its word is 1, and of the number that the next commit is queued under the low 32
+-- bits count
+unfoldable pub queueOf : List ℕ → Queue
+queueOf w = record {
+  timed = eqb (getD w 4 0) 1;
+  newest = eqb (getD w 5 0) 1;
+  cap = getD w 6 0;
+  head = getD w 7 0;
+  count = getD w 8 0;
+  next = getD w 9 0 % 4294967296;
+}
+
+-- the record that words stand for
+unfoldable pub recordOf : List ℕ → Record
+recordOf w = record {
+  live = eqb (getD w 0 0) 1;
+  painted = eqb (getD w 1 0) 1;
+  failed = eqb (getD w 2 0) 1;
+  kept = eqb (getD w 3 0) 1;
+  queue = queueOf w;
+  admitted = getD w 10 0;
+  struck = getD w 11 0;
+}
+
+-- encode: the record's words set down, where there is room for them they read as that record again
+pub record Encodes (r : Record) (words words′ : List ℕ) : Type 0 where
+  pub is : words′ ≡ setDown words 0 (wordsOf r)
+  pub back : 12 ≤ length words → recordOf words′ ≡ r
+
+-- the words after a call whose outcome has the number n, and which gives the record r back: "12 alters nothing"
+abbrev pub wordsAfter : ℕ → Record → List ℕ → List ℕ
+wordsAfter n r words = cond (eqb n (numberOf Closed)) words (setDown words 0 (wordsOf r))
+
+pub record PutsRecord (n : ℕ) (r : Record) (words words′ : List ℕ) : Type 0 where
+  pub is : words′ ≡ wordsAfter n r words
+  pub back : eqb n (numberOf Closed) ≡ false → 12 ≤ length words → recordOf words′ ≡ r
+
+-- ---- answers
+
+-- "this walk's running numbers of commits admitted …, struck and waiting"
+unfoldable pub openWords : OpenAnswer → List ℕ
+openWords a = a .admitted ∷ a .struck ∷ a .waiting ∷ []
+
+abbrev pub hasLevel : MaybeLevel → ℕ
+hasLevel (Generation l) = 1
+hasLevel NoGeneration = 0
+
+abbrev pub hasSeconds : MaybeSeconds → ℕ
+hasSeconds (Time s) = 1
+hasSeconds NoTime = 0
+
+-- the same numbers, how many ids stand in parents, whether the answer has a level, the level, and whether it has seconds
+unfoldable pub answerWords : Given → List ℕ
+answerWords a =
+    a .admitted ∷ a .struck ∷ a .waiting ∷ a .parents ∷ hasLevel (a .generation) ∷ levelValue (a .generation) ∷ hasSeconds (a .time) ∷ []
+
+-- ---- room
+
+-- for the record's twelve words and an opening's three numbers
+unfoldable pub roomToOpen : List ℕ → List ℕ → Bool
+roomToOpen words numbers = leb 12 (length words) && leb 3 (length numbers)
+
+-- for the record's twelve words, and a call's id, seven numbers and seconds
+unfoldable pub roomToCall : List ℕ → List ℕ → List ℕ → List ℤ → Bool
+roomToCall words id numbers seconds = leb 12 (length words) && leb idBytes (length id) && leb 7 (length numbers) && leb 1 (length seconds)

@@ -1,0 +1,352 @@
+// A walk's record, settings and answers as plain numbers in lent slices, for callers in other languages. Every function is total on any
+// numbers and lengths.
+use date::Seconds;
+use revwalk::queue::Queue;
+use state::Record;
+use walk::Answer;
+use walk::CommitTimeOrder;
+use walk::MaybeLevel;
+use walk::MaybeSeconds;
+use walk::OpenAnswer;
+use walk::OpenOutcome;
+use walk::Outcome;
+use walk::Parents;
+use walk::Settings;
+use walk::Sorting;
+ghost use mathlib.Core.Path.{_≡_};
+ghost use Prim.Native.Nat.{_%_};
+ghost use lib.ListN.{getD, set};
+ghost use lib.Dec.{eqb};
+ghost use Rattle.hash.specs.Bytes.{setDown};
+ghost use Rattle.walk.specs.Given.{openNumber, levelValue, secondsValue};
+ghost use Rattle.wire.specs.Words.{bitOf, wordsOf, recordOf, queueOf, Encodes, PutsRecord, answerWords, hasLevel, hasSeconds, roomToOpen, roomToCall};
+ghost use Rattle.wire.specs.Numbers.{timeOrder, sortingOf, parentsOf, settingsOf, callNumber, PutsOpenAnswer, PutsAnswer};
+
+// How many words a record has.
+const RECORD_WORDS: usize = 12;
+
+// How many numbers an opening's answer has, and a call's.
+const OPEN_NUMBERS: usize = 3;
+
+const CALL_NUMBERS: usize = 7;
+
+// Document 01's number of the refusal "closed".
+const CLOSED: u32 = 12;
+
+// Whether there is room for the record's words and an opening's numbers.
+pub fn can_open(words: &[u64], numbers: &[u64]) -> bool
+    ensures { λ r. ⌜ r ≡ roomToOpen (now (words .entry)) (now (numbers .entry)) ⌝ }
+{
+    if words.len() < RECORD_WORDS {
+        return false;
+    }
+    OPEN_NUMBERS <= numbers.len()
+}
+
+// Whether there is room for the record's words, and for a call's id, numbers and seconds.
+pub fn can_call(words: &[u64], id: &[u8], numbers: &[u64], seconds: &[i64]) -> bool
+    ensures { λ r. ⌜ r ≡ roomToCall (now (words .entry)) (now (id .entry)) (now (numbers .entry)) (now (seconds .entry)) ⌝ }
+{
+    if words.len() < RECORD_WORDS {
+        return false;
+    }
+    if id.len() < hash::ID_BYTES {
+        return false;
+    }
+    if numbers.len() < CALL_NUMBERS {
+        return false;
+    }
+    1 <= seconds.len()
+}
+
+fn bit(b: bool) -> u64
+    ensures { λ r. ⌜ r ≡ bitOf b ⌝ }
+{
+    if b { 1 } else { 0 }
+}
+
+fn long(n: usize) -> u64
+    ensures { λ r. ⌜ r ≡ n ⌝ }
+{
+    n as u64
+}
+
+fn long32(n: u32) -> u64
+    ensures { λ r. ⌜ r ≡ n ⌝ }
+{
+    n as u64
+}
+
+fn size(x: u64) -> usize
+    ensures { λ r. ⌜ r ≡ x ⌝ }
+{
+    x as usize
+}
+
+// The word at a place, 0 past the end.
+fn word(words: &[u64], k: usize) -> u64
+    ensures { λ r. ⌜ r ≡ getD (now (words .entry)) k 0 ⌝ }
+{
+    if k < words.len() { words[k] } else { 0 }
+}
+
+// Whether the word at a place is 1.
+fn flag(words: &[u64], k: usize) -> bool
+    ensures { λ r. ⌜ r ≡ eqb (getD (now (words .entry)) k 0) 1 ⌝ }
+{
+    word(words, k) == 1
+}
+
+fn count(words: &[u64], k: usize) -> usize
+    ensures { λ r. ⌜ r ≡ getD (now (words .entry)) k 0 ⌝ }
+{
+    size(word(words, k))
+}
+
+// The low 32 bits of the word at a place.
+fn low(words: &[u64], k: usize) -> u32
+    ensures { λ r. ⌜ r ≡ getD (now (words .entry)) k 0 % 4294967296 ⌝ }
+{
+    (word(words, k) % 4294967296) as u32
+}
+
+// Words set down at the start of a slice, where they fit; else nothing is changed.
+pub fn put(out: &mut [u64], x: &[u64])
+    ensures { λ r. ⌜ now (out .exit) ≡ setDown (now (out .entry)) 0 (now (x .entry)) ⌝ }
+{
+    if out.len() < x.len() {
+        return;
+    }
+    let mut k = 0;
+    while k < x.len() {
+        out[k] = x[k];
+        k += 1;
+    }
+}
+
+// The words of a record.
+pub fn words_of(r: Record) -> [u64; 12]
+    ensures { λ w. ⌜ w ≡ wordsOf r ⌝ }
+{
+    let q = r.queue;
+    [
+        bit(r.live),
+        bit(r.painted),
+        bit(r.failed),
+        bit(r.kept),
+        bit(q.timed),
+        bit(q.newest),
+        long(q.cap),
+        long(q.head),
+        long(q.count),
+        long32(q.next),
+        long(r.admitted),
+        long(r.struck),
+    ]
+}
+
+// A record set down as words.
+pub fn encode(r: Record, words: &mut [u64])
+    ensures { λ a. ⌜ Encodes r (now (words .entry)) (now (words .exit)) ⌝ }
+{
+    let w = words_of(r);
+    put(words, &w);
+}
+
+// The record that a call gives back, set down as words. Refusal 12 alters nothing: after it the words stay as they are.
+pub fn put_record(n: u32, r: Record, words: &mut [u64])
+    ensures { λ a. ⌜ PutsRecord n r (now (words .entry)) (now (words .exit)) ⌝ }
+{
+    if n != CLOSED {
+        encode(r, words);
+    }
+}
+
+fn queue_of(words: &[u64]) -> Queue
+    ensures { λ q. ⌜ q ≡ queueOf (now (words .entry)) ⌝ }
+{
+    Queue {
+        timed: flag(words, 4),
+        newest: flag(words, 5),
+        cap: count(words, 6),
+        head: count(words, 7),
+        count: count(words, 8),
+        next: low(words, 9),
+    }
+}
+
+// The record that words stand for.
+pub fn decode(words: &[u64]) -> Record
+    ensures { λ r. ⌜ r ≡ recordOf (now (words .entry)) ⌝ }
+{
+    Record {
+        live: flag(words, 0),
+        painted: flag(words, 1),
+        failed: flag(words, 2),
+        kept: flag(words, 3),
+        queue: queue_of(words),
+        admitted: count(words, 10),
+        struck: count(words, 11),
+    }
+}
+
+// A time order, with a cutoff or without.
+fn time_order(order: CommitTimeOrder, limited: u32, cutoff: Seconds) -> Sorting
+    ensures { λ s. ⌜ s ≡ timeOrder order limited (cutoff .0) ⌝ }
+{
+    if limited == 0 {
+        return Sorting::ByCommitTime(order);
+    }
+    Sorting::ByCommitTimeCutoff {
+        order: order,
+        seconds: cutoff,
+    }
+}
+
+// The order with a number: 1 is newest first, 2 oldest first, any other breadth order, which has no cutoff.
+fn sorting_of(sorting: u32, limited: u32, cutoff: Seconds) -> Sorting
+    ensures { λ s. ⌜ s ≡ sortingOf sorting limited (cutoff .0) ⌝ }
+{
+    if sorting == 1 {
+        return time_order(CommitTimeOrder::NewestFirst, limited, cutoff);
+    }
+    if sorting == 2 {
+        return time_order(CommitTimeOrder::OldestFirst, limited, cutoff);
+    }
+    Sorting::BreadthFirst
+}
+
+fn parents_of(first: u32) -> Parents
+    ensures { λ p. ⌜ p ≡ parentsOf first ⌝ }
+{
+    if first == 0 {
+        return Parents::All;
+    }
+    Parents::First
+}
+
+// The settings with these numbers: the order's, whether there is a cutoff, the cutoff, and whether only first parents are followed.
+pub fn settings_of(sorting: u32, limited: u32, cutoff: i64, first: u32) -> Settings
+    ensures { λ s. ⌜ s ≡ settingsOf sorting limited cutoff first ⌝ }
+{
+    Settings {
+        sorting: sorting_of(sorting, limited, Seconds(cutoff)),
+        parents: parents_of(first),
+    }
+}
+
+fn wide(n: u8) -> u32
+    ensures { λ r. ⌜ r ≡ n ⌝ }
+{
+    n as u32
+}
+
+// The number of an opening's outcome: 0 where it is accepted, else document 01's number of the refusal.
+fn open_number(o: OpenOutcome) -> u32
+    ensures { λ n. ⌜ n ≡ openNumber o ⌝ }
+{
+    match o {
+        OpenOutcome::Accepted => 0,
+        OpenOutcome::NotOpened(r) => wide(walk::number(r)),
+    }
+}
+
+// The number of a call's outcome: 0 for a commit, 100 for the end, else document 01's number of the refusal.
+fn call_number(o: Outcome) -> u32
+    ensures { λ n. ⌜ n ≡ callNumber o ⌝ }
+{
+    match o {
+        Outcome::Commit => 0,
+        Outcome::End => 100,
+        Outcome::Refused(r) => wide(walk::number(r)),
+    }
+}
+
+// An opening's answer: its numbers set down, and the number of its outcome.
+pub fn put_open_answer(a: OpenAnswer, numbers: &mut [u64]) -> u32
+    ensures { λ n. ⌜ PutsOpenAnswer a (now (numbers .entry)) (now (numbers .exit)) n ⌝ }
+{
+    let w = [long(a.admitted), long(a.struck), long(a.waiting)];
+    put(numbers, &w);
+    let o = a.outcome;
+    open_number(o)
+}
+
+fn has_level(g: MaybeLevel) -> u64
+    ensures { λ n. ⌜ n ≡ hasLevel g ⌝ }
+{
+    match g {
+        MaybeLevel::Generation(_) => 1,
+        MaybeLevel::NoGeneration => 0,
+    }
+}
+
+// A generation, 0 where there is none.
+fn level_value(g: MaybeLevel) -> u64
+    ensures { λ n. ⌜ n ≡ levelValue g ⌝ }
+{
+    match g {
+        MaybeLevel::Generation(l) => long32(l.0),
+        MaybeLevel::NoGeneration => 0,
+    }
+}
+
+fn has_seconds(t: MaybeSeconds) -> u64
+    ensures { λ n. ⌜ n ≡ hasSeconds t ⌝ }
+{
+    match t {
+        MaybeSeconds::Time(_) => 1,
+        MaybeSeconds::NoTime => 0,
+    }
+}
+
+// Seconds, 0 where there are none.
+fn seconds_value(t: MaybeSeconds) -> Seconds
+    ensures { λ s. ⌜ s .0 ≡ secondsValue t ⌝ }
+{
+    match t {
+        MaybeSeconds::Time(s) => s,
+        MaybeSeconds::NoTime => Seconds(0),
+    }
+}
+
+// Seconds set down at the start of a slice, if it has a place.
+fn put_seconds(s: i64, out: &mut [i64])
+    ensures { λ r. ⌜ now (out .exit) ≡ set (now (out .entry)) 0 s ⌝ }
+{
+    if 0 < out.len() {
+        out[0] = s;
+    }
+}
+
+// The numbers of a call's answer.
+fn answer_words(a: Answer) -> [u64; 7]
+    ensures { λ w. ⌜ w ≡ answerWords a ⌝ }
+{
+    let g = a.generation;
+    let t = a.time;
+    [
+        long(a.admitted),
+        long(a.struck),
+        long(a.waiting),
+        long(a.parents),
+        has_level(g),
+        level_value(g),
+        has_seconds(t),
+    ]
+}
+
+// A call's answer: its id, numbers and seconds set down, and the number of its outcome.
+pub fn put_answer(a: Answer, id: &mut [u8], numbers: &mut [u64], seconds: &mut [i64]) -> u32
+    ensures { λ n. ⌜ PutsAnswer a (now (id .entry)) (now (id .exit)) (now (numbers .entry)) (now (numbers .exit)) (now (seconds .entry)) (now (seconds .exit)) n ⌝ }
+{
+    let w = answer_words(a);
+    put(numbers, &w);
+    let x = a.id;
+    hash::set_down(id, 0, &x);
+    let t = a.time;
+    let s = seconds_value(t);
+    put_seconds(s.0, seconds);
+    let o = a.outcome;
+    call_number(o)
+}
