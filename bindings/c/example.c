@@ -1,4 +1,5 @@
-/* Opens a walk over the smallest commit store: one commit, without parents.
+/* Lists the commits of the smallest commit store: one commit, without parents. Each line is an id and a number of parents, or a refusal
+ * with its number; the last is `end`.
  *
  *     rt staticlib linenhatch
  *     make -C bindings/c run
@@ -63,7 +64,9 @@ int main(void)
     uint32_t *line = lend(LINENHATCH_LINE(places), sizeof *line);
     uint8_t *parents = lend(LINENHATCH_PARENTS, sizeof *parents);
     uint64_t record[LINENHATCH_RECORD];
-    uint64_t numbers[LINENHATCH_OPEN_NUMBERS];
+    uint8_t id[LINENHATCH_ID_BYTES];
+    uint64_t numbers[LINENHATCH_NUMBERS];
+    int64_t seconds[LINENHATCH_SECONDS];
 
     uint32_t result = linenhatch_open(
         store, sizeof store, none, 0, tip, sizeof tip, none, 0, none, 0,
@@ -75,11 +78,36 @@ int main(void)
         line, LINENHATCH_LINE(places),
         parents, LINENHATCH_PARENTS,
         record, LINENHATCH_RECORD,
-        numbers, LINENHATCH_OPEN_NUMBERS);
+        numbers, LINENHATCH_NUMBERS);
 
-    printf("store of %zu bytes, %zu places, result %" PRIu32 "\n", sizeof store, places, result);
-    printf("admitted %" PRIu64 ", struck %" PRIu64 ", waiting %" PRIu64 "\n",
-        numbers[LINENHATCH_ADMITTED], numbers[LINENHATCH_STRUCK], numbers[LINENHATCH_WAITING]);
+    if (result != LINENHATCH_ACCEPTED) {
+        printf("! %" PRIu32 "\n", result);
+        return 1;
+    }
+    do {
+        result = linenhatch_next(
+            record, LINENHATCH_RECORD,
+            store, sizeof store, none, 0, none, 0, none, 0,
+            LINENHATCH_BREADTH, 0, 0, 0,
+            names, LINENHATCH_NAMES(places),
+            marks, LINENHATCH_MARKS(places),
+            levels, LINENHATCH_LEVELS(places),
+            times, LINENHATCH_TIMES(places),
+            line, LINENHATCH_LINE(places),
+            parents, LINENHATCH_PARENTS,
+            id, sizeof id,
+            numbers, LINENHATCH_NUMBERS,
+            seconds, LINENHATCH_SECONDS);
+        if (result == LINENHATCH_COMMIT) {
+            for (size_t i = 0; i < sizeof id; i++)
+                printf("%02x", id[i]);
+            printf(" %" PRIu64 "\n", numbers[LINENHATCH_PARENT_IDS]);
+        } else if (result != LINENHATCH_END) {
+            printf("! %" PRIu32 "\n", result);
+        }
+    } while (result != LINENHATCH_END && result != LINENHATCH_CLOSED);
+    if (result == LINENHATCH_END)
+        printf("end\n");
 
     free(names);
     free(marks);
@@ -87,5 +115,5 @@ int main(void)
     free(times);
     free(line);
     free(parents);
-    return result == LINENHATCH_ACCEPTED ? 0 : 1;
+    return result == LINENHATCH_END ? 0 : 1;
 }

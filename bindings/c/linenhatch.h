@@ -34,17 +34,28 @@ extern "C" {
 #define LINENHATCH_LINE(places) (5u * (size_t)(places))                   /* uint32_t */
 #define LINENHATCH_PARENTS 5120u                                          /* uint8_t: 256 ids */
 #define LINENHATCH_RECORD 12u                                             /* uint64_t */
-#define LINENHATCH_OPEN_NUMBERS 3u                                        /* uint64_t */
+#define LINENHATCH_OPEN_NUMBERS 3u                                        /* uint64_t, of an opening */
+#define LINENHATCH_NUMBERS 7u                                             /* uint64_t, of a call */
+#define LINENHATCH_SECONDS 1u                                             /* int64_t */
 
 /* ---- where a number stands in numbers */
 
 #define LINENHATCH_ADMITTED 0 /* commits that ever waited */
 #define LINENHATCH_STRUCK 1   /* of those, taken away by hiding */
 #define LINENHATCH_WAITING 2  /* of those, not handed out yet */
+/* of a call alone: */
+#define LINENHATCH_PARENT_IDS 3  /* how many ids of parents stand at the start of parents */
+#define LINENHATCH_HAS_LEVEL 4   /* 1 where the commit came from the graph file, else 0 */
+#define LINENHATCH_LEVEL 5       /* its level there, else 0 */
+#define LINENHATCH_HAS_SECONDS 6 /* 1 where the walk goes by time, so that seconds holds the commit's, else 0 */
 
-/* ---- refusals of an opening */
+/* ---- results: a commit or an opening that is accepted is 0, the end 100, all others are refusals */
 
 #define LINENHATCH_ACCEPTED 0u
+#define LINENHATCH_COMMIT 0u
+#define LINENHATCH_END 100u
+
+/* of an opening */
 #define LINENHATCH_SHORT_MEMORY 1u   /* a lent buffer is below its size */
 #define LINENHATCH_OVERSIZE 2u       /* store or graph over 16,777,216 bytes, or a list over 20,480 bytes */
 #define LINENHATCH_RAGGED_LIST 3u    /* a list is not of whole ids */
@@ -53,6 +64,12 @@ extern "C" {
 #define LINENHATCH_TORN_GRAPH 6u     /* the rest of its layout is broken */
 #define LINENHATCH_LOST_TIP 7u       /* by time: a tip is not in the store */
 #define LINENHATCH_BLURRED_TIP 8u    /* by time: a tip's header cannot be read through its committer line */
+
+/* of a call; 1 too, where the record or the answer has no room */
+#define LINENHATCH_LOST_COMMIT 9u     /* in neither file */
+#define LINENHATCH_BLURRED_COMMIT 10u /* a header line is bad */
+#define LINENHATCH_CROWDED_COMMIT 11u /* a commit of over 256 parents */
+#define LINENHATCH_CLOSED 12u         /* the record is closed, or the memory was touched */
 
 /* How many places a walk over these files and lists needs. It depends on no setting and on no excluded id, and is given for any bytes,
  * also for files that an opening would refuse. */
@@ -86,6 +103,36 @@ uint32_t linenhatch_open(
     uint8_t *parents, size_t parents_len,
     uint64_t *record, size_t record_len,
     uint64_t *numbers, size_t numbers_len);
+
+/* One call of an opened walk: 0 where a commit is handed out, 100 at the end, else the number of a refusal.
+ *
+ * record: as the opening or the call before left it; the call sets down the one for the next call. store to first, but for the tips: as
+ * lent to the opening. names to line: as the opening or the call before left them, of the same lengths. levels and parents: of the same
+ * lengths. Then the answers are those of the walk, one after another: no commit is handed out twice, call places + 2 at latest says end,
+ * and after an end comes the end again. With anything else a call gives some result of these, and is safe.
+ *
+ * The answer: id holds the commit's id, numbers the numbers above, seconds the seconds that the commit was queued with, and the start of
+ * parents its parents' ids, as many as numbers says; the rest of parents is as it was. A refusal or the end has zeros for id, level and
+ * seconds; 12 has zeros for all. After 9 to 11 the commit is used up and the next call goes on.
+ *
+ * 12 alters neither the record nor the memory. Where record, id, numbers or seconds is itself too short the result is 1, no call is made
+ * and nothing at all is altered. */
+uint32_t linenhatch_next(
+    uint64_t *record, size_t record_len,
+    const uint8_t *store, size_t store_len,
+    const uint8_t *graph, size_t graph_len,
+    const uint8_t *hidden, size_t hidden_len,
+    const uint8_t *excluded, size_t excluded_len,
+    uint32_t sorting, uint32_t has_cutoff, int64_t cutoff, uint32_t first,
+    uint8_t *names, size_t names_len,
+    uint8_t *marks, size_t marks_len,
+    uint32_t *levels, size_t levels_len,
+    int64_t *times, size_t times_len,
+    uint32_t *line, size_t line_len,
+    uint8_t *parents, size_t parents_len,
+    uint8_t *id, size_t id_len,
+    uint64_t *numbers, size_t numbers_len,
+    int64_t *seconds, size_t seconds_len);
 
 #ifdef __cplusplus
 }

@@ -1,0 +1,135 @@
+"""library.py LIBRARY.so: runs the cases of generate.py through the static library, made into a shared one, and through model.py, and
+compares every field of every answer, every byte of parents, and the memory around each lent buffer. Prints a line for each family; ends
+with status 1 if anything differs. Options: --seed N, --scale N (percent of the random cases).
+
+    rt staticlib linenhatch
+    make -C bindings/c shared
+    python3 compare/library.py target/c/liblinenhatch.so
+"""
+import argparse
+import ctypes
+import random
+import sys
+
+import generate
+from compare import expected
+
+ENDED, CLOSED = 100, 12
+GUARD = 0x5C
+
+
+class Buffer:
+    """A lent buffer of n elements, filled with GUARD, and 16 elements of it on either side that no call may alter."""
+
+    def __init__(self, kind, n):
+        self.n, self.all = n, (kind * (n + 32))()
+        ctypes.memset(self.all, GUARD, ctypes.sizeof(self.all))
+        self.part = (kind * n).from_buffer(self.all, 16 * ctypes.sizeof(kind))
+        self.kind = kind
+
+    def sound(self):
+        size = 16 * ctypes.sizeof(self.kind)
+        whole = bytes(self.all)
+        return whole[:size] == whole[-size:] == bytes([GUARD]) * size
+
+    def words(self):
+        return [ctypes.cast(self.part, ctypes.c_void_p), ctypes.c_size_t(self.n)]
+
+
+def lend(data):
+    part = (ctypes.c_uint8 * max(1, len(data))).from_buffer_copy(data or b"\0")
+    return [ctypes.cast(part, ctypes.c_void_p), ctypes.c_size_t(len(data))], part
+
+
+class Library:
+    def __init__(self, path):
+        self.lib = ctypes.CDLL(path)
+        self.lib.linenhatch_places.restype = ctypes.c_size_t
+        self.lib.linenhatch_open.restype = self.lib.linenhatch_next.restype = ctypes.c_uint32
+
+    def open(self, case):
+        lists = [case.pair.store, case.pair.graph, b"".join(case.tips), b"".join(case.hidden), b"".join(case.barred)]
+        lent = [lend(data) for data in lists]
+        self.kept = [part for _, part in lent]
+        store, graph, tips, hidden, barred = (words for words, _ in lent)
+        order = {"breadth": 0, "newest": 1, "oldest": 2}[generate.ORDER[case.sorting]]
+        settings = [ctypes.c_uint32(order), ctypes.c_uint32(case.sorting >= generate.CUTOFF_NEWEST), ctypes.c_int64(case.cutoff), ctypes.c_uint32(case.first)]
+        self.places = self.lib.linenhatch_places(*store, *graph, *tips, *hidden)
+        p = self.places
+        self.memory = [Buffer(k, n) for k, n in ((ctypes.c_uint8, 20 * p), (ctypes.c_uint8, p), (ctypes.c_uint32, p), (ctypes.c_int64, p), (ctypes.c_uint32, 5 * p), (ctypes.c_uint8, 5120))]
+        self.record, self.id, self.numbers, self.seconds = Buffer(ctypes.c_uint64, 12), Buffer(ctypes.c_uint8, 20), Buffer(ctypes.c_uint64, 7), Buffer(ctypes.c_int64, 1)
+        self.files = [*store, *graph, *hidden, *barred, *settings]
+        memory = [w for b in self.memory for w in b.words()]
+        return self.lib.linenhatch_open(*store, *graph, *tips, *hidden, *barred, *settings, *memory, *self.record.words(), *self.numbers.words())
+
+    def next(self):
+        memory = [w for b in self.memory for w in b.words()]
+        return self.lib.linenhatch_next(*self.record.words(), *self.files, *memory, *self.id.words(), *self.numbers.words(), *self.seconds.words())
+
+    def sound(self):
+        return all(b.sound() for b in [*self.memory, self.record, self.id, self.numbers, self.seconds])
+
+
+def fault(library, case):
+    """None, or what differs."""
+    _, answers, walk = expected(case)
+    result = library.open(case)
+    parents = library.memory[5]
+    numbers = list(library.numbers.part)
+    if not library.sound():
+        return "memory beside a buffer"
+    if walk.refused is not None:
+        untouched = all(set(bytes(b.part)) <= {GUARD} for b in library.memory)
+        if result != walk.refused or numbers[:3] != [0, 0, 0] or any(library.record.part) or not untouched:
+            return "refused opening: %d for %d" % (result, walk.refused)
+        result = library.next()
+        if result != CLOSED or any(library.numbers.part) or any(library.id.part) or library.seconds.part[0]:
+            return "call of a closed record: %d" % result
+        return None
+    if library.places != walk.P or result != 0 or numbers[:3] != [walk.tips_admitted, 0, walk.tips_admitted]:
+        return "opening: %d, places %d for %d" % (result, library.places, walk.P)
+    for k, a in enumerate(answers):
+        ctypes.memset(parents.part, k & 255, 5120)
+        result = library.next()
+        got = (result, bytes(library.id.part), list(library.numbers.part), library.seconds.part[0], bytes(parents.part))
+        wanted = (
+            {"commit": 0, "end": ENDED, "error": a.number}[a.kind],
+            a.name if a.kind == "commit" else bytes(20),
+            [a.admitted, a.struck, a.waiting, len(a.parents), int(a.level is not None), a.level or 0, int(a.seconds is not None)],
+            a.seconds or 0,
+            b"".join(a.parents) + bytes([k & 255]) * (5120 - 20 * len(a.parents)),
+        )
+        if got != wanted or not library.sound():
+            return "call %d: %s for %s" % (k, got[:4], wanted[:4])
+    return None
+
+
+def main():
+    options = argparse.ArgumentParser()
+    options.add_argument("library")
+    options.add_argument("--seed", type=int, default=1)
+    options.add_argument("--scale", type=int, default=100)
+    options = options.parse_args()
+    library = Library(options.library)
+    bad = 0
+    families = [("document 01's runs", [case for _, case, _, _ in generate.named_runs()])]
+    for name, family, pairs, *how in generate.FAMILIES:
+        rng = random.Random("%d %s" % (options.seed, name))
+        count = max(1, pairs * options.scale // 100)
+        families.append((name, (case for _ in range(count) for case in generate.random_cases(rng, family, *how))))
+    for name, cases in families:
+        done = 0
+        for case in cases:
+            done += 1
+            found = fault(library, case)
+            if found:
+                bad += 1
+                if bad <= 5:
+                    print("%s, case %d: %s" % (name, done, found))
+        print("%s: %d cases" % (name, done))
+    print("%d differ" % bad)
+    return 1 if bad else 0
+
+
+if __name__ == "__main__":
+    sys.exit(main())
