@@ -152,8 +152,13 @@ module _ {c : Cache} {g s : List ℕ} {cap : ℕ} {m : Lent} {p : Pending} {t : 
           in-u = h .parents-in (idOf (m .names) (t .slot));
           some-mark = ap isPainted ebits ∙ painted-passed (getD (m .marks) (t .slot) 0) (i .1);
           room = λ j st″ q.
-              omega (arith, h .room (entryAt (m .names) (m .levels) (m .times) (t .slot)) (rest (h .reads) a e) (first-is (h .reads) a e) j st″
-              (ap (λ (z : Marks). pass (worldUnder c g s) z (take j (parentsOf (read (worldUnder c g s) (idOf (m .names) (t .slot))))) (withPending (rest (h .reads) a e) st)) k ∙ q), e .base, e .end);
+              omega (
+                arith,
+                h .room (entryAt (m .names) (m .levels) (m .times) (t .slot)) (rest (h .reads) a e) (first-is (h .reads) a e) j st″
+                    (ap (λ (z : Marks). pass (worldUnder c g s) z (take j (parentsOf (read (worldUnder c g s) (idOf (m .names) (t .slot))))) (withPending (rest (h .reads) a e) st)) k ∙ q),
+                e .base,
+                e .end,
+              );
         }));
   }
 

@@ -26,7 +26,11 @@ pub fn is_painted(m: u8) -> bool
 fn add_visible(bits: u8, m: u8) -> u8
     ensures { λ r. ⌜ r ≡ addVisible bits m ⌝ }
 {
-    if has_visible(bits) { with_visible(m) } else { m }
+    if has_visible(bits) {
+        with_visible(m)
+    } else {
+        m
+    }
 }
 
 fn add_hidden(bits: u8, m: u8) -> u8
@@ -79,5 +83,9 @@ fn has_both(m: u8) -> bool
 pub fn passed_bits(m: u8) -> u8
     ensures { λ r. ⌜ r ≡ passedBits m ⌝ }
 {
-    if has_both(m) { with_stale(m % 8) } else { m % 8 }
+    if has_both(m) {
+        with_stale(m % 8)
+    } else {
+        m % 8
+    }
 }

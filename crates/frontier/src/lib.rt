@@ -8,11 +8,10 @@ mod prepare;
 mod slots;
 mod turns;
 
-pub use marking::Marked;
-
 use commit::Cache;
 use hashtable::marks::HIDDEN;
 use hashtable::marks::VISIBLE;
+pub use marking::Marked;
 use revwalk::pending::Pending;
 use revwalk::queue::Queue;
 ghost use mathlib.Core.Path.{_≡_};
@@ -63,10 +62,49 @@ fn paint_from(
         start: end,
         end,
     };
-    let shown = lists::mark_run(names, marks, levels, times, line, cap, cache, graph, store, p, from, n, VISIBLE);
+    let shown = lists::mark_run(
+        names,
+        marks,
+        levels,
+        times,
+        line,
+        cap,
+        cache,
+        graph,
+        store,
+        p,
+        from,
+        n,
+        VISIBLE,
+    );
     let low = lowered(shown, from);
-    let both = lists::mark_list(names, marks, levels, times, line, cap, cache, graph, store, low, hidden, HIDDEN);
-    turns::turns(names, marks, levels, times, line, cap, cache, graph, store, both, most)
+    let both = lists::mark_list(
+        names,
+        marks,
+        levels,
+        times,
+        line,
+        cap,
+        cache,
+        graph,
+        store,
+        low,
+        hidden,
+        HIDDEN,
+    );
+    turns::turns(
+        names,
+        marks,
+        levels,
+        times,
+        line,
+        cap,
+        cache,
+        graph,
+        store,
+        both,
+        most,
+    )
 }
 
 // Paints: the commits that wait get VISIBLE, the hidden tips HIDDEN, and these marks go from parent to parent, with STALE where both have
@@ -95,5 +133,17 @@ pub fn paint(
     }
     prepare::wash(marks, cap);
     prepare::collect(line, names, waiting, 2 * cap);
-    paint_from(names, marks, levels, times, line, cap, cache, graph, store, n, hidden)
+    paint_from(
+        names,
+        marks,
+        levels,
+        times,
+        line,
+        cap,
+        cache,
+        graph,
+        store,
+        n,
+        hidden,
+    )
 }

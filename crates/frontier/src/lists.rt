@@ -50,7 +50,20 @@ pub fn mark_list(
     let mut i = 0;
     while i < n {
         let id = hash::id_at(list, hash::ID_BYTES * i);
-        r = marking::mark_next(names, marks, levels, times, line, cap, cache, graph, store, r, id, bits);
+        r = marking::mark_next(
+            names,
+            marks,
+            levels,
+            times,
+            line,
+            cap,
+            cache,
+            graph,
+            store,
+            r,
+            id,
+            bits,
+        );
         i += 1;
     }
     r
@@ -99,7 +112,20 @@ pub fn mark_run(
     while i < n {
         let slot = slot_after(line, from, i);
         let id = id_in(names, slot);
-        r = marking::mark_next(names, marks, levels, times, line, cap, cache, graph, store, r, &id.bytes, bits);
+        r = marking::mark_next(
+            names,
+            marks,
+            levels,
+            times,
+            line,
+            cap,
+            cache,
+            graph,
+            store,
+            r,
+            &id.bytes,
+            bits,
+        );
         i += 1;
     }
     r
@@ -135,7 +161,20 @@ fn pass_one(
     ensures { λ r. ⌜ Takes passTo cache (now (graph .entry)) (now (store .entry)) cap (lent (now (names .entry)) (now (marks .entry)) (now (levels .entry)) (now (times .entry)) (now (line .entry))) (lent (now (names .exit)) (now (marks .exit)) (now (levels .exit)) (now (times .exit)) (now (line .exit))) p (now (id .entry)) bits r ⌝ }
 {
     if is_lacking(names, marks, cap, id, bits) {
-        marking::mark_one(names, marks, levels, times, line, cap, cache, graph, store, p, id, bits)
+        marking::mark_one(
+            names,
+            marks,
+            levels,
+            times,
+            line,
+            cap,
+            cache,
+            graph,
+            store,
+            p,
+            id,
+            bits,
+        )
     } else {
         Marked::Going(p)
     }
@@ -159,7 +198,20 @@ fn pass_next(
     ensures { λ r. ⌜ TakesAfter passTo cache (now (graph .entry)) (now (store .entry)) cap (lent (now (names .entry)) (now (marks .entry)) (now (levels .entry)) (now (times .entry)) (now (line .entry))) (lent (now (names .exit)) (now (marks .exit)) (now (levels .exit)) (now (times .exit)) (now (line .exit))) past (now (id .entry)) bits r ⌝ }
 {
     match past {
-        Marked::Going(p) => pass_one(names, marks, levels, times, line, cap, cache, graph, store, p, id, bits),
+        Marked::Going(p) => pass_one(
+            names,
+            marks,
+            levels,
+            times,
+            line,
+            cap,
+            cache,
+            graph,
+            store,
+            p,
+            id,
+            bits,
+        ),
         Marked::Stop(n) => Marked::Stop(n),
         Marked::NoRoom => Marked::NoRoom,
     }
@@ -198,7 +250,20 @@ pub fn pass_to_parents(
     let mut i = 0;
     while i < n {
         let id = reading::parent_of(commit, i, cache, graph, store);
-        r = pass_next(names, marks, levels, times, line, cap, cache, graph, store, r, &id.bytes, bits);
+        r = pass_next(
+            names,
+            marks,
+            levels,
+            times,
+            line,
+            cap,
+            cache,
+            graph,
+            store,
+            r,
+            &id.bytes,
+            bits,
+        );
         i += 1;
     }
     r

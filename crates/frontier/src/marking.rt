@@ -26,7 +26,15 @@ pub enum Spot {
 }
 
 // Reads a commit and sets down its generation and seconds in a slot.
-fn learn(levels: &mut [u32], times: &mut [i64], cache: Cache, graph: &[u8], store: &[u8], id: &[u8], slot: u32) -> Spot
+fn learn(
+    levels: &mut [u32],
+    times: &mut [i64],
+    cache: Cache,
+    graph: &[u8],
+    store: &[u8],
+    id: &[u8],
+    slot: u32,
+) -> Spot
     ensures { λ r. ⌜ Learns cache (now (graph .entry)) (now (store .entry)) (now (levels .entry)) (now (times .entry)) (now (levels .exit)) (now (times .exit)) (now (id .entry)) slot r ⌝ }
 {
     let c = reading::read_commit(cache, graph, store, id);
@@ -71,7 +79,11 @@ fn queue_slot(p: Pending, line: &mut [u32], levels: &[u32], times: &[i64], slot:
     ensures { λ r. ⌜ Queues (now (levels .entry)) (now (times .entry)) slot p (now (line .entry)) (now (line .exit)) r ⌝ }
 {
     let q = pending::push(p, line, levels, times, slot);
-    if q.start < p.start { Marked::Going(q) } else { Marked::NoRoom }
+    if q.start < p.start {
+        Marked::Going(q)
+    } else {
+        Marked::NoRoom
+    }
 }
 
 // Gives marks to a commit and queues it.
@@ -91,7 +103,18 @@ pub fn mark_one(
 ) -> Marked
     ensures { λ r. ⌜ Takes mark cache (now (graph .entry)) (now (store .entry)) cap (lent (now (names .entry)) (now (marks .entry)) (now (levels .entry)) (now (times .entry)) (now (line .entry))) (lent (now (names .exit)) (now (marks .exit)) (now (levels .exit)) (now (times .exit)) (now (line .exit))) p (now (id .entry)) bits r ⌝ }
 {
-    let s = place(names, marks, levels, times, cap, cache, graph, store, id, bits);
+    let s = place(
+        names,
+        marks,
+        levels,
+        times,
+        cap,
+        cache,
+        graph,
+        store,
+        id,
+        bits,
+    );
     match s {
         Spot::At(k) => queue_slot(p, line, levels, times, k),
         Spot::Unread(n) => Marked::Stop(n),
@@ -117,7 +140,20 @@ pub fn mark_next(
     ensures { λ r. ⌜ TakesAfter mark cache (now (graph .entry)) (now (store .entry)) cap (lent (now (names .entry)) (now (marks .entry)) (now (levels .entry)) (now (times .entry)) (now (line .entry))) (lent (now (names .exit)) (now (marks .exit)) (now (levels .exit)) (now (times .exit)) (now (line .exit))) past (now (id .entry)) bits r ⌝ }
 {
     match past {
-        Marked::Going(p) => mark_one(names, marks, levels, times, line, cap, cache, graph, store, p, id, bits),
+        Marked::Going(p) => mark_one(
+            names,
+            marks,
+            levels,
+            times,
+            line,
+            cap,
+            cache,
+            graph,
+            store,
+            p,
+            id,
+            bits,
+        ),
         Marked::Stop(n) => Marked::Stop(n),
         Marked::NoRoom => Marked::NoRoom,
     }

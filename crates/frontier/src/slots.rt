@@ -29,7 +29,11 @@ fn slot_added(known: bool, slot: usize) -> Added
     ensures { λ r. ⌜ (slot < mostSlots → r ≡ addedAt known slot) ⌝ }
 {
     let k = narrow(slot);
-    if known { Added::Known(k) } else { Added::New(k) }
+    if known {
+        Added::Known(k)
+    } else {
+        Added::New(k)
+    }
 }
 
 // Adds marks to a slot, and says whether it had one of painting's.

@@ -32,7 +32,20 @@ pub fn turn(
         let given = bits::passed_bits(table::mark_of(marks, slot as usize));
         let id = lists::id_in(names, slot);
         let commit = reading::read_commit(cache, graph, store, &id.bytes);
-        lists::pass_to_parents(names, marks, levels, times, line, cap, cache, graph, store, rest, commit, given)
+        lists::pass_to_parents(
+            names,
+            marks,
+            levels,
+            times,
+            line,
+            cap,
+            cache,
+            graph,
+            store,
+            rest,
+            commit,
+            given,
+        )
     } else {
         Marked::Going(p)
     }
@@ -54,7 +67,18 @@ fn turn_next(
     ensures { λ r. ⌜ TakesTurnAfter cache (now (graph .entry)) (now (store .entry)) cap (lent (now (names .entry)) (now (marks .entry)) (now (levels .entry)) (now (times .entry)) (now (line .entry))) (lent (now (names .exit)) (now (marks .exit)) (now (levels .exit)) (now (times .exit)) (now (line .exit))) past r ⌝ }
 {
     match past {
-        Marked::Going(p) => turn(names, marks, levels, times, line, cap, cache, graph, store, p),
+        Marked::Going(p) => turn(
+            names,
+            marks,
+            levels,
+            times,
+            line,
+            cap,
+            cache,
+            graph,
+            store,
+            p,
+        ),
         Marked::Stop(n) => Marked::Stop(n),
         Marked::NoRoom => Marked::NoRoom,
     }
@@ -96,7 +120,18 @@ pub fn turns(
     let mut left = most;
     let mut due = is_due(marks, line, left, r);
     while due {
-        r = turn_next(names, marks, levels, times, line, cap, cache, graph, store, r);
+        r = turn_next(
+            names,
+            marks,
+            levels,
+            times,
+            line,
+            cap,
+            cache,
+            graph,
+            store,
+            r,
+        );
         left -= 1;
         due = is_due(marks, line, left, r);
     }
