@@ -1,0 +1,162 @@
+//! The tool's command line.
+
+use std::ffi::{OsStr, OsString};
+use std::os::unix::ffi::OsStrExt;
+use std::path::PathBuf;
+
+use linenhatch::Order;
+
+pub const HELP: &str = "\
+linenhatch: lists the commits of a git repository, with a walk that is proved to list each one that it should, once
+
+usage: linenhatch [-C DIR] [--order breadth|newest|oldest] [--since SECONDS] [--first-parent]
+                  [--hide REV]... [--exclude REV]... [--no-graph] [--parents] [--time] [--progress] [REV...]
+
+Lists what the REVs reach (HEAD if none is given), one id on a line. A REV is any name of a commit that git knows.
+
+  -C DIR            the repository is in DIR
+  --order ORDER     breadth (the default): the REVs, then their parents, then those parents' parents
+                    newest, oldest: of the commits that wait, the one with the greatest or least committer time
+  --since SECONDS   leaves out the commits before these seconds since 1970; with an order by time (newest, if none is given)
+  --first-parent    follows only the first parent of each commit; --since then counts for the REVs alone
+  --hide REV        leaves out REV and all that it reaches. Where committer times run backwards, some of that may still be listed, but not
+                    with a commit-graph file that has these commits (git commit-graph write --reachable)
+  --exclude REV     leaves out REV and does not go on from it; what is reached another way is listed
+  --no-graph        does not use git's commit-graph file (objects/info/commit-graph)
+  --parents         prints the parents after the id
+  --time            prints SECONDS/GENERATION after the id, - where there is none: seconds are there in an order by time without
+                    --first-parent, a generation for a commit that came from the commit-graph file
+  --progress        shows on standard error how far the work is, also where that is no terminal
+  --help, --version
+
+All that the names reach is read from the repository first and put into a commit store, whole if it fits: a store may have 16,777,216
+bytes. If it does not fit, each commit is cut after its committer line, which is all that a walk reads of it; that is some 60,000 commits.
+Replacements and grafts are not followed. A commit-graph file in several layers, or of over 16,777,216 bytes, is not used.
+
+Exit status: 0 if all was listed; 1 if it was not, with a line on standard error for each refusal; 2 if the command line is wrong.
+";
+
+/// What is to be done.
+#[derive(Debug, PartialEq)]
+pub enum Task {
+    List(Args),
+    Help,
+    Version,
+}
+
+/// A list's settings.
+#[derive(Debug, PartialEq)]
+pub struct Args {
+    pub dir: PathBuf,
+    pub order: Order,
+    pub since: Option<i64>,
+    pub first_parent: bool,
+    pub hide: Vec<OsString>,
+    pub exclude: Vec<OsString>,
+    pub graph: bool,
+    pub parents: bool,
+    pub time: bool,
+    pub progress: bool,
+    pub revs: Vec<OsString>,
+}
+
+/// The command line's words, without the program's name.
+pub fn parse(words: impl IntoIterator<Item = OsString>) -> Result<Task, String> {
+    let mut words = words.into_iter();
+    let mut order = None;
+    let mut args = Args {
+        dir: PathBuf::from("."),
+        order: Order::Breadth,
+        since: None,
+        first_parent: false,
+        hide: Vec::new(),
+        exclude: Vec::new(),
+        graph: true,
+        parents: false,
+        time: false,
+        progress: false,
+        revs: Vec::new(),
+    };
+    while let Some(word) = words.next() {
+        if word == "--" {
+            for rev in words.by_ref() {
+                args.revs.push(name(rev)?);
+            }
+            break;
+        }
+        if !word.as_bytes().starts_with(b"-") {
+            args.revs.push(name(word)?);
+            continue;
+        }
+        let (option, given) = split(&word);
+        let mut value = |what: &str| match given.clone().or_else(|| words.next()) {
+            Some(value) => Ok(value),
+            None => Err(format!("{option} needs {what}")),
+        };
+        match option.as_str() {
+            "-C" => args.dir.push(value("a folder")?),
+            "--order" => order = Some(order_of(&value("breadth, newest or oldest")?)?),
+            "--since" => args.since = Some(seconds_of(&value("a number of seconds")?)?),
+            "--hide" => args.hide.push(name(value("a commit")?)?),
+            "--exclude" => args.exclude.push(name(value("a commit")?)?),
+            _ if given.is_some() => return Err(unknown(&word)),
+            "--first-parent" => args.first_parent = true,
+            "--no-graph" => args.graph = false,
+            "--parents" => args.parents = true,
+            "--time" => args.time = true,
+            "--progress" => args.progress = true,
+            "--help" | "-h" => return Ok(Task::Help),
+            "--version" => return Ok(Task::Version),
+            _ => return Err(unknown(&word)),
+        }
+    }
+    args.order = match (order, args.since) {
+        (Some(Order::Breadth), Some(_)) => return Err("--since needs an order by time: --order newest or --order oldest".into()),
+        (None, Some(_)) => Order::Newest,
+        (order, _) => order.unwrap_or_default(),
+    };
+    if args.revs.is_empty() {
+        args.revs.push("HEAD".into());
+    }
+    Ok(Task::List(args))
+}
+
+/// An option, and the value after its `=`.
+fn split(word: &OsStr) -> (String, Option<OsString>) {
+    let bytes = word.as_bytes();
+    let (option, value) = match bytes.iter().position(|&byte| byte == b'=') {
+        Some(at) if bytes.starts_with(b"--") => (&bytes[..at], Some(OsStr::from_bytes(&bytes[at + 1..]).into())),
+        _ => (bytes, None),
+    };
+    (String::from_utf8_lossy(option).into_owned(), value)
+}
+
+fn unknown(word: &OsStr) -> String {
+    format!("there is no option {}", word.to_string_lossy())
+}
+
+/// One name of a commit.
+fn name(rev: OsString) -> Result<OsString, String> {
+    let text = rev.to_string_lossy();
+    if text.is_empty() || text.starts_with('-') {
+        return Err(format!("'{text}' is no name of a commit"));
+    }
+    if text.starts_with('^') || text.contains("..") {
+        return Err(format!("'{text}' is not the name of one commit; what A..B and ^A leave out is left out with --hide A"));
+    }
+    Ok(rev)
+}
+
+fn order_of(word: &OsStr) -> Result<Order, String> {
+    match word.to_str() {
+        Some("breadth") => Ok(Order::Breadth),
+        Some("newest") => Ok(Order::Newest),
+        Some("oldest") => Ok(Order::Oldest),
+        _ => Err(format!("'{}' is no order: breadth, newest or oldest", word.to_string_lossy())),
+    }
+}
+
+fn seconds_of(word: &OsStr) -> Result<i64, String> {
+    let number = word.to_str().and_then(|text| text.parse().ok());
+    number.ok_or_else(|| format!("'{}' is no number of seconds since 1970", word.to_string_lossy()))
+}

@@ -1,0 +1,228 @@
+//! The functions of `liblinenhatch.a`, and a safe function over each. All `unsafe` code of the crate is here.
+//!
+//! The archive's functions are proved total and safe on any bytes, numbers and lengths. What they ask of a caller is what
+//! `bindings/c/linenhatch.h` says of pointers: each comes with a number of elements, is never null, is aligned for its type, and no two of one
+//! call overlap but where both are only read. Nothing is kept between calls. The safe functions here take slices, of which Rust promises just
+//! that, so they are safe for any arguments.
+#![allow(unsafe_code)]
+
+/// How many words a walk's record has.
+pub(crate) const RECORD: usize = 12;
+/// How many numbers an opening sets down.
+pub(crate) const OPEN_NUMBERS: usize = 3;
+/// How many numbers a next call sets down.
+pub(crate) const CALL_NUMBERS: usize = 7;
+
+/// The files, lists and settings that an opening and each of its calls are lent. No call reads the tips.
+#[derive(Clone, Debug)]
+pub(crate) struct Input<'a> {
+    pub store: &'a [u8],
+    pub graph: &'a [u8],
+    pub hidden: Vec<u8>,
+    pub excluded: Vec<u8>,
+    pub sorting: u32,
+    pub has_cutoff: u32,
+    pub cutoff: i64,
+    pub first: u32,
+}
+
+/// The memory that a walk is lent, and its record. Each part is a vector or an array of its own, so no two overlap.
+#[derive(Clone, Debug)]
+pub(crate) struct Memory {
+    pub names: Vec<u8>,
+    pub marks: Vec<u8>,
+    pub levels: Vec<u32>,
+    pub times: Vec<i64>,
+    pub line: Vec<u32>,
+    pub parents: Vec<u8>,
+    pub record: [u64; RECORD],
+}
+
+/// Where a next call sets its answer down.
+#[derive(Clone, Debug)]
+pub(crate) struct Answer {
+    pub id: [u8; 20],
+    pub numbers: [u64; CALL_NUMBERS],
+    pub seconds: [i64; 1],
+}
+
+extern "C" {
+    fn linenhatch_places(
+        store: *const u8,
+        store_len: usize,
+        graph: *const u8,
+        graph_len: usize,
+        tips: *const u8,
+        tips_len: usize,
+        hidden: *const u8,
+        hidden_len: usize,
+    ) -> usize;
+
+    fn linenhatch_open(
+        store: *const u8,
+        store_len: usize,
+        graph: *const u8,
+        graph_len: usize,
+        tips: *const u8,
+        tips_len: usize,
+        hidden: *const u8,
+        hidden_len: usize,
+        excluded: *const u8,
+        excluded_len: usize,
+        sorting: u32,
+        has_cutoff: u32,
+        cutoff: i64,
+        first: u32,
+        names: *mut u8,
+        names_len: usize,
+        marks: *mut u8,
+        marks_len: usize,
+        levels: *mut u32,
+        levels_len: usize,
+        times: *mut i64,
+        times_len: usize,
+        line: *mut u32,
+        line_len: usize,
+        parents: *mut u8,
+        parents_len: usize,
+        record: *mut u64,
+        record_len: usize,
+        numbers: *mut u64,
+        numbers_len: usize,
+    ) -> u32;
+
+    fn linenhatch_next(
+        record: *mut u64,
+        record_len: usize,
+        store: *const u8,
+        store_len: usize,
+        graph: *const u8,
+        graph_len: usize,
+        hidden: *const u8,
+        hidden_len: usize,
+        excluded: *const u8,
+        excluded_len: usize,
+        sorting: u32,
+        has_cutoff: u32,
+        cutoff: i64,
+        first: u32,
+        names: *mut u8,
+        names_len: usize,
+        marks: *mut u8,
+        marks_len: usize,
+        levels: *mut u32,
+        levels_len: usize,
+        times: *mut i64,
+        times_len: usize,
+        line: *mut u32,
+        line_len: usize,
+        parents: *mut u8,
+        parents_len: usize,
+        id: *mut u8,
+        id_len: usize,
+        numbers: *mut u64,
+        numbers_len: usize,
+        seconds: *mut i64,
+        seconds_len: usize,
+    ) -> u32;
+}
+
+/// How many places a walk over these files and lists needs.
+pub(crate) fn places(input: &Input<'_>, tips: &[u8]) -> usize {
+    // SAFETY: each pointer and length is a slice's: never null (also of no elements), aligned, and valid for reading that many elements while
+    // the call lasts. All are only read, so they may overlap.
+    unsafe {
+        linenhatch_places(
+            input.store.as_ptr(),
+            input.store.len(),
+            input.graph.as_ptr(),
+            input.graph.len(),
+            tips.as_ptr(),
+            tips.len(),
+            input.hidden.as_ptr(),
+            input.hidden.len(),
+        )
+    }
+}
+
+/// Opens a walk: 0, or the number of the refusal. The record and the numbers are set down in every case.
+pub(crate) fn open(input: &Input<'_>, tips: &[u8], memory: &mut Memory, numbers: &mut [u64; OPEN_NUMBERS]) -> u32 {
+    // SAFETY: each pointer and length is a slice's, a vector's or an array's, the length in its own elements: never null (also of no
+    // elements), aligned for its type, and valid while the call lasts. The const ones are only read. Each mutable one is all of one field of
+    // `memory` or `numbers`, borrowed alone through `&mut`, so it overlaps neither another nor anything that is read.
+    unsafe {
+        linenhatch_open(
+            input.store.as_ptr(),
+            input.store.len(),
+            input.graph.as_ptr(),
+            input.graph.len(),
+            tips.as_ptr(),
+            tips.len(),
+            input.hidden.as_ptr(),
+            input.hidden.len(),
+            input.excluded.as_ptr(),
+            input.excluded.len(),
+            input.sorting,
+            input.has_cutoff,
+            input.cutoff,
+            input.first,
+            memory.names.as_mut_ptr(),
+            memory.names.len(),
+            memory.marks.as_mut_ptr(),
+            memory.marks.len(),
+            memory.levels.as_mut_ptr(),
+            memory.levels.len(),
+            memory.times.as_mut_ptr(),
+            memory.times.len(),
+            memory.line.as_mut_ptr(),
+            memory.line.len(),
+            memory.parents.as_mut_ptr(),
+            memory.parents.len(),
+            memory.record.as_mut_ptr(),
+            memory.record.len(),
+            numbers.as_mut_ptr(),
+            numbers.len(),
+        )
+    }
+}
+
+/// Advances a walk by one call: 0 for a commit, 100 for the end, or the number of the refusal.
+pub(crate) fn next(input: &Input<'_>, memory: &mut Memory, answer: &mut Answer) -> u32 {
+    // SAFETY: as in `open`; the mutable ones are all of one field each of `memory` and `answer`.
+    unsafe {
+        linenhatch_next(
+            memory.record.as_mut_ptr(),
+            memory.record.len(),
+            input.store.as_ptr(),
+            input.store.len(),
+            input.graph.as_ptr(),
+            input.graph.len(),
+            input.hidden.as_ptr(),
+            input.hidden.len(),
+            input.excluded.as_ptr(),
+            input.excluded.len(),
+            input.sorting,
+            input.has_cutoff,
+            input.cutoff,
+            input.first,
+            memory.names.as_mut_ptr(),
+            memory.names.len(),
+            memory.marks.as_mut_ptr(),
+            memory.marks.len(),
+            memory.levels.as_mut_ptr(),
+            memory.levels.len(),
+            memory.times.as_mut_ptr(),
+            memory.times.len(),
+            memory.line.as_mut_ptr(),
+            memory.line.len(),
+            memory.parents.as_mut_ptr(),
+            memory.parents.len(),
+            answer.id.as_mut_ptr(),
+            answer.id.len(),
+            answer.numbers.as_mut_ptr(),
+            answer.numbers.len(),
+            answer.seconds.as_mut_ptr(),
+            answer.seconds.len(),
+        )
+    }
+}

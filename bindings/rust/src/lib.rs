@@ -1,0 +1,45 @@
+//! A lister of git commits whose every answer is proved to be the right one, for Rust.
+//!
+//! A walk goes back from some commits over their parents and hands out each commit that it should, once. It is a port of gix-traverse's
+//! `Simple` walk to Rattle, a language in which every function is proved to meet its contract; this crate is a safe binding to the static
+//! library that is built from it.
+//!
+//! A walk reads two files, lent as bytes: a commit store, which [`StoreBuilder`] writes, and, if there is one, git's own commit-graph file.
+//!
+//! ```
+//! # #[cfg(feature = "walk")]
+//! # fn main() -> Result<(), Box<dyn std::error::Error>> {
+//! use linenhatch::{store_from_commits, Lister, ObjectId};
+//!
+//! let id = ObjectId([0x11; 20]);
+//! let body = "tree 0000000000000000000000000000000000000000\nauthor A <a> 5 +0000\ncommitter A <a> 5 +0000\n\n";
+//! let store = store_from_commits([(id, body)])?;
+//!
+//! for commit in Lister::new(&store).tips(&[id]).open()? {
+//!     println!("{}", commit?.id);
+//! }
+//! # Ok(())
+//! # }
+//! # #[cfg(not(feature = "walk"))]
+//! # fn main() {}
+//! ```
+//!
+//! Without the feature `walk`, which links the library, there are ids, refusals and the store writer.
+#![deny(unsafe_code)]
+#![warn(missing_docs)]
+
+#[cfg(feature = "walk")]
+mod ffi;
+mod id;
+mod order;
+mod refusal;
+mod store;
+#[cfg(feature = "walk")]
+mod walk;
+
+pub use id::{ObjectId, ParseIdError, ID_BYTES};
+pub use order::Order;
+pub use refusal::Refusal;
+pub use store::{header, parents, store_from_commits, StoreBuilder, TooLarge, MAX_FILE_BYTES, MAX_IDS};
+#[cfg(feature = "walk")]
+pub use walk::{Commit, Lister, Numbers, Walk};

@@ -1,0 +1,161 @@
+//! The refusals of an opening and of a next call.
+
+use std::error::Error;
+use std::fmt;
+
+/// Why a walk was not opened (1 to 8), or why a call hands out no commit (9 to 12).
+///
+/// [`number`](Refusal::number) and [`word`](Refusal::word) are those of the paper that says what is right (document 01), and the same in every
+/// language; `Display` is a sentence.
+#[derive(Clone, Copy, Debug, PartialEq, Eq, Hash)]
+pub enum Refusal {
+    /// 1, short memory: a lent buffer is below its size. A [`Lister`](crate::Lister) lends enough, so it never meets this.
+    BufferTooSmall,
+    /// 2, oversize: the commit store or the commit-graph file has over 16,777,216 bytes, or a list over 1,024 ids.
+    InputTooLarge,
+    /// 3, ragged list: a list is not made of whole ids. A list of [`ObjectId`](crate::ObjectId) always is.
+    PartialId,
+    /// 4, torn book: the layout of the commit store is broken.
+    CorruptStore,
+    /// 5, foreign graph: the first 8 bytes are not those of a version 1 commit-graph file with 20-byte ids and no base file.
+    UnknownGraph,
+    /// 6, torn graph: the rest of the commit-graph file's layout is broken.
+    CorruptGraph,
+    /// 7, lost tip: by time, a tip that is not in the commit store.
+    TipNotFound,
+    /// 8, blurred tip: by time, a tip whose header is not good through its committer line.
+    TipUnreadable,
+    /// 9, lost commit: it is in neither file.
+    CommitNotFound,
+    /// 10, blurred commit: a header line is bad.
+    CommitUnreadable,
+    /// 11, crowded commit: it has a 257th parent.
+    TooManyParents,
+    /// 12, closed: the walk was not opened, or its memory was touched. A [`Walk`](crate::Walk) is open and alone has its memory, so it never
+    /// meets this.
+    Closed,
+}
+
+impl Refusal {
+    /// All twelve, in the order of their numbers.
+    pub const ALL: [Refusal; 12] = [
+        Refusal::BufferTooSmall,
+        Refusal::InputTooLarge,
+        Refusal::PartialId,
+        Refusal::CorruptStore,
+        Refusal::UnknownGraph,
+        Refusal::CorruptGraph,
+        Refusal::TipNotFound,
+        Refusal::TipUnreadable,
+        Refusal::CommitNotFound,
+        Refusal::CommitUnreadable,
+        Refusal::TooManyParents,
+        Refusal::Closed,
+    ];
+
+    /// The refusal with a number from 1 to 12.
+    pub fn from_number(number: u32) -> Option<Refusal> {
+        let place = usize::try_from(number).ok()?.checked_sub(1)?;
+        Refusal::ALL.get(place).copied()
+    }
+
+    /// Its number, 1 to 12.
+    pub fn number(self) -> u32 {
+        match self {
+            Refusal::BufferTooSmall => 1,
+            Refusal::InputTooLarge => 2,
+            Refusal::PartialId => 3,
+            Refusal::CorruptStore => 4,
+            Refusal::UnknownGraph => 5,
+            Refusal::CorruptGraph => 6,
+            Refusal::TipNotFound => 7,
+            Refusal::TipUnreadable => 8,
+            Refusal::CommitNotFound => 9,
+            Refusal::CommitUnreadable => 10,
+            Refusal::TooManyParents => 11,
+            Refusal::Closed => 12,
+        }
+    }
+
+    /// Its word.
+    pub fn word(self) -> &'static str {
+        match self {
+            Refusal::BufferTooSmall => "short memory",
+            Refusal::InputTooLarge => "oversize",
+            Refusal::PartialId => "ragged list",
+            Refusal::CorruptStore => "torn book",
+            Refusal::UnknownGraph => "foreign graph",
+            Refusal::CorruptGraph => "torn graph",
+            Refusal::TipNotFound => "lost tip",
+            Refusal::TipUnreadable => "blurred tip",
+            Refusal::CommitNotFound => "lost commit",
+            Refusal::CommitUnreadable => "blurred commit",
+            Refusal::TooManyParents => "crowded commit",
+            Refusal::Closed => "closed",
+        }
+    }
+
+    fn sentence(self) -> &'static str {
+        match self {
+            Refusal::BufferTooSmall => "the memory lent to the walk is too small",
+            Refusal::InputTooLarge => {
+                "an input is too large: the commit store and the commit-graph file may have 16,777,216 bytes each, a list of commits 1,024 ids"
+            }
+            Refusal::PartialId => "a list of commits is not made of whole 20-byte ids",
+            Refusal::CorruptStore => "the layout of the commit store is broken",
+            Refusal::UnknownGraph => "the commit-graph file is of another kind than version 1 with 20-byte ids and no base file",
+            Refusal::CorruptGraph => "the layout of the commit-graph file is broken",
+            Refusal::TipNotFound => "a commit to start from is not in the commit store, where an order by time needs it",
+            Refusal::TipUnreadable => "a commit to start from cannot be read through its committer line, which an order by time needs",
+            Refusal::CommitNotFound => "a commit is in neither the commit store nor the commit-graph file",
+            Refusal::CommitUnreadable => "a commit cannot be read: a line of its header is bad",
+            Refusal::TooManyParents => "a commit has more than 256 parents",
+            Refusal::Closed => "the walk is closed, or its memory was touched between calls",
+        }
+    }
+}
+
+impl fmt::Display for Refusal {
+    fn fmt(&self, f: &mut fmt::Formatter<'_>) -> fmt::Result {
+        write!(f, "{} (refusal {}, {})", self.sentence(), self.number(), self.word())
+    }
+}
+
+impl Error for Refusal {}
+
+#[cfg(test)]
+mod tests {
+    use super::*;
+
+    #[test]
+    fn numbers_and_words() {
+        let words = [
+            "short memory",
+            "oversize",
+            "ragged list",
+            "torn book",
+            "foreign graph",
+            "torn graph",
+            "lost tip",
+            "blurred tip",
+            "lost commit",
+            "blurred commit",
+            "crowded commit",
+            "closed",
+        ];
+        for (place, word) in words.iter().enumerate() {
+            let number = place as u32 + 1;
+            let refusal = Refusal::from_number(number).unwrap();
+            assert_eq!(refusal.number(), number);
+            assert_eq!(refusal.word(), *word);
+            assert!(refusal.to_string().ends_with(&format!(" (refusal {number}, {word})")), "{refusal}");
+        }
+    }
+
+    #[test]
+    fn no_other_number() {
+        for number in [0, 13, 100, u32::MAX] {
+            assert_eq!(Refusal::from_number(number), None);
+        }
+    }
+}

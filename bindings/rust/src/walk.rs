@@ -1,0 +1,273 @@
+//! A walk over commits: its settings, its opening and its calls.
+
+use std::fmt;
+use std::iter::FusedIterator;
+
+use crate::ffi::{self, Answer, Input, Memory};
+use crate::id::{ObjectId, ID_BYTES};
+use crate::order::Order;
+use crate::refusal::Refusal;
+
+/// The buffer of an answer's parents holds 256 ids.
+const PARENT_BYTES: usize = 256 * ID_BYTES;
+
+/// What a walk goes over: files, lists and settings. Made with [`Lister::new`], set up call by call, opened with [`Lister::open`].
+///
+/// ```
+/// # fn main() -> Result<(), linenhatch::Refusal> {
+/// use linenhatch::{Lister, Order};
+///
+/// let store = [0; 8]; // a store without commits
+/// let mut walk = Lister::new(&store).order(Order::Newest).cutoff(1_700_000_000).first_parent().open()?;
+/// assert_eq!(walk.next(), None);
+/// # Ok(())
+/// # }
+/// ```
+#[derive(Clone, Debug)]
+#[must_use = "nothing is listed before `open`"]
+pub struct Lister<'a> {
+    store: &'a [u8],
+    graph: &'a [u8],
+    tips: Vec<ObjectId>,
+    hidden: Vec<ObjectId>,
+    excluded: Vec<ObjectId>,
+    order: Order,
+    cutoff: Option<i64>,
+    first_parent: bool,
+}
+
+impl<'a> Lister<'a> {
+    /// A lister over a commit store, which a [`StoreBuilder`](crate::StoreBuilder) writes: no graph file, no tips, nothing hidden or excluded,
+    /// breadth order, no cutoff, all parents.
+    pub fn new(store: &'a [u8]) -> Lister<'a> {
+        Lister {
+            store,
+            graph: &[],
+            tips: Vec::new(),
+            hidden: Vec::new(),
+            excluded: Vec::new(),
+            order: Order::default(),
+            cutoff: None,
+            first_parent: false,
+        }
+    }
+
+    /// Git's commit-graph file (`objects/info/commit-graph`). A commit is looked up there before the store. No bytes mean no file.
+    pub fn graph(mut self, graph: &'a [u8]) -> Lister<'a> {
+        self.graph = graph;
+        self
+    }
+
+    /// Adds commits to start from. Repeats are dropped.
+    pub fn tips(mut self, ids: &[ObjectId]) -> Lister<'a> {
+        self.tips.extend_from_slice(ids);
+        self
+    }
+
+    /// Adds hidden tips: they and all that they reach are left out.
+    ///
+    /// This holds where the pair of generation and committer time falls from each commit to its parents: always for commits that git's
+    /// commit-graph file has, and for others where clocks do not run backwards. Elsewhere some of what they reach may still be listed.
+    pub fn hide(mut self, ids: &[ObjectId]) -> Lister<'a> {
+        self.hidden.extend_from_slice(ids);
+        self
+    }
+
+    /// Adds excluded ids: the walk neither hands them out nor goes on from them. What is reached another way is still listed.
+    pub fn exclude(mut self, ids: &[ObjectId]) -> Lister<'a> {
+        self.excluded.extend_from_slice(ids);
+        self
+    }
+
+    /// The order in which commits are handed out.
+    pub fn order(mut self, order: Order) -> Lister<'a> {
+        self.order = order;
+        self
+    }
+
+    /// Leaves out commits whose committer time is below these seconds, and goes on from none of them. It counts in the orders by time alone;
+    /// with [`first_parent`](Lister::first_parent) it counts for the tips alone.
+    pub fn cutoff(mut self, seconds: i64) -> Lister<'a> {
+        self.cutoff = Some(seconds);
+        self
+    }
+
+    /// Follows only the first parent of each commit; the commits wait in list order. Hidden tips still hide all that they reach.
+    pub fn first_parent(mut self) -> Lister<'a> {
+        self.first_parent = true;
+        self
+    }
+
+    /// Tests files and lists, and opens the walk with memory of its own; or says which of refusals 2 and 4 to 8 comes first, in the order 2,
+    /// 4 to 8.
+    pub fn open(&self) -> Result<Walk<'a>, Refusal> {
+        let input = self.input();
+        let tips = joined(&self.tips);
+        // Files and lists are tested before memory, so a first try without memory finds their faults, and memory is made for good files alone:
+        // a broken commit-graph file may claim any number of commits.
+        let mut memory = Memory::with_places(0);
+        let mut numbers = [0; ffi::OPEN_NUMBERS];
+        let mut result = ffi::open(&input, &tips, &mut memory, &mut numbers);
+        if result == Refusal::BufferTooSmall.number() {
+            memory = Memory::with_places(ffi::places(&input, &tips));
+            result = ffi::open(&input, &tips, &mut memory, &mut numbers);
+        }
+        if result != 0 {
+            return Err(refusal(result));
+        }
+        let [admitted, struck, waiting] = numbers;
+        Ok(Walk {
+            input,
+            memory,
+            answer: Answer { id: [0; ID_BYTES], numbers: [0; ffi::CALL_NUMBERS], seconds: [0] },
+            numbers: Numbers { admitted, struck, waiting },
+            ended: false,
+        })
+    }
+
+    fn input(&self) -> Input<'a> {
+        Input {
+            store: self.store,
+            graph: self.graph,
+            hidden: joined(&self.hidden),
+            excluded: joined(&self.excluded),
+            sorting: match self.order {
+                Order::Breadth => 0,
+                Order::Newest => 1,
+                Order::Oldest => 2,
+            },
+            has_cutoff: u32::from(self.cutoff.is_some()),
+            cutoff: self.cutoff.unwrap_or(0),
+            first: u32::from(self.first_parent),
+        }
+    }
+}
+
+fn joined(ids: &[ObjectId]) -> Vec<u8> {
+    ids.iter().flat_map(|id| id.0).collect()
+}
+
+fn refusal(number: u32) -> Refusal {
+    match Refusal::from_number(number) {
+        Some(refusal) => refusal,
+        None => unreachable!("the library's contract has no result {number}"),
+    }
+}
+
+impl Memory {
+    fn with_places(places: usize) -> Memory {
+        Memory {
+            names: vec![0; ID_BYTES * places],
+            marks: vec![0; places],
+            levels: vec![0; places],
+            times: vec![0; places],
+            line: vec![0; 5 * places],
+            parents: vec![0; PARENT_BYTES],
+            record: [0; ffi::RECORD],
+        }
+    }
+}
+
+/// An open walk. As an iterator it hands out one commit after another.
+///
+/// A call that meets an unreadable commit gives `Err`, with refusal 9, 10 or 11; that commit is used up, and the iterator goes on with the
+/// next. After the first `None` it gives only `None`. If hidden tips were given, the first call finds out what they hide; if a commit cannot
+/// be read there, that call gives `Err` and the next `None`.
+///
+/// The walk borrows the files and alone has its lists, settings, memory and record, so every call is lent what the opening was lent, and
+/// memory untouched since: the one thing that the library's promise about a whole list of calls asks of a caller.
+pub struct Walk<'a> {
+    input: Input<'a>,
+    memory: Memory,
+    answer: Answer,
+    numbers: Numbers,
+    ended: bool,
+}
+
+impl Walk<'_> {
+    /// The running numbers, after the opening or the last call.
+    pub fn numbers(&self) -> Numbers {
+        self.numbers
+    }
+
+    /// The ids that the last call set down: the parents of its commit, or after refusals 10 and 11 those that were read before the bad line.
+    pub fn parents(&self) -> impl ExactSizeIterator<Item = ObjectId> + '_ {
+        let count = self.answer.numbers[3] as usize;
+        self.memory.parents.chunks_exact(ID_BYTES).take(count).map(|bytes| {
+            let mut id = [0; ID_BYTES];
+            id.copy_from_slice(bytes);
+            ObjectId(id)
+        })
+    }
+
+    fn commit(&self) -> Commit {
+        let [.., has_generation, generation, has_time] = self.answer.numbers;
+        Commit {
+            id: ObjectId(self.answer.id),
+            parents: self.parents().collect(),
+            generation: (has_generation != 0).then_some(generation as u32),
+            time: (has_time != 0).then_some(self.answer.seconds[0]),
+        }
+    }
+}
+
+impl Iterator for Walk<'_> {
+    type Item = Result<Commit, Refusal>;
+
+    fn next(&mut self) -> Option<Result<Commit, Refusal>> {
+        const COMMIT: u32 = 0;
+        const END: u32 = 100;
+        if self.ended {
+            return None;
+        }
+        let result = ffi::next(&self.input, &mut self.memory, &mut self.answer);
+        let [admitted, struck, waiting, ..] = self.answer.numbers;
+        self.numbers = Numbers { admitted, struck, waiting };
+        match result {
+            COMMIT => Some(Ok(self.commit())),
+            END => {
+                self.ended = true;
+                None
+            }
+            number => {
+                let refusal = refusal(number);
+                self.ended = refusal == Refusal::Closed;
+                Some(Err(refusal))
+            }
+        }
+    }
+}
+
+impl FusedIterator for Walk<'_> {}
+
+impl fmt::Debug for Walk<'_> {
+    fn fmt(&self, f: &mut fmt::Formatter<'_>) -> fmt::Result {
+        f.debug_struct("Walk").field("numbers", &self.numbers).field("ended", &self.ended).finish_non_exhaustive()
+    }
+}
+
+/// One commit that a walk handed out.
+#[derive(Clone, Debug, PartialEq, Eq, Hash)]
+pub struct Commit {
+    /// Its name.
+    pub id: ObjectId,
+    /// Its parents in order; with [`first_parent`](Lister::first_parent) the first alone.
+    pub parents: Vec<ObjectId>,
+    /// Its generation, if it came from the commit-graph file.
+    pub generation: Option<u32>,
+    /// The committer time that it was queued with, in seconds since 1970: in the orders by time, but not with
+    /// [`first_parent`](Lister::first_parent).
+    pub time: Option<i64>,
+}
+
+/// A walk's running numbers. After every call `admitted` = commits handed out + commits refused + `struck` + `waiting`. (A refusal of the
+/// first call while it finds out what is hidden strikes all that waits, and counts as no commit refused.)
+#[derive(Clone, Copy, Debug, Default, PartialEq, Eq, Hash)]
+pub struct Numbers {
+    /// The commits that ever waited.
+    pub admitted: u64,
+    /// Of those, the ones that hiding took away.
+    pub struck: u64,
+    /// Of those, the ones not handed out yet.
+    pub waiting: u64,
+}

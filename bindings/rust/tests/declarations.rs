@@ -1,0 +1,71 @@
+//! The library's functions are declared in Rust as they are in C: the same parameters, in the same order, of the same types.
+
+const C: &str = include_str!("../../c/linenhatch.h");
+const RUST: &str = include_str!("../src/ffi.rs");
+
+/// The parameters of a function, each as its name and its Rust type; and the result's type.
+type Declaration = (Vec<(String, String)>, String);
+
+fn between<'a>(text: &'a str, start: &str, end: &str) -> &'a str {
+    let from = text.find(start).unwrap_or_else(|| panic!("{start} is not declared")) + start.len();
+    &text[from..from + text[from..].find(end).expect("its end")]
+}
+
+fn in_rust(name: &str) -> Declaration {
+    let parameters = between(RUST, &format!("    fn {name}("), ")");
+    let parameters = parameters.split(',').filter_map(|parameter| parameter.split_once(':'));
+    let result = between(RUST, &format!("    fn {name}("), ";").rsplit("-> ").next().expect("a result");
+    (parameters.map(|(name, kind)| (name.trim().into(), kind.trim().into())).collect(), result.trim().into())
+}
+
+fn in_c(name: &str) -> Declaration {
+    let call = format!(" {name}(\n");
+    let parameters = between(C, &call, ")").split(',').map(|parameter| {
+        let (kind, name) = parameter.trim().rsplit_once(' ').expect("a type and a name");
+        let (pointer, name) = match name.strip_prefix('*') {
+            Some(name) if kind.starts_with("const ") => ("*const ", name),
+            Some(name) => ("*mut ", name),
+            None => ("", name),
+        };
+        (name.to_string(), format!("{pointer}{}", rust_type(kind.trim_start_matches("const "))))
+    });
+    let before = &C[..C.find(&call).expect("a declaration")];
+    (parameters.collect(), rust_type(before.rsplit('\n').next().expect("a type")).into())
+}
+
+fn rust_type(kind: &str) -> &str {
+    match kind {
+        "uint8_t" => "u8",
+        "uint32_t" => "u32",
+        "uint64_t" => "u64",
+        "int64_t" => "i64",
+        "size_t" => "usize",
+        other => panic!("another type: {other}"),
+    }
+}
+
+#[test]
+fn the_same_in_both_languages() {
+    for (name, parameters) in [("linenhatch_places", 8), ("linenhatch_open", 30), ("linenhatch_next", 32)] {
+        let rust = in_rust(name);
+        assert_eq!(rust.0.len(), parameters, "{name}");
+        assert_eq!(rust, in_c(name), "{name}");
+    }
+}
+
+fn defined(name: &str) -> u32 {
+    let value = between(C, &format!("#define LINENHATCH_{name} "), "\n").split_whitespace().next().expect("a value");
+    value.trim_end_matches('u').parse().expect("a number")
+}
+
+#[test]
+fn the_same_numbers() {
+    for (name, line) in [("RECORD", "RECORD: usize"), ("OPEN_NUMBERS", "OPEN_NUMBERS: usize"), ("NUMBERS", "CALL_NUMBERS: usize")] {
+        assert_eq!(between(RUST, &format!("const {line} = "), ";"), defined(name).to_string(), "{name}");
+    }
+    assert_eq!(defined("ID_BYTES") as usize, linenhatch::ID_BYTES);
+    for refusal in linenhatch::Refusal::ALL {
+        let name = refusal.word().replace("book", "store").replace(' ', "_").to_uppercase();
+        assert_eq!(defined(&name), refusal.number(), "{name}");
+    }
+}

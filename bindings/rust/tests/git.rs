@@ -1,0 +1,402 @@
+//! The tool, end to end: small git repositories, and its lists beside those of `git rev-list`.
+//!
+//! Skipped with a message where there is no git, or where the crate is built without the library.
+
+#[cfg(not(feature = "walk"))]
+#[test]
+fn skipped() {
+    eprintln!("skipped: built without the feature `walk`, so without the proved library");
+}
+
+#[cfg(feature = "walk")]
+mod tool {
+    use std::collections::BTreeSet;
+    use std::fs;
+    use std::io::Write;
+    use std::path::{Path, PathBuf};
+    use std::process::{Command, Output, Stdio};
+
+    const TREE: &str = "4b825dc642cb6eb9a060e54bf8d69288fbee4904";
+
+    /// A repository in a folder of its own, which is removed at the end.
+    struct Repository {
+        dir: PathBuf,
+    }
+
+    impl Drop for Repository {
+        fn drop(&mut self) {
+            let _ = fs::remove_dir_all(&self.dir);
+        }
+    }
+
+    fn has_git() -> bool {
+        let found = Command::new("git").arg("--version").output().is_ok_and(|output| output.status.success());
+        if !found {
+            eprintln!("skipped: git is not there");
+        }
+        found
+    }
+
+    fn folder(name: &str) -> PathBuf {
+        let dir = Path::new(env!("CARGO_TARGET_TMPDIR")).join(format!("{name}-{}", std::process::id()));
+        let _ = fs::remove_dir_all(&dir);
+        dir
+    }
+
+    fn run(mut command: Command, input: &[u8]) -> Output {
+        let mut child = command.stdin(Stdio::piped()).stdout(Stdio::piped()).stderr(Stdio::piped()).spawn().unwrap();
+        child.stdin.take().unwrap().write_all(input).unwrap();
+        child.wait_with_output().unwrap()
+    }
+
+    fn lines(text: &[u8]) -> Vec<String> {
+        String::from_utf8(text.to_vec()).unwrap().lines().map(String::from).collect()
+    }
+
+    fn set(lines: &[String]) -> BTreeSet<&String> {
+        lines.iter().collect()
+    }
+
+    impl Repository {
+        fn new(name: &str) -> Repository {
+            let repository = Repository { dir: folder(name) };
+            fs::create_dir_all(&repository.dir).unwrap();
+            repository.git("init -q -b main .");
+            repository.git("hash-object -w -t tree --stdin");
+            repository
+        }
+
+        fn command(&self) -> Command {
+            let mut git = Command::new("git");
+            git.arg("-C").arg(&self.dir).env("GIT_CONFIG_GLOBAL", "/dev/null").env("GIT_CONFIG_NOSYSTEM", "1");
+            for who in ["AUTHOR", "COMMITTER"] {
+                git.env(format!("GIT_{who}_NAME"), "A").env(format!("GIT_{who}_EMAIL"), "a");
+            }
+            git
+        }
+
+        fn git_with(&self, words: &str, input: &[u8]) -> Vec<String> {
+            let mut git = self.command();
+            git.args(words.split_whitespace());
+            let output = run(git, input);
+            assert!(output.status.success(), "git {words}: {}", String::from_utf8_lossy(&output.stderr));
+            lines(&output.stdout)
+        }
+
+        fn git(&self, words: &str) -> Vec<String> {
+            self.git_with(words, b"")
+        }
+
+        /// Writes a commit with these parents and further header lines. The id.
+        fn commit_with(&self, seconds: i64, parents: &[&str], more: &str) -> String {
+            let parents: String = parents.iter().map(|parent| format!("parent {parent}\n")).collect();
+            let body = format!(
+                "tree {TREE}\n{parents}author A B <a@b> {seconds} +0100\ncommitter C D <c@d> {seconds} +0100\n{more}\nrun at {seconds}\n"
+            );
+            self.git_with("hash-object -w -t commit --stdin", body.as_bytes()).remove(0)
+        }
+
+        fn commit(&self, seconds: i64, parents: &[&str]) -> String {
+            self.commit_with(seconds, parents, "")
+        }
+
+        fn point(&self, name: &str, id: &str) {
+            self.git(&format!("update-ref refs/heads/{name} {id}"));
+        }
+
+        fn tool(&self, words: &str) -> Output {
+            let mut tool = Command::new(env!("CARGO_BIN_EXE_linenhatch"));
+            tool.arg("-C").arg(&self.dir).args(words.split_whitespace());
+            tool.env("GIT_CONFIG_GLOBAL", "/dev/null").env("GIT_CONFIG_NOSYSTEM", "1");
+            run(tool, b"")
+        }
+
+        /// The tool's list, which is whole and comes without a word on standard error.
+        fn list(&self, words: &str) -> Vec<String> {
+            let output = self.tool(words);
+            assert_eq!((String::from_utf8_lossy(&output.stderr).as_ref(), output.status.code()), ("", Some(0)), "linenhatch {words}");
+            lines(&output.stdout)
+        }
+
+        /// The tool's list and what it says on standard error, with status 1.
+        fn fails(&self, words: &str) -> (Vec<String>, String) {
+            let output = self.tool(words);
+            assert_eq!(output.status.code(), Some(1), "linenhatch {words}");
+            (lines(&output.stdout), String::from_utf8(output.stderr).unwrap())
+        }
+    }
+
+    /// A main line of 30 commits with side branches, merges of two and of four, and two roots; the times differ and rise.
+    fn history(name: &str) -> Repository {
+        let repository = Repository::new(name);
+        let second = |n: i64| 1_700_000_000 + 60 * n;
+        let other = repository.commit(second(0), &[]);
+        let mut main = vec![repository.commit(second(1), &[])];
+        for n in 1..15 {
+            main.push(repository.commit(second(10 * n), &[&main[n as usize - 1]]));
+        }
+        let side: Vec<String> = (0..3).map(|n| repository.commit(second(141 + n), &[&main[3 + 2 * n as usize]])).collect();
+        let two = repository.commit_with(
+            second(150),
+            &[&main[14], &side[0]],
+            "gpgsig -----BEGIN PGP SIGNATURE-----\n \n abc=\n -----END PGP SIGNATURE-----\n",
+        );
+        let four = repository.commit_with(second(160), &[&two, &side[1], &side[2], &other], "encoding ISO-8859-1\n");
+        main.push(four);
+        for n in 17..31 {
+            let last = main.last().unwrap().clone();
+            main.push(repository.commit(second(10 * n), &[&last]));
+        }
+        repository.point("main", main.last().unwrap());
+        repository.point("old", &main[10]);
+        repository.point("side", &side[2]);
+        repository.point("merge", &main[15]);
+        repository
+    }
+
+    fn compare(repository: &Repository, graph: bool) {
+        let no = if graph { "" } else { "--no-graph" };
+        for (words, same) in [
+            ("main", "main"),
+            ("", "main"),
+            ("main side", "main side"),
+            ("main --hide old", "main ^old"),
+            ("main --hide old --hide side", "main ^old ^side"),
+            ("main --hide main~2", "main ^main~2"),
+            ("--hide main old", "old ^main"),
+            ("merge^2 main~3", "merge^2 main~3"),
+        ] {
+            let right = repository.git(&format!("rev-list {same}"));
+            for order in ["breadth", "newest", "oldest"] {
+                let list = repository.list(&format!("{no} --order {order} {words}"));
+                assert_eq!(list.len(), right.len(), "{order} {words}");
+                assert_eq!(set(&list), set(&right), "{order} {words}");
+            }
+            assert_eq!(repository.list(&format!("{no} --order newest {words}")), right, "{words}");
+            let with_parents = repository.git(&format!("rev-list --parents {same}"));
+            assert_eq!(repository.list(&format!("{no} --order newest --parents {words}")), with_parents, "{words}");
+        }
+        let first = repository.git("rev-list --first-parent main");
+        assert_eq!(repository.list(&format!("{no} --first-parent main")), first);
+        let since = repository.git("rev-list --max-age=1700006000 main");
+        assert!(!since.is_empty());
+        assert_eq!(repository.list(&format!("{no} --since 1700006000 main")), since);
+        let times: Vec<String> = repository.list(&format!("{no} --order newest --time main"));
+        for (line, right) in times.iter().zip(repository.git("rev-list --timestamp main")) {
+            let (seconds, id) = right.split_once(' ').unwrap();
+            assert!(line.starts_with(&format!("{id} {seconds}/")), "{line}");
+            assert_eq!(line.ends_with("/-"), !graph, "{line}");
+        }
+        assert!(repository.list(&format!("{no} --time main")).iter().all(|line| line.contains(" -/")));
+        let without = repository.list(&format!("{no} --exclude merge^1 main"));
+        assert!(!without.contains(&repository.git("rev-parse merge^1")[0]));
+        assert!(without.contains(&repository.git("rev-parse side")[0]));
+    }
+
+    #[test]
+    fn lists_as_rev_list_does() {
+        if !has_git() {
+            return;
+        }
+        let repository = history("lists");
+        compare(&repository, false);
+        repository.git("commit-graph write --reachable --changed-paths");
+        compare(&repository, true);
+        compare(&repository, false);
+        // A stale file: commits that it does not have.
+        let tip = repository.commit(
+            1_800_000_000,
+            &["main", "side"].map(|name| repository.git(&format!("rev-parse {name}")).remove(0)).each_ref().map(|id| id.as_str()),
+        );
+        repository.point("main", &tip);
+        assert_eq!(repository.list("--order newest main"), repository.git("rev-list main"));
+        let times = repository.list("--order newest --time main");
+        assert!(times[0].ends_with("/-") && !times[1].ends_with("/-"));
+    }
+
+    #[test]
+    fn graph_files_that_are_not_used() {
+        if !has_git() {
+            return;
+        }
+        let repository = history("graphs");
+        let right = repository.git("rev-list main");
+        repository.git("commit-graph write --reachable --split");
+        let output = repository.tool("--order newest main");
+        assert_eq!(output.status.code(), Some(0));
+        assert_eq!(lines(&output.stdout), right);
+        assert!(String::from_utf8_lossy(&output.stderr).contains("chain of several layers"));
+        assert_eq!(repository.list("--no-graph --order newest main"), right);
+
+        let file = repository.dir.join(".git/objects/info/commit-graph");
+        fs::write(&file, vec![0; 16_777_217]).unwrap();
+        let output = repository.tool("--order newest main");
+        assert_eq!(lines(&output.stdout), right);
+        assert!(String::from_utf8_lossy(&output.stderr).contains("16777217 bytes"));
+
+        for (bytes, word) in [(&b"another file"[..], "(refusal 5, foreign graph)"), (b"CGPH\x01\x01\x04\x00", "(refusal 6, torn graph)")] {
+            fs::write(&file, bytes).unwrap();
+            let (list, said) = repository.fails("--order newest main");
+            assert!(list.is_empty());
+            assert!(said.contains(word) && said.contains("--no-graph"), "{said}");
+            assert_eq!(repository.list("--no-graph --order newest main"), right);
+        }
+    }
+
+    #[test]
+    fn replacements_are_not_followed() {
+        if !has_git() {
+            return;
+        }
+        let repository = history("replaced");
+        let right = repository.git("rev-list main");
+        repository.git("replace main~4 side");
+        assert_ne!(repository.git("rev-list main"), right);
+        assert_eq!(repository.list("--order newest main"), right);
+    }
+
+    /// Document 01's skewed clock: c is newer than commits that reach it, so hiding misses it, but where the file has generations.
+    #[test]
+    fn a_skewed_clock() {
+        if !has_git() {
+            return;
+        }
+        let repository = Repository::new("skewed");
+        let c = repository.commit(1008, &[]);
+        let s = repository.commit(1001, &[&c]);
+        let m = repository.commit(1003, &[&s]);
+        let h = repository.commit(1009, &[&m]);
+        let a = repository.commit(1010, &[&c, &m]);
+        assert_eq!(repository.list(&format!("{a} --hide {h}")), [a.clone(), c]);
+        repository.point("a", &a);
+        repository.point("h", &h);
+        repository.git("commit-graph write --reachable");
+        assert_eq!(repository.list("a --hide h"), [a]);
+        assert_eq!(repository.list("a --hide h"), repository.git("rev-list a ^h"));
+    }
+
+    #[test]
+    fn wide_merges() {
+        if !has_git() {
+            return;
+        }
+        let repository = Repository::new("wide");
+        let roots: Vec<String> = (0..257).map(|n| repository.commit(1000 + n, &[])).collect();
+        let roots: Vec<&str> = roots.iter().map(String::as_str).collect();
+        repository.point("wide", &repository.commit(5000, &roots[..256]));
+        repository.point("wider", &repository.commit(6000, &roots));
+        assert_eq!(repository.list("--order newest --parents wide"), repository.git("rev-list --parents wide"));
+        repository.git("commit-graph write --reachable");
+        assert_eq!(repository.list("--order newest --parents wide"), repository.git("rev-list --parents wide"));
+        let (list, said) = repository.fails("--no-graph --order newest wider");
+        assert_eq!(set(&list), roots[..256].iter().map(|id| id.to_string()).collect::<Vec<_>>().iter().collect());
+        assert!(said.contains("warning: a commit has more than 256 parents (refusal 11, crowded commit)"), "{said}");
+        assert!(said.contains("not whole: 1 refusal\n"), "{said}");
+    }
+
+    #[test]
+    fn commits_that_are_not_there() {
+        if !has_git() {
+            return;
+        }
+        let repository = history("whole");
+        let shallow = Repository { dir: folder("shallow") };
+        repository.git(&format!("clone -q --depth 3 file://{} {}", repository.dir.display(), shallow.dir.display()));
+        let (list, said) = shallow.fails("--order newest main");
+        assert_eq!(list, shallow.git("rev-list main"));
+        assert!(said.contains("note: this is a shallow clone"), "{said}");
+        assert!(
+            said.contains(&format!("commit {}, a parent of another, is not in the repository", repository.git("rev-parse main~3")[0])),
+            "{said}"
+        );
+        assert!(said.contains("(refusal 9, lost commit)"), "{said}");
+        let (list, said) = shallow.fails("main --hide main~2");
+        assert!(list.is_empty());
+        assert!(said.contains("(refusal 9, lost commit)"), "{said}");
+    }
+
+    #[test]
+    fn commits_that_cannot_be_read() {
+        if !has_git() {
+            return;
+        }
+        let repository = Repository::new("bad");
+        let root = repository.commit(1000, &[]);
+        let body = format!("tree {TREE}\nparent {root}\nauthor A <a> 2000 +0000\ncommitter A a 2000\n\n");
+        let bad = repository.git_with("hash-object -w -t commit --literally --stdin", body.as_bytes()).remove(0);
+        let tip = repository.commit(3000, &[&bad]);
+        assert_eq!(repository.list(&tip), [tip.clone(), bad.clone(), root.clone()]);
+        let (list, said) = repository.fails(&format!("--order newest {bad}"));
+        assert!(list.is_empty());
+        assert!(said.contains("(refusal 8, blurred tip)"), "{said}");
+        let (list, said) = repository.fails(&format!("{tip} --hide {bad}"));
+        assert!(list.is_empty());
+        assert!(said.contains("(refusal 10, blurred commit)"), "{said}");
+    }
+
+    #[test]
+    fn wrong_names_and_places() {
+        if !has_git() {
+            return;
+        }
+        let repository = history("names");
+        let (_, said) = repository.fails("nonesuch");
+        assert!(said.contains("'nonesuch' is the name of no commit here"), "{said}");
+        let (_, said) = repository.fails("--hide main^{tree} main");
+        assert!(said.contains("'main^{tree}' is the name of no commit here"), "{said}");
+        let (_, said) = repository.fails("-C nowhere main");
+        assert!(said.contains("nowhere"), "{said}");
+        assert_eq!(repository.tool("--nonsense").status.code(), Some(2));
+        assert_eq!(repository.list("--help").first().map(|line| line.starts_with("linenhatch: ")), Some(true));
+        repository.git("tag -a -m m v1 main~2");
+        assert_eq!(repository.list("--order newest v1"), repository.git("rev-list v1"));
+        let names = vec!["main"; 1025].join(" ");
+        let (_, said) = repository.fails(&names);
+        assert!(said.contains("at most 1024"), "{said}");
+    }
+
+    #[test]
+    fn sha_256() {
+        if !has_git() {
+            return;
+        }
+        let repository = Repository { dir: folder("sha256") };
+        fs::create_dir_all(&repository.dir).unwrap();
+        let mut git = repository.command();
+        git.args(["init", "-q", "--object-format=sha256", "."]);
+        if !run(git, b"").status.success() {
+            eprintln!("skipped: this git makes no SHA-256 repositories");
+            return;
+        }
+        let (_, said) = repository.fails("");
+        assert!(said.contains("SHA-256"), "{said}");
+    }
+
+    /// 5,000 commits with messages of 4,000 bytes do not fit whole, and do fit cut. With 25,000 more by somebody with a long name, not even that.
+    #[test]
+    fn histories_that_do_not_fit_whole() {
+        if !has_git() {
+            return;
+        }
+        let repository = Repository::new("large");
+        let (message, name) = ("m".repeat(4000), "n".repeat(400));
+        let mut stream = Vec::new();
+        for n in 1..=30_000 {
+            let (branch, name, message) = if n <= 5_000 { ("cut", "A", &message[..]) } else { ("large", &name[..], "") };
+            writeln!(stream, "commit refs/heads/{branch}\nmark :{n}\ncommitter {name} <a> {} +0000", 1_000_000_000 + n).unwrap();
+            writeln!(stream, "data {}\n{message}", message.len()).unwrap();
+            if n > 1 {
+                writeln!(stream, "from :{}", n - 1).unwrap();
+            }
+        }
+        repository.git_with("fast-import --quiet", &stream);
+        let output = repository.tool("--order newest --progress cut");
+        let said = String::from_utf8(output.stderr).unwrap();
+        assert_eq!(output.status.code(), Some(0), "{said}");
+        assert_eq!(lines(&output.stdout), repository.git("rev-list cut"));
+        assert!(said.contains("each is cut after its committer line"), "{said}");
+        let (list, said) = repository.fails("large");
+        assert!(list.is_empty());
+        assert!(said.contains("its 30000 commits needs ") && said.contains("at most 16777216"), "{said}");
+    }
+}
