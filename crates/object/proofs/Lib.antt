@@ -6,3 +6,4 @@ pub mod Parents
 pub mod Headers
 pub mod PersonLines
 pub mod PersonNumbers
+pub mod Table
