@@ -85,9 +85,9 @@ class History:
     def peel(repo, rev):
         return git(repo, "rev-parse", "--verify", "--end-of-options", rev + "^{commit}").decode().strip()
 
-    def ask(self, *words, data=None):
+    def ask(self, *words):
         without = {"GIT_CONFIG_COUNT": "1", "GIT_CONFIG_KEY_0": "core.commitGraph", "GIT_CONFIG_VALUE_0": "false"}
-        return git(self.room, *words, data=data, env=self.env | without)
+        return git(self.room, *words, env=self.env | without)
 
     def reached(self, revs):
         """The commits that the revs reach, each with its parents, parents first."""

@@ -1,0 +1,9 @@
+pub mod Puts
+pub mod Words
+pub mod Lines
+pub mod Listing
+pub mod Bound
+pub mod Stores
+pub mod Calls
+pub mod Whole
+pub mod Printed
