@@ -93,20 +93,20 @@ module _ (i : Input) (st : State) (e : openWalk i true ≡ opened st) where
     k = suc (l .k);
     done = l .done ++ line;
     puts = puts-then (l .puts) (puts-as p line-is);
-    lines = l .lines ∙ ap (λ (x : List ℕ). l .done ++ x) (lines-at ∙ ap (λ (j : ℕ). line ++ linesOf (calls w j (next w now .state))) left-is) ∙ sym (append-assoc (l .done) line _);
-    parents = l .parents ∙ parents-at ∙ ap (λ (j : ℕ). parentsAfter (calls w j (next w now .state)) (parentsGiven a (m .parents))) left-is
-        ∙ ap (λ (x : List ℕ). parentsAfter (calls w (t .left) (next w now .state)) x) (ap (λ (y : Answer). parentsGiven y (m .parents)) (sym is) ∙ sym b);
+    lines = l .lines ∙ ap (λ (x : List ℕ). l .done ++ x) (lines-at ∙ ap (λ (j : ℕ). line ++ linesOf (calls w j (next w reached .state))) left-is) ∙ sym (append-assoc (l .done) line _);
+    parents = l .parents ∙ parents-at ∙ ap (λ (j : ℕ). parentsAfter (calls w j (next w reached .state)) (parentsGiven a (m .parents))) left-is
+        ∙ ap (λ (x : List ℕ). parentsAfter (calls w (t .left) (next w reached .state)) x) (ap (λ (y : Answer). parentsGiven y (m .parents)) (sym is) ∙ sym b);
     reads = subst (λ (y : Record). Reads y (m′ .memory) (shapeOf i) (stateAfter i (suc (l .k)))) (sym s) d;
   }
     where
       w : Walk
       w = walkOf i
 
-      now : State
-      now = stateAfter i (l .k)
+      reached : State
+      reached = stateAfter i (l .k)
 
       a : Answer
-      a = next w now .answer
+      a = next w reached .answer
 
       line : List ℕ
       line = lineOf (a .kind) (length (a .parents))
@@ -123,11 +123,11 @@ module _ (i : Input) (st : State) (e : openWalk i true ≡ opened st) where
       left-is : cond (isEnd (a .kind)) 0 (left - 1) ≡ t .left
       left-is = sym (f ∙ ap (λ (y : Given). leftAfter (y .outcome) left) (g ∙ ap given is) ∙ left-kind (a .kind) left)
 
-      lines-at : linesOf (calls w left now) ≡ line ++ linesOf (calls w (cond (isEnd (a .kind)) 0 (left - 1)) (next w now .state))
-      lines-at = ap (λ (j : ℕ). linesOf (calls w j now)) some-left ∙ lines-next w (left - 1) now
+      lines-at : linesOf (calls w left reached) ≡ line ++ linesOf (calls w (cond (isEnd (a .kind)) 0 (left - 1)) (next w reached .state))
+      lines-at = ap (λ (j : ℕ). linesOf (calls w j reached)) some-left ∙ lines-next w (left - 1) reached
 
-      parents-at : parentsAfter (calls w left now) (m .parents) ≡ parentsAfter (calls w (cond (isEnd (a .kind)) 0 (left - 1)) (next w now .state)) (parentsGiven a (m .parents))
-      parents-at = ap (λ (j : ℕ). parentsAfter (calls w j now) (m .parents)) some-left ∙ parents-next w (left - 1) now (m .parents)
+      parents-at : parentsAfter (calls w left reached) (m .parents) ≡ parentsAfter (calls w (cond (isEnd (a .kind)) 0 (left - 1)) (next w reached .state)) (parentsGiven a (m .parents))
+      parents-at = ap (λ (j : ℕ). parentsAfter (calls w j reached) (m .parents)) some-left ∙ parents-next w (left - 1) reached (m .parents)
 
   -- no call is left
   listing-end : {n : ℕ} {out₀ b₀ : List ℕ} {left : ℕ} {r : Record} {m : Lent} {out : List ℕ} {at : ℕ} → Listing i n out₀ b₀ left r m out at → left ≡ 0

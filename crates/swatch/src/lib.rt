@@ -13,8 +13,7 @@ use walk::Settings;
 use walk::Sorting;
 ghost use mathlib.Core.Path.{_≡_};
 ghost use mathlib.Core.List.{[]};
-ghost use Prim.Native.Nat.{_-_, _<_};
-ghost use lib.ListN.{length};
+ghost use Prim.Native.Nat.{_-_};
 ghost use Rattle.opening.specs.Checks.{inputOf};
 ghost use Rattle.traverse.specs.Next.{filesLent};
 ghost use Rattle.traverse.specs.Open.{lentOf};
@@ -22,13 +21,13 @@ ghost use Rattle.swatch.specs.Text.{breadthAll, emptyStore, tipsIn, stor
 ghost use Rattle.swatch.specs.Contract.{leftAfter, ListsCall, ListsCalls, ListsStore, Lists};
 
 // The most bytes of the input, and the fewest that `out` has.
-pub const MOST: usize = 65536;
+const MOST: usize = 65536;
 
 // What one call leaves: the record for the next call, the place after its line, and how many calls are left.
-pub struct Turn {
-    pub record: Record,
-    pub at: usize,
-    pub left: usize,
+struct Turn {
+    record: Record,
+    at: usize,
+    left: usize,
 }
 
 // Breadth order, all parents.

@@ -3,7 +3,7 @@ use walk::Answer;
 use walk::Outcome;
 use walk::Refusal;
 ghost use mathlib.Core.Path.{_≡_};
-ghost use mathlib.Core.List.{List, [], _∷_};
+ghost use mathlib.Core.List.{[], _∷_};
 ghost use Prim.Native.Nat.{_+_, _/_, _%_, _<_};
 ghost use Rattle.swatch.specs.Text.{hexDigit, hex, decimal, commitLine, refusalLine, endLine, lineGiven};
 ghost use Rattle.swatch.specs.Contract.{Puts};

@@ -1,4 +1,5 @@
 -- `put::commit` meets its contract: its parts, one behind the other. Assumes nothing.
+use native.Mathlib.Omega.{arith}
 use Rattle.swatch.specs.Text.{commitLine}
 use Rattle.swatch.proofs.Puts.{puts-then}
 use borrow.Author.Needs.{needs}
@@ -22,7 +23,7 @@ same-length c = search needs
 
 returns : tie.Need-returns
 unfolding commitLine
-returns c = λ h. puts-then (c .before .before .before .before .before .before .before .before .before .before .before .before .before .before .hex-id .ensures) (puts-then (c .before .before .before .before .before .before .before .before .before .before .byte .ensures) (puts-then (c .before .before .before .before .before .before .number .ensures h) (c .before .before .byte2 .ensures)))
+returns c = λ h. puts-then (c .before .before .before .before .before .before .before .before .before .before .before .before .before .before .hex-id .ensures) (puts-then (c .before .before .before .before .before .before .before .before .before .before .byte .ensures) (puts-then (c .before .before .before .before .before .before .number .ensures (omega arith)) (c .before .before .byte2 .ensures)))
 
 pub commit-spec : {M : Type 1} → statement M
 commit-spec =
