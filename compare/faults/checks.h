@@ -1,0 +1,376 @@
+/* A part of faults.c: what is checked after every call. */
+
+/* ---- what a walk must keep to while nothing of it is touched */
+
+#define MOST_TURNS 8192u
+
+struct base {
+    const uint8_t *part[INPUTS];
+    size_t n[INPUTS];
+    struct settings settings;
+    size_t places;
+    uint32_t opening;  /* the result of its opening with all the memory */
+    uint64_t *answers; /* each call's answer, made into one number */
+    size_t turns;
+};
+
+struct walk {
+    bool untouched;  /* the memory, the record, the files, the lists and the settings are the walk's own */
+    bool foreign;    /* something else was lent to this call alone */
+    size_t places, turn, handed;
+    uint64_t used;   /* commits handed out or refused */
+    bool ended;
+};
+
+static struct base *bases, *base;
+static size_t base_count;
+static bool referenced;  /* the inputs and the settings are those of the base */
+static bool reference;   /* the base's own walk is being taken down */
+static struct walk walk;
+static uint8_t handed_out[MOST_TURNS][ID];
+static uint64_t taken_down[MOST_TURNS];
+
+static const uint64_t *words(unsigned k)
+{
+    return (const uint64_t *)lent[k].at;
+}
+
+/* An answer as one number: FNV-1a over its fields and the ids in parents. */
+static uint64_t digest(uint32_t result)
+{
+    uint64_t h = 0xCBF29CE484222325u;
+    uint64_t parents = ID * words(NUMBERS)[LINENHATCH_PARENT_IDS];
+    const struct {
+        const void *at;
+        size_t n;
+    } parts[] = {{&result, sizeof result}, {lent[IDENT].at, ID}, {lent[NUMBERS].at, 56}, {lent[SECONDS].at, 8},
+                 {lent[PARENTS].at, parents < lent[PARENTS].bytes ? parents : lent[PARENTS].bytes}};
+    for (size_t k = 0; k < sizeof parts / sizeof *parts; k++)
+        for (size_t j = 0; j < parts[k].n; j++)
+            h = (h ^ ((const uint8_t *)parts[k].at)[j]) * 0x100000001B3u;
+    return h;
+}
+
+static void check_handed(void)
+{
+    for (size_t k = 0; k < walk.handed; k++)
+        if (!memcmp(handed_out[k], lent[IDENT].at, ID))
+            fail("a commit is handed out twice");
+    memcpy(handed_out[walk.handed++], lent[IDENT].at, ID);
+}
+
+/* A call on untouched memory: not 12, the sum, the end by call P + 2 and then again, and where the walk is the base's, its answer. */
+static void check_untouched(uint32_t result)
+{
+    const uint64_t *n = words(NUMBERS);
+    if (result == CLOSED)
+        fail("12 on untouched memory");
+    walk.used += result == 0 || (result != END && n[LINENHATCH_STRUCK] < n[LINENHATCH_ADMITTED]);
+    if (n[LINENHATCH_ADMITTED] != walk.used + n[LINENHATCH_STRUCK] + n[LINENHATCH_WAITING])
+        fail("the numbers do not add up");
+    if ((walk.ended || walk.turn >= walk.places + 1) && result != END)
+        fail("no end: %" PRIu32, result);
+    walk.ended |= result == END;
+    if (walk.turn >= MOST_TURNS)
+        return;
+    if (result == 0)
+        check_handed();
+    if (reference)
+        taken_down[walk.turn] = digest(result);
+    else if (referenced && walk.turn < base->turns && base->answers[walk.turn] != digest(result))
+        fail("another answer than of the same walk before");
+    walk.turn++;
+}
+
+/* ---- checks of every call */
+
+static bool same(unsigned k, size_t from)
+{
+    return from >= lent[k].bytes || !memcmp(lent[k].at + from, lent[k].now + from, lent[k].bytes - from);
+}
+
+static void check_same(unsigned k, size_t from, const char *when)
+{
+    if (!same(k, from))
+        fail("%s is altered %s", lent[k].name, when);
+}
+
+static void check_zeros(unsigned k, size_t n, const char *when)
+{
+    for (size_t j = 0; j < n; j++)
+        if (lent[k].at[j]) {
+            fail("%s is not zeros %s", lent[k].name, when);
+            return;
+        }
+}
+
+static void check_guards(void)
+{
+    static uint8_t guards[PAGE];
+    if (!guards[0])
+        memset(guards, GUARD, PAGE);
+    for (size_t k = 0; k < LENT; k++) {
+        size_t n;
+        const uint8_t *at = beside(&lent[k], &n);
+        if (memcmp(at, guards, n))
+            fail("memory beside %s is altered", lent[k].name);
+    }
+}
+
+/* What holds after any call: nothing beside a buffer is altered, and no input. */
+static void check_around(void)
+{
+    if (!plain) {
+        check_guards();
+        return;
+    }
+    for (size_t k = 0; k < INPUTS; k++)
+        if (input[k].from && memcmp(input[k].at, input[k].from, input[k].n))
+            fail("%s is altered", input[k].name);
+}
+
+static size_t needed(unsigned k, size_t places)
+{
+    switch (k) {
+    case NAMES: return ID * places;
+    case LINE: return 5 * places;
+    case PARENTS: return LINENHATCH_PARENTS;
+    default: return places;
+    }
+}
+
+static bool memory_short(void)
+{
+    if (places_given > MOST_PLACES)
+        return true;
+    for (unsigned k = 0; k < MEMORY; k++)
+        if (lent[k].count < needed(k, places_given))
+            return true;
+    return false;
+}
+
+/* N of a graph file with a good layout: the last number of OIDF. */
+static size_t graph_count(void)
+{
+    const uint8_t *g = input[GRAPH].at;
+    for (size_t k = 0; input[GRAPH].n && k < g[6]; k++)
+        if (!memcmp(g + 8 + 12 * k, "OIDF", 4))
+            return be32(g + be64(g + 8 + 12 * k + 4) + 1020);
+    return 0;
+}
+
+/* Document 01's P, where the graph is none or was found good. */
+static void check_places(uint32_t result)
+{
+    bool good = result == 0 || result == 1 || result == 7 || result == 8;
+    if (input[GRAPH].n && !good)
+        return;
+    size_t asked = input[TIPS].n / ID + input[HIDDEN].n / ID + input[STORE].n / 48 + graph_count();
+    if (places_given != asked)
+        fail("%zu places for %zu", places_given, asked);
+}
+
+/* The result of an opening where it is known beforehand, else ANY. */
+static uint32_t opening_asked(void)
+{
+    if (lent[RECORD].count < 12 || lent[NUMBERS].count < 3)
+        return SHORT;
+    bool ragged = false;
+    for (unsigned k = 0; k < INPUTS; k++) {
+        if (input[k].n > (k <= GRAPH ? MOST_FILE : MOST_LIST))
+            return LINENHATCH_OVERSIZE;
+        ragged |= k > GRAPH && input[k].n % ID;
+    }
+    if (ragged)
+        return LINENHATCH_RAGGED_LIST;
+    if (!referenced || reference)
+        return ANY;
+    bool of_the_input = base->opening >= 2 && base->opening <= 6;
+    return memory_short() && !of_the_input ? SHORT : base->opening;
+}
+
+/* Whether a result of an opening can be. */
+static bool opening_can(uint32_t result)
+{
+    bool timed = settings.sorting == LINENHATCH_NEWEST || settings.sorting == LINENHATCH_OLDEST;
+    switch (result) {
+    case 0: return !memory_short();
+    case 1: return memory_short();
+    case 2:
+    case 3: return opening_asked() == result;
+    case 5:
+    case 6: return input[GRAPH].n > 0;
+    case 7:
+    case 8: return timed && !memory_short();
+    default: return result <= 8;
+    }
+}
+
+static void check_refused_opening(void)
+{
+    for (unsigned k = 0; k < MEMORY; k++)
+        check_same(k, 0, "by a refused opening");
+    check_zeros(RECORD, 96, "after a refused opening");
+    check_zeros(NUMBERS, 24, "after a refused opening");
+}
+
+static void check_accepted_opening(void)
+{
+    const uint64_t *n = words(NUMBERS);
+    check_same(PARENTS, 0, "by an opening");
+    if (words(RECORD)[0] != 1)
+        fail("the record of an accepted opening is closed");
+    if (n[LINENHATCH_STRUCK] || n[LINENHATCH_ADMITTED] != n[LINENHATCH_WAITING])
+        fail("the numbers of an opening do not add up");
+}
+
+static void check_open(uint32_t result)
+{
+    uint32_t asked = opening_asked();
+    check_around();
+    check_same(IDENT, 0, "by an opening");
+    check_same(SECONDS, 0, "by an opening");
+    if (result > 8 || (asked != ANY && result != asked))
+        fail("an opening gives %" PRIu32 " for %" PRIu32, result, asked);
+    if (lent[RECORD].count < 12 || lent[NUMBERS].count < 3) {
+        for (unsigned k = 0; k < LENT; k++)
+            check_same(k, 0, "where there is no room");
+        return;
+    }
+    check_places(result);
+    if (!opening_can(result))
+        fail("an opening cannot give %" PRIu32 " here", result);
+    check_same(RECORD, 96, "past its words");
+    check_same(NUMBERS, 24, "past an opening's");
+    if (result)
+        check_refused_opening();
+    else
+        check_accepted_opening();
+}
+
+/* The numbers, id and seconds of an answer, other than 12. */
+static void check_answer(uint32_t result)
+{
+    const uint64_t *n = words(NUMBERS);
+    uint64_t parents = n[LINENHATCH_PARENT_IDS];
+    if (parents > 256 || ID * parents > lent[PARENTS].bytes) {
+        fail("%" PRIu64 " parents", parents);
+        return;
+    }
+    check_same(PARENTS, ID * parents, "past the ids given");
+    if (((result == END || result == 9) && parents) || (result == 11 && parents && parents != 256))
+        fail("%" PRIu64 " parents beside %" PRIu32, parents, result);
+    if (n[LINENHATCH_HAS_LEVEL] > 1 || n[LINENHATCH_HAS_SECONDS] > 1 || n[LINENHATCH_LEVEL] >> 30)
+        fail("a level or seconds out of bounds");
+    if (n[LINENHATCH_LEVEL] && !n[LINENHATCH_HAS_LEVEL])
+        fail("a level where there is none");
+    if (!n[LINENHATCH_HAS_SECONDS])
+        check_zeros(SECONDS, 8, "where there are none");
+    if (result == 0)
+        return;
+    check_zeros(IDENT, ID, "beside a refusal or an end");
+    check_zeros(SECONDS, 8, "beside a refusal or an end");
+    if (n[LINENHATCH_HAS_LEVEL] || n[LINENHATCH_LEVEL] || n[LINENHATCH_HAS_SECONDS])
+        fail("a level or seconds beside a refusal or an end");
+}
+
+/* A record that is given back holds six yes or no, and a number of 32 bits in its tenth word. */
+static void check_words(void)
+{
+    for (unsigned k = 0; k < 6; k++)
+        if (words(RECORD)[k] > 1)
+            fail("word %u of the record is neither yes nor no", k);
+    if (words(RECORD)[9] >> 32)
+        fail("word 9 of the record is over 32 bits");
+}
+
+static void check_closed(void)
+{
+    for (unsigned k = 0; k <= RECORD; k++)
+        check_same(k, 0, "by 12");
+    check_zeros(IDENT, ID, "beside 12");
+    check_zeros(NUMBERS, 56, "beside 12");
+    check_zeros(SECONDS, 8, "beside 12");
+}
+
+static bool no_room(void)
+{
+    return lent[RECORD].count < 12 || lent[IDENT].count < ID || lent[NUMBERS].count < 7 || lent[SECONDS].count < 1;
+}
+
+static void check_next(uint32_t result)
+{
+    check_around();
+    if (no_room()) {
+        if (result != SHORT)
+            fail("a call without room gives %" PRIu32, result);
+        for (unsigned k = 0; k < LENT; k++)
+            check_same(k, 0, "where there is no room");
+        return;
+    }
+    if (result != 0 && result != END && (result < 9 || result > 12))
+        fail("a call gives %" PRIu32, result);
+    check_same(RECORD, 96, "past its words");
+    check_same(IDENT, ID, "past the id");
+    check_same(NUMBERS, 56, "past a call's");
+    check_same(SECONDS, 8, "past the first");
+    if (((const uint64_t *)lent[RECORD].now)[0] != 1 && result != CLOSED)
+        fail("a closed record gives %" PRIu32, result);
+    if (result == CLOSED) {
+        check_closed();
+    } else {
+        check_words();
+        check_answer(result);
+    }
+    if (walk.untouched && !walk.foreign)
+        check_untouched(result);
+}
+
+/* ---- calls with their checks and counts */
+
+enum { NEXT_RESULTS = 7 };
+static const uint32_t next_result[NEXT_RESULTS] = {0, 9, 10, 11, 12, END, SHORT};
+static uint64_t opened[64][9], called[64][NEXT_RESULTS], cases[64];
+
+/* The number of places for the inputs that are lent. */
+static bool ask_places(void)
+{
+    uint32_t nothing;
+    return guarded(call_places, &nothing);
+}
+
+/* An opening; its result, or ANY where it ended in a signal. */
+static uint32_t open_walk(void)
+{
+    uint32_t result = ANY;
+    call_number++;
+    made++;
+    lend_all();
+    if (guarded(call_open, &result)) {
+        check_open(result);
+        opened[kind][result < 9 ? result : 0]++;
+        if (looked_at())
+            printf("opening %u: %" PRIu32 ", places %zu\n", call_number, result, places_given);
+    }
+    take_back();
+    walk = (struct walk){.untouched = result == 0, .places = places_given};
+    return result;
+}
+
+static uint32_t next(void)
+{
+    uint32_t result = ANY;
+    call_number++;
+    made++;
+    lend_all();
+    if (guarded(call_next, &result)) {
+        check_next(result);
+        for (unsigned k = 0; k < NEXT_RESULTS; k++)
+            called[kind][k] += result == next_result[k];
+        if (looked_at())
+            printf("call %u: %" PRIu32 "%s\n", call_number, result, walk.untouched && !walk.foreign ? "" : ", touched");
+    }
+    take_back();
+    walk.untouched &= !walk.foreign || result == CLOSED || result == SHORT; /* after these the walk is as it was */
+    return result;
+}
