@@ -1,16 +1,14 @@
 // Header lines of one commit (gix_object::CommitRefIter): functions on the commit's bytes and a place, total on every input.
 use date::Seconds;
 
-mod hex;
 pub mod person;
 
-use hex::hex_value;
 ghost use mathlib.Core.Path.{_≡_};
 ghost use mathlib.Core.Option.{none};
 ghost use Prim.Native.Nat.{_+_, _≤_};
 ghost use lib.ListN.{length, drop};
 ghost use Rattle.hash.specs.Bytes.{idBytes};
-ghost use Rattle.object.specs.Header.{isSome, strip, hexBytes, idLine, parentLines, most, authorLine, afterAuthor, secondsOf, header};
+ghost use Rattle.object.specs.Header.{isSome, strip, hexVal, hexBytes, idLine, parentLines, most, authorLine, afterAuthor, secondsOf, header};
 ghost use Rattle.object.specs.Read.{idRead, treeAt, parentAt, afterParents, secondsRead, readingOf};
 
 // A line that was read: the place after its newline.
@@ -60,6 +58,25 @@ pub fn starts_with(body: &[u8], at: usize, word: &[u8]) -> bool
     ensures { λ r. ⌜ r ≡ isSome (strip (now (word .entry)) (drop at (now (body .entry)))) ⌝ }
 {
     hash::same(hash::part(body, at, word.len()), word)
+}
+
+// The value of a hexadecimal digit in lower case; 16 for any other byte.
+fn hex_value(x: u8) -> u8
+    ensures { λ r. ⌜ r ≡ hexVal x ⌝ }
+{
+    if x < 48 {
+        return 16;
+    }
+    if x <= 57 {
+        return x - 48;
+    }
+    if x < 97 {
+        return 16;
+    }
+    if x <= 102 {
+        return x - 87;
+    }
+    16
 }
 
 // The answer where no good line stands.
