@@ -15,26 +15,6 @@ use Rattle.hash.proofs.Tests.{byCases, some-in, no-some}
 use Rattle.object.specs.Header.{hexVal, withByte, hexBytes}
 use Rattle.object.specs.Read.{idRead}
 
-pub hexVal-number : (x : ℕ) → 48 ≤ x → x ≤ 57 → hexVal x ≡ x - 48
-unfolding hexVal
-hexVal-number x l h = rw (le-leb 48 x l, le-leb x 57 h)
-
-pub hexVal-letter : (x : ℕ) → 97 ≤ x → x ≤ 102 → hexVal x ≡ x - 87
-unfolding hexVal
-hexVal-letter x l h = let k : 57 < x = omega arith in let m : 48 ≤ x = omega arith in rw (le-leb 48 x m, lt-leb x 57 k, le-leb 97 x l, le-leb x 102 h)
-
-pub hexVal-below : (x : ℕ) → x < 48 → hexVal x ≡ 16
-unfolding hexVal
-hexVal-below x h = let k : x < 97 = omega arith in rw (lt-leb 48 x h, lt-leb 97 x k)
-
-pub hexVal-between : (x : ℕ) → 57 < x → x < 97 → hexVal x ≡ 16
-unfolding hexVal
-hexVal-between x l h = let k : 48 ≤ x = omega arith in rw (le-leb 48 x k, lt-leb x 57 l, lt-leb 97 x h)
-
-pub hexVal-above : (x : ℕ) → 102 < x → hexVal x ≡ 16
-unfolding hexVal
-hexVal-above x h = let k : 57 < x = omega arith in let l : 48 ≤ x = omega arith in let m : 97 ≤ x = omega arith in rw (le-leb 48 x l, lt-leb x 57 k, le-leb 97 x m, lt-leb x 102 h)
-
 -- bytes that were read before others
 abbrev pub withBytes : Id → Option (Id × List ℕ) → Option (Id × List ℕ)
 withBytes p none = none

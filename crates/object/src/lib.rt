@@ -60,21 +60,18 @@ pub fn starts_with(body: &[u8], at: usize, word: &[u8]) -> bool
     hash::same(hash::part(body, at, word.len()), word)
 }
 
-// The value of a hexadecimal digit in lower case; 16 for any other byte.
+// The value of a hexadecimal digit in lower case; 16 for any other byte. `0` to `9` have their value in the low four bits, `a` to `f` have 9
+// less there; a byte is a digit where it is the digit of that value. (Digits come in no order that a processor could foresee, so the value is
+// computed and not chosen.)
 fn hex_value(x: u8) -> u8
     ensures { λ r. ⌜ r ≡ hexVal x ⌝ }
 {
-    if x < 48 {
-        return 16;
-    }
-    if x <= 57 {
-        return x - 48;
-    }
-    if x < 97 {
-        return 16;
-    }
-    if x <= 102 {
-        return x - 87;
+    let v = x % 16 + 9 * (x / 64);
+    let digit = v + 48 + 39 * ((v + 6) / 16);
+    if digit == x {
+        if v < 16 {
+            return v;
+        }
     }
     16
 }
