@@ -1,4 +1,4 @@
-//! The lister, through the functions of bindings/c/linenhatch.h.
+//! The lister, through the same declarations as the Rust binding has.
 use crate::{
     clock,
     history::{Commit, History, Id, Listed, Sorting, Walk},
@@ -6,86 +6,8 @@ use crate::{
 };
 use std::time::Duration;
 
-unsafe extern "C" {
-    fn linenhatch_places(
-        store: *const u8,
-        store_len: usize,
-        graph: *const u8,
-        graph_len: usize,
-        tips: *const u8,
-        tips_len: usize,
-        hidden: *const u8,
-        hidden_len: usize,
-    ) -> usize;
-
-    fn linenhatch_open(
-        store: *const u8,
-        store_len: usize,
-        graph: *const u8,
-        graph_len: usize,
-        tips: *const u8,
-        tips_len: usize,
-        hidden: *const u8,
-        hidden_len: usize,
-        excluded: *const u8,
-        excluded_len: usize,
-        sorting: u32,
-        has_cutoff: u32,
-        cutoff: i64,
-        first: u32,
-        names: *mut u8,
-        names_len: usize,
-        marks: *mut u8,
-        marks_len: usize,
-        levels: *mut u32,
-        levels_len: usize,
-        times: *mut i64,
-        times_len: usize,
-        line: *mut u32,
-        line_len: usize,
-        parents: *mut u8,
-        parents_len: usize,
-        record: *mut u64,
-        record_len: usize,
-        numbers: *mut u64,
-        numbers_len: usize,
-    ) -> u32;
-
-    fn linenhatch_next(
-        record: *mut u64,
-        record_len: usize,
-        store: *const u8,
-        store_len: usize,
-        graph: *const u8,
-        graph_len: usize,
-        hidden: *const u8,
-        hidden_len: usize,
-        excluded: *const u8,
-        excluded_len: usize,
-        sorting: u32,
-        has_cutoff: u32,
-        cutoff: i64,
-        first: u32,
-        names: *mut u8,
-        names_len: usize,
-        marks: *mut u8,
-        marks_len: usize,
-        levels: *mut u32,
-        levels_len: usize,
-        times: *mut i64,
-        times_len: usize,
-        line: *mut u32,
-        line_len: usize,
-        parents: *mut u8,
-        parents_len: usize,
-        id: *mut u8,
-        id_len: usize,
-        numbers: *mut u64,
-        numbers_len: usize,
-        seconds: *mut i64,
-        seconds_len: usize,
-    ) -> u32;
-}
+#[path = "../../bindings/rust/src/ffi.rs"]
+mod ffi;
 
 /// The results of a call.
 const COMMIT: u32 = 0;
@@ -97,66 +19,41 @@ const HAS_LEVEL: usize = 4;
 const LEVEL: usize = 5;
 const HAS_SECONDS: usize = 6;
 
-/// What a walk is lent: the six buffers, the record, and where a call's answer is set down.
+/// What a walk is lent, its record, and where a call's answer is set down.
 pub struct Memory {
-    names: Vec<u8>,
-    marks: Vec<u8>,
-    levels: Vec<u32>,
-    times: Vec<i64>,
-    line: Vec<u32>,
-    parents: Vec<u8>,
-    record: [u64; 12],
-    id: Id,
-    numbers: [u64; 7],
-    seconds: [i64; 1],
+    lent: ffi::Memory,
+    answer: ffi::Answer,
 }
 
-/// The files, lists and settings of a walk.
+/// The tips, and all else that a walk goes by.
 struct Input<'a> {
-    store: &'a [u8],
-    graph: &'a [u8],
     tips: &'a [u8],
-    hidden: &'a [u8],
-    sorting: u32,
-    has_cutoff: u32,
-    cutoff: i64,
-    first: u32,
+    rest: ffi::Input<'a>,
 }
-
-const EXCLUDED: &[u8] = &[];
 
 impl<'a> Input<'a> {
     fn new(history: &'a History, walk: &Walk) -> Self {
         Input {
-            store: &history.store,
-            graph: if walk.graph { &history.graph } else { &[] },
             tips: &history.tip,
-            hidden: if walk.hides { &history.hidden } else { &[] },
-            sorting: match walk.sorting {
-                Sorting::Breadth => 0,
-                Sorting::Newest => 1,
-                Sorting::Oldest => 2,
+            rest: ffi::Input {
+                store: &history.store,
+                graph: if walk.graph { &history.graph } else { &[] },
+                hidden: if walk.hides { history.hidden.to_vec() } else { Vec::new() },
+                excluded: Vec::new(),
+                sorting: match walk.sorting {
+                    Sorting::Breadth => 0,
+                    Sorting::Newest => 1,
+                    Sorting::Oldest => 2,
+                },
+                has_cutoff: u32::from(walk.cutoff),
+                cutoff: history.cutoff,
+                first: u32::from(walk.first),
             },
-            has_cutoff: u32::from(walk.cutoff),
-            cutoff: history.cutoff,
-            first: u32::from(walk.first),
         }
     }
 
     fn places(&self) -> usize {
-        // SAFETY: each pointer and length is a slice's, and all are only read.
-        unsafe {
-            linenhatch_places(
-                self.store.as_ptr(),
-                self.store.len(),
-                self.graph.as_ptr(),
-                self.graph.len(),
-                self.tips.as_ptr(),
-                self.tips.len(),
-                self.hidden.as_ptr(),
-                self.hidden.len(),
-            )
-        }
+        ffi::places(&self.rest, self.tips)
     }
 }
 
@@ -172,105 +69,35 @@ impl Memory {
 
     fn with(places: usize) -> Self {
         Memory {
-            names: vec![0; 20 * places],
-            marks: vec![0; places],
-            levels: vec![0; places],
-            times: vec![0; places],
-            line: vec![0; 5 * places],
-            parents: vec![0; 5_120],
-            record: [0; 12],
-            id: [0; 20],
-            numbers: [0; 7],
-            seconds: [0; 1],
+            lent: ffi::Memory {
+                names: vec![0; 20 * places],
+                marks: vec![0; places],
+                levels: vec![0; places],
+                times: vec![0; places],
+                line: vec![0; 5 * places],
+                parents: vec![0; 5_120],
+                record: [0; ffi::RECORD],
+            },
+            answer: ffi::Answer { id: [0; 20], numbers: [0; ffi::CALL_NUMBERS], seconds: [0; 1] },
         }
     }
 
     fn open(&mut self, input: &Input) {
-        // SAFETY: each pointer and length is a slice's; those that are written are vectors or arrays of their own.
-        let result = unsafe {
-            linenhatch_open(
-                input.store.as_ptr(),
-                input.store.len(),
-                input.graph.as_ptr(),
-                input.graph.len(),
-                input.tips.as_ptr(),
-                input.tips.len(),
-                input.hidden.as_ptr(),
-                input.hidden.len(),
-                EXCLUDED.as_ptr(),
-                EXCLUDED.len(),
-                input.sorting,
-                input.has_cutoff,
-                input.cutoff,
-                input.first,
-                self.names.as_mut_ptr(),
-                self.names.len(),
-                self.marks.as_mut_ptr(),
-                self.marks.len(),
-                self.levels.as_mut_ptr(),
-                self.levels.len(),
-                self.times.as_mut_ptr(),
-                self.times.len(),
-                self.line.as_mut_ptr(),
-                self.line.len(),
-                self.parents.as_mut_ptr(),
-                self.parents.len(),
-                self.record.as_mut_ptr(),
-                self.record.len(),
-                self.numbers.as_mut_ptr(),
-                self.numbers.len(),
-            )
-        };
+        let result = ffi::open(&input.rest, input.tips, &mut self.lent, &mut [0; ffi::OPEN_NUMBERS]);
         assert!(result == 0, "an opening is refused: {result}");
     }
 
     /// Whether a commit was handed out.
     #[inline]
     fn next(&mut self, input: &Input) -> bool {
-        // SAFETY: as above.
-        let result = unsafe {
-            linenhatch_next(
-                self.record.as_mut_ptr(),
-                self.record.len(),
-                input.store.as_ptr(),
-                input.store.len(),
-                input.graph.as_ptr(),
-                input.graph.len(),
-                input.hidden.as_ptr(),
-                input.hidden.len(),
-                EXCLUDED.as_ptr(),
-                EXCLUDED.len(),
-                input.sorting,
-                input.has_cutoff,
-                input.cutoff,
-                input.first,
-                self.names.as_mut_ptr(),
-                self.names.len(),
-                self.marks.as_mut_ptr(),
-                self.marks.len(),
-                self.levels.as_mut_ptr(),
-                self.levels.len(),
-                self.times.as_mut_ptr(),
-                self.times.len(),
-                self.line.as_mut_ptr(),
-                self.line.len(),
-                self.parents.as_mut_ptr(),
-                self.parents.len(),
-                self.id.as_mut_ptr(),
-                self.id.len(),
-                self.numbers.as_mut_ptr(),
-                self.numbers.len(),
-                self.seconds.as_mut_ptr(),
-                self.seconds.len(),
-            )
-        };
+        let result = ffi::next(&input.rest, &mut self.lent, &mut self.answer);
         assert!(result == COMMIT || result == END, "a call is refused: {result}");
         result == COMMIT
     }
 
     #[inline]
     fn parents(&self) -> impl Iterator<Item = &Id> {
-        let ids = self.parents[..20 * self.numbers[PARENTS] as usize].chunks_exact(20);
+        let ids = self.lent.parents[..20 * self.answer.numbers[PARENTS] as usize].chunks_exact(20);
         ids.map(|id| id.try_into().expect("20 bytes"))
     }
 
@@ -278,7 +105,7 @@ impl Memory {
         let mut listed = Listed::default();
         while self.next(input) {
             listed.commits += 1;
-            listed.id(&self.id);
+            listed.id(&self.answer.id);
             self.parents().for_each(|id| listed.id(id));
         }
         listed
@@ -291,10 +118,10 @@ impl Memory {
         let mut commits = Vec::new();
         while self.next(&input) {
             commits.push(Commit {
-                id: self.id,
+                id: self.answer.id,
                 parents: self.parents().copied().collect(),
-                generation: (self.numbers[HAS_LEVEL] == 1).then_some(self.numbers[LEVEL] as u32),
-                seconds: (self.numbers[HAS_SECONDS] == 1).then_some(self.seconds[0]),
+                generation: (self.answer.numbers[HAS_LEVEL] == 1).then_some(self.answer.numbers[LEVEL] as u32),
+                seconds: (self.answer.numbers[HAS_SECONDS] == 1).then_some(self.answer.seconds[0]),
             });
         }
         commits

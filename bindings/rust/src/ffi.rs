@@ -46,7 +46,7 @@ pub(crate) struct Answer {
     pub seconds: [i64; 1],
 }
 
-extern "C" {
+unsafe extern "C" {
     fn linenhatch_places(
         store: *const u8,
         store_len: usize,
