@@ -21,6 +21,7 @@ use Rattle.commitgraph.specs.declared.rows.Position.the-variants.{At, Ab
 use Rattle.commitgraph.specs.Graph.{graphOk, graphIds, graphId, graphCount, graphFind, fanAt, layoutOf, positionOf, idIn, idsBelow, Looks}
 use Rattle.commitgraph.proofs.Fan.{fan-counts, count-le}
 use Rattle.commitgraph.proofs.LayoutRight.{right, in-fan}
+use Rattle.commitgraph.proofs.RowsPlace.{id-own}
 
 -- the fan-out's entry before byte i
 pub below-zero : (g : List ℕ) (l : Layout) (i : ℕ) → i ≡ 0 → idsBelow g l i ≡ 0
@@ -134,3 +135,14 @@ found-own g x p e = find-hit (graphIds g) x (graphCount g) p e
 pub find-own : (g : List ℕ) (p : ℕ) → graphOk g ≡ true → p < graphCount g → graphFind g (graphId g p) ≡ some p
 unfolding graphFind graphId
 find-own g p ok h = find-at (graphIds g) (idOf (graphIds g) p) (graphCount g) p (right g ok .idsRise) h refl
+
+-- so a position that has the id is the answer of a lookup
+pub looks-at : (g : List ℕ) (l : Layout) (x : Id) (p : ℕ) → p < l .count → idIn g l p ≡ x → Looks g l x (At p)
+unfolding layoutOf
+looks-at g l x p h here = record {
+  right = λ ok own.
+      let n : p < graphCount g = subst (λ (m : Layout). p < m .count) own h in
+      let own-id : graphId g p ≡ x = sym (id-own g l p own) ∙ here in
+      ap positionOf (sym (rw own-id at (find-own g p ok n)));
+  hit = λ q e. let z : p ≡ q = cc in subst (λ (k : ℕ). (k < l .count) × (idIn g l k ≡ x)) z (h, here);
+}

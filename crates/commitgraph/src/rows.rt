@@ -100,3 +100,15 @@ pub fn lookup(graph: &[u8], l: Layout, id: &[u8]) -> Position
         Found::Absent => Position::Absent,
     }
 }
+
+// The position of an id that may stand at position near: that position is looked at first.
+pub fn lookup_near(graph: &[u8], l: Layout, id: &[u8], near: usize) -> Position
+    ensures { λ r. ⌜ Looks (now (graph .entry)) l (now (id .entry)) r ⌝ }
+{
+    if near < l.count {
+        if hash::same(id_at(graph, l, near), id) {
+            return Position::At(near);
+        }
+    }
+    lookup(graph, l, id)
+}
