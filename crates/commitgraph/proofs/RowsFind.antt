@@ -71,14 +71,33 @@ module _ (g : List ℕ) (x : Id) (b : ℕ) (first : b ≡ getD x 0 0) (small : b
       let h : idsBelow g (layoutOf g) (b + 1) ≤ graphCount g = rw (below-own g b) (fan-within g b ok small) in
       found-in (graphCount g) (at-width idBytes size f) (ids-stand g (idsBelow g (layoutOf g) (b + 1)) ok h) h (right g ok .idsRise) inside
 
+-- ---- positions and ids
+
+-- what is found is below N and has the id
+pub found-own : (g : List ℕ) (x : Id) (p : ℕ) → graphFind g x ≡ some p → (p < graphCount g) × (graphId g p ≡ x)
+unfolding graphFind graphId
+found-own g x p e = find-hit (graphIds g) x (graphCount g) p e
+
+-- in a right file the id at a position is found there
+pub find-own : (g : List ℕ) (p : ℕ) → graphOk g ≡ true → p < graphCount g → graphFind g (graphId g p) ≡ some p
+unfolding graphFind graphId
+find-own g p ok h = find-at (graphIds g) (idOf (graphIds g) p) (graphCount g) p (right g ok .idsRise) h refl
+
+-- so a position that has the id is the answer of a lookup
+pub looks-at : (g : List ℕ) (l : Layout) (x : Id) (p : ℕ) → p < l .count → idIn g l p ≡ x → Looks g l x (At p)
+unfolding layoutOf
+looks-at g l x p h here = record {
+  right = λ ok own.
+      let n : p < graphCount g = subst (λ (m : Layout). p < m .count) own h in
+      let own-id : graphId g p ≡ x = sym (id-own g l p own) ∙ here in
+      ap positionOf (sym (rw own-id at (find-own g p ok n)));
+  hit = λ q e. let z : p ≡ q = cc in subst (λ (k : ℕ). (k < l .count) × (idIn g l k ≡ x)) z (h, here);
+}
+
 -- ---- the answers
 
 no-hit : {X : Type 0} (p : ℕ) → Absent ≡ At p → X
 no-hit p e = let z : _≡_ {A = ℕ} 0 1 = cc in absurd (omega arith)
-
-hit-position : (p : ℕ) (o : Option ℕ) → Hit p ≡ foundOf o → At p ≡ positionOf o
-hit-position p none e = let z : _≡_ {A = ℕ} 0 1 = cc in absurd (omega arith)
-hit-position p (some k) e = let q : p ≡ k = cc in ap At q
 
 miss-position : (o : Option ℕ) → Miss ≡ foundOf o → Absent ≡ positionOf o
 miss-position none e = refl
@@ -106,12 +125,7 @@ module _ (g : List ℕ) (l : Layout) (x : Id) (b : ℕ) (first : b ≡ getD x 0 
   module _ (size : length x ≡ idBytes) where
     pub looks-hit : (p : ℕ) → idsBelow g l (b + 1) ≤ l .count → Search g l b x (Hit p) → Looks g l x (At p)
     unfolding idIn idOf
-    looks-hit p h f =
-        let here = at-width idBytes size f .hit p refl in
-        record {
-          right = λ ok e. hit-position p (graphFind g x) (searched g x b first small ok size (subst (λ (l′ : Layout). Search g l′ b x (Hit p)) e f));
-          hit = λ q e. let z : p ≡ q = cc in subst (λ (k : ℕ). (k < l .count) × (idIn g l k ≡ x)) z (omega (arith, here .1), here .2);
-        }
+    looks-hit p h f = let here = at-width idBytes size f .hit p refl in looks-at g l x p (omega (arith, here .1)) (here .2)
 
     pub looks-miss : Search g l b x Miss → Looks g l x Absent
     looks-miss f = record {
@@ -123,26 +137,3 @@ module _ (g : List ℕ) (l : Layout) (x : Id) (b : ℕ) (first : b ≡ getD x 0 
 pub looks-none : {g : List ℕ} {l : Layout} {x : Id} (r : Position) → Looks g l x r → l .count ≡ 0 → r ≡ Absent
 looks-none (At p) f z = let h = f .hit p refl .0 in absurd (omega arith)
 looks-none Absent f z = refl
-
--- ---- positions and ids
-
--- what is found is below N and has the id
-pub found-own : (g : List ℕ) (x : Id) (p : ℕ) → graphFind g x ≡ some p → (p < graphCount g) × (graphId g p ≡ x)
-unfolding graphFind graphId
-found-own g x p e = find-hit (graphIds g) x (graphCount g) p e
-
--- in a right file the id at a position is found there
-pub find-own : (g : List ℕ) (p : ℕ) → graphOk g ≡ true → p < graphCount g → graphFind g (graphId g p) ≡ some p
-unfolding graphFind graphId
-find-own g p ok h = find-at (graphIds g) (idOf (graphIds g) p) (graphCount g) p (right g ok .idsRise) h refl
-
--- so a position that has the id is the answer of a lookup
-pub looks-at : (g : List ℕ) (l : Layout) (x : Id) (p : ℕ) → p < l .count → idIn g l p ≡ x → Looks g l x (At p)
-unfolding layoutOf
-looks-at g l x p h here = record {
-  right = λ ok own.
-      let n : p < graphCount g = subst (λ (m : Layout). p < m .count) own h in
-      let own-id : graphId g p ≡ x = sym (id-own g l p own) ∙ here in
-      ap positionOf (sym (rw own-id at (find-own g p ok n)));
-  hit = λ q e. let z : p ≡ q = cc in subst (λ (k : ℕ). (k < l .count) × (idIn g l k ≡ x)) z (h, here);
-}
