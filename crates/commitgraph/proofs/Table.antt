@@ -10,8 +10,8 @@ use Prim.Native.Nat.{ℕ, zero, suc, _+_, _-_, _*_, _≤_, _<_}
 use native.Mathlib.Omega.{arith}
 use native.Mathlib.Numerals.{add-one}
 use lib.ListN.{length}
-use lib.Dec.{eqb, leb}
-use borrow.Author.Tests.{leb-true, eqb-true, eqb-false, le-leb, eq-eqb, ne-eqb}
+use lib.Dec.{eqb, ltb, leb}
+use borrow.Author.Tests.{leb-true, eqb-true, eqb-false, le-leb, lt-ltb, le-ltb, eq-eqb, ne-eqb}
 use Rattle.hash.specs.Bytes.{u32At, ifSome}
 use Rattle.hash.proofs.Tests.{byCases, clash, not-yes, and-first, and-second, guard-test, guarded}
 use Rattle.commitgraph.specs.Graph.{chunkCount, chunkId, chunkOffset, offsetsRise, chunksOf, chunkIn, chunkStart, chunkSize, OIDF, OIDL, CDAT, EDGE, tableOk, fanAt, graphCount}
@@ -60,18 +60,25 @@ first-below g c (suc n) k e = go (chunkIn g c n) refl (λ e′. first-below g c 
     go none p rec false h = let z : _≡_ {A = ℕ} 0 1 = cc in absurd (omega arith)
     go (some j) p rec b h = let z : k < n = rec (p ∙ h) in omega arith
 
--- where it stands
-pub found : (g : List ℕ) (c j : ℕ) → j < chunkCount g → chunkIn g c j ≡ none → chunkId g j ≡ c
-    → (chunkOffset g j ≡ chunkStart g c) × (chunkOffset g (suc j) - chunkOffset g j ≡ chunkSize g c)
-unfolding chunkStart chunkSize
-found g c j l n e =
-    let z : suc j + (chunkCount g - suc j) ≡ chunkCount g = omega arith in
-    let f : chunkIn g c (chunkCount g) ≡ some j = rw z at (first-stays g c (suc j) (chunkCount g - suc j) j (first-here g c j n e)) in
-    (rw f, rw f)
+-- it is row j of n
+pub first-of : (g : List ℕ) (c j n : ℕ) → j < n → chunkIn g c j ≡ none → chunkId g j ≡ c → chunkIn g c n ≡ cond (ltb j n) (some j) none
+first-of g c j n h e q =
+    let z : suc j + (n - suc j) ≡ n = omega arith in
+    rw (lt-ltb j n h) (rw z at (first-stays g c (suc j) (n - suc j) j (first-here g c j e q)))
 
-pub absent : (g : List ℕ) (c : ℕ) → chunkIn g c (chunkCount g) ≡ none → (0 ≡ chunkStart g c) × (0 ≡ chunkSize g c)
-unfolding chunkStart chunkSize
-absent g c n = (rw n, rw n)
+-- none of n rows is one
+pub none-of : (g : List ℕ) (c n : ℕ) → chunkIn g c n ≡ none → chunkIn g c n ≡ cond (ltb n n) (some n) none
+none-of g c n e = rw (le-ltb n n (omega arith)) e
+
+-- where it stands
+module _ (g : List ℕ) (c n j : ℕ) (all : n ≡ chunkCount g) (first : chunkIn g c n ≡ cond (ltb j n) (some j) none) where
+  pub found : j < n → (chunkOffset g j ≡ chunkStart g c) × (chunkOffset g (suc j) - chunkOffset g j ≡ chunkSize g c)
+  unfolding chunkStart chunkSize
+  found h = let f : chunkIn g c (chunkCount g) ≡ some j = rw (lt-ltb j n h, all) at first in (rw f, rw f)
+
+  pub absent : n ≤ j → (0 ≡ chunkStart g c) × (0 ≡ chunkSize g c)
+  unfolding chunkStart chunkSize
+  absent h = let f : chunkIn g c (chunkCount g) ≡ none = rw (le-ltb j n h, all) at first in (rw f, rw f)
 
 -- ---- how many chunks have an id
 

@@ -3,12 +3,13 @@ use crate::Layout;
 use hash::Order;
 ghost use mathlib.Core.Path.{_≡_};
 ghost use mathlib.Core.Bool.{true, false, _&&_, cond};
+ghost use mathlib.Core.Option.{none, some};
 ghost use Prim.Native.Nat.{ℕ, suc, _+_, _-_, _*_, _%_, _<_, _≤_};
 ghost use lib.ListN.{length};
 ghost use lib.Dec.{eqb, ltb, leb};
 ghost use Rattle.hash.specs.Bytes.{u32At};
 ghost use Rattle.idlist.specs.IdList.{rising, risesAt};
-ghost use Rattle.commitgraph.specs.Graph.{graphHead, chunkCount, chunkId, chunkOffset, offsetsRise, chunksOf, chunkStart, chunkSize, OIDF, OIDL, CDAT, EDGE, tableOk, fanAt, graphCount, graphIds, firstByte, fanOk, graphOk, layoutOf};
+ghost use Rattle.commitgraph.specs.Graph.{graphHead, chunkCount, chunkId, chunkOffset, offsetsRise, chunksOf, chunkIn, chunkStart, chunkSize, OIDF, OIDL, CDAT, EDGE, tableOk, fanAt, graphCount, graphIds, firstByte, fanOk, graphOk, layoutOf};
 
 // The ids of the chunks that are read.
 const FAN_OUT: u32 = 0x4f494446;
@@ -93,20 +94,44 @@ fn row_size(graph: &[u8], i: usize) -> usize
     end - start
 }
 
+// The first row with an id among the first count rows; count where none has it.
+fn find_row(graph: &[u8], id: u32, count: usize) -> usize
+    requires { ⌜ count < 256 ⌝ }
+    ensures { λ r. ⌜ chunkIn (now (graph .entry)) id count ≡ cond (ltb r count) (some r) none ⌝ }
+{
+    let mut i = 0;
+    while i < count {
+        if row_id(graph, i) == id {
+            return i;
+        }
+        i += 1;
+    }
+    count
+}
+
+// Where the first of the count chunks with an id starts; 0 where there is none.
+fn find_start(graph: &[u8], id: u32, count: usize) -> usize
+    requires { ⌜ (count ≡ chunkCount (now graph)) × (count < 256) ⌝ }
+    ensures { λ r. ⌜ r ≡ chunkStart (now (graph .entry)) id ⌝ }
+{
+    let i = find_row(graph, id, count);
+    if i < count {
+        return row_offset(graph, i);
+    }
+    0
+}
+
 // Where the first chunk with an id stands; zeros where there is none.
 fn find_chunk(graph: &[u8], id: u32) -> Chunk
     ensures { λ r. ⌜ (r .start ≡ chunkStart (now (graph .entry)) id) × (r .size ≡ chunkSize (now (graph .entry)) id) ⌝ }
 {
     let count = chunk_count(graph);
-    let mut i = 0;
-    while i < count {
-        if row_id(graph, i) == id {
-            return Chunk {
-                start: row_offset(graph, i),
-                size: row_size(graph, i),
-            };
-        }
-        i += 1;
+    let i = find_row(graph, id, count);
+    if i < count {
+        return Chunk {
+            start: row_offset(graph, i),
+            size: row_size(graph, i),
+        };
     }
     Chunk { start: 0, size: 0 }
 }
@@ -128,15 +153,16 @@ fn last_entry(graph: &[u8], fan: usize) -> usize
 pub fn parse(graph: &[u8]) -> Layout
     ensures { λ r. ⌜ r ≡ layoutOf (now (graph .entry)) ⌝ }
 {
-    let fan = find_chunk(graph, FAN_OUT);
-    let ids = find_chunk(graph, OBJECT_IDS);
-    let rows = find_chunk(graph, COMMIT_DATA);
+    let chunks = chunk_count(graph);
+    let fan = find_start(graph, FAN_OUT, chunks);
+    let ids = find_start(graph, OBJECT_IDS, chunks);
+    let rows = find_start(graph, COMMIT_DATA, chunks);
     let edge = find_chunk(graph, EXTRA_EDGES);
-    let count = last_entry(graph, fan.start);
+    let count = last_entry(graph, fan);
     Layout {
-        fan: fan.start,
-        ids: ids.start,
-        rows: rows.start,
+        fan,
+        ids,
+        rows,
         edge: edge.start,
         edges: edge.size / 4,
         count: count,

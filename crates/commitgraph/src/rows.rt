@@ -95,7 +95,17 @@ pub fn lookup(graph: &[u8], l: Layout, id: &[u8]) -> Position
     if l.count < hi {
         return Position::Absent;
     }
-    match idlist::find(graph, l.ids, hash::ID_BYTES, lo, hi, id) {
+    let low = (b as u32) * 16777216;
+    match idlist::find_between(
+        graph,
+        l.ids,
+        hash::ID_BYTES,
+        lo,
+        hi,
+        low,
+        low + 16777215,
+        id,
+    ) {
         Found::At(p) => Position::At(p),
         Found::Absent => Position::Absent,
     }

@@ -1,23 +1,26 @@
--- `chunks::parse` meets its contract, field by field: what `find_chunk` and `last_entry` ensure. Assumes nothing.
+-- `chunks::parse` meets its contract, field by field: what `find_start`, `find_chunk` and `last_entry` ensure. Assumes nothing.
+use borrow.Author.Needs.{needs}
 use mathlib.Core.Path.{ap, _∙_}
 use Prim.Native.Nat.{ℕ, _/_}
 use Rattle.commitgraph.specs.Graph.{layoutOf}
 use Rattle.commitgraph.proofs.Table.{count-at}
-use borrow.Author.Needs.{needs}
 use Rattle.commitgraph.proofs.chunks.parse.Statement.{statement}
 use Rattle.commitgraph.proofs.chunks.parse.Tie as tie
 
+chunk-count-requires : tie.Need-chunk-count-requires
+chunk-count-requires c κs = search needs
+
+find-start-requires : tie.Need-find-start-requires
+find-start-requires c κs = search needs
+
+find-start-requires-2 : tie.Need-find-start-requires-2
+find-start-requires-2 c κs = search needs
+
+find-start-requires-3 : tie.Need-find-start-requires-3
+find-start-requires-3 c κs = search needs
+
 find-chunk-requires : tie.Need-find-chunk-requires
 find-chunk-requires c κs = search needs
-
-find-chunk-requires-2 : tie.Need-find-chunk-requires-2
-find-chunk-requires-2 c κs = search needs
-
-find-chunk-requires-3 : tie.Need-find-chunk-requires-3
-find-chunk-requires-3 c κs = search needs
-
-find-chunk-requires-4 : tie.Need-find-chunk-requires-4
-find-chunk-requires-4 c κs = search needs
 
 last-entry-requires : tie.Need-last-entry-requires
 last-entry-requires c κs = search needs
@@ -25,22 +28,25 @@ last-entry-requires c κs = search needs
 returns : tie.Need-returns
 unfolding layoutOf
 returns c =
+    let e = c .before .before in
+    let f = e .before .before .before in
     λ j. record {
-      fan = (c .before .before .before .before .before .find-chunk .ensures .0) j;
-      ids = (c .before .before .before .before .find-chunk2 .ensures .0) j;
-      rows = (c .before .before .before .find-chunk3 .ensures .0) j;
-      edge = (c .before .before .find-chunk4 .ensures .0) j;
-      edges = (ap (λ (n : ℕ). n / 4) (c .before .before .find-chunk4 .ensures .1)) j;
-      count = (c .before .last-entry .ensures .0 ∙ count-at (c .before .before .before .before .before .before .before .args .graph .now) _ (c .before .before .before .before .before .find-chunk .ensures .0)) j;
+      fan = (f .find-start .ensures) j;
+      ids = (e .before .before .find-start2 .ensures) j;
+      rows = (e .before .find-start3 .ensures) j;
+      edge = (e .find-chunk .ensures .0) j;
+      edges = (ap (λ (n : ℕ). n / 4) (e .find-chunk .ensures .1)) j;
+      count = (c .before .last-entry .ensures .0 ∙ count-at (f .before .before .before .args .graph .now) _ (f .find-start .ensures)) j;
     }
 
 pub parse-spec : {M : Type 1} → statement M
 parse-spec =
     tie.close
     (tie.spec
+    chunk-count-requires
+    find-start-requires
+    find-start-requires-2
+    find-start-requires-3
     find-chunk-requires
-    find-chunk-requires-2
-    find-chunk-requires-3
-    find-chunk-requires-4
     last-entry-requires
     returns)

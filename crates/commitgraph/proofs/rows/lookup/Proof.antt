@@ -32,8 +32,17 @@ returns-2 c =
     let b = h .before .before .first-byte .ensures in
     looks-over g (x .l) id (h .before .before .first-byte .result) (b .0) (b .1) (omega (arith, h .ids-below2 .ensures))
 
-find-requires : tie.Need-find-requires
-find-requires c κs = search needs
+cast-low : tie.Need-cast-low
+cast-low c = search needs
+
+mul-low : tie.Need-mul-low
+mul-low c = search needs
+
+add-find-between : tie.Need-add-find-between
+add-find-between c = search needs
+
+find-between-requires : tie.Need-find-between-requires
+find-between-requires c κs = search needs
 
 enum-known-p : tie.Need-enum-known-p
 enum-known-p c = search needs
@@ -50,7 +59,7 @@ returns-3 c =
     let b = h .before .before .first-byte .ensures in
     looks-hit g (x .l) id (h .before .before .first-byte .result) (b .0) (b .1) (h .before .before .before .if1 .left) (c .before .p .given .0 .0)
     (omega (arith, h .ids-below2 .ensures))
-    (search-of g (x .l) (h .before .before .first-byte .result) id (c .before .before .before .find .ensures) (h .before .ids-below .ensures) (h .ids-below2 .ensures) (c .before .p .given .1))
+    (search-of g (x .l) (h .before .before .first-byte .result) id (c .before .before .before .find-between .ensures) (h .before .ids-below .ensures) (h .ids-below2 .ensures) (c .before .p .given .1))
 
 returns-4 : tie.Need-returns-4
 returns-4 c =
@@ -60,7 +69,7 @@ returns-4 c =
     let id = x .id .now in
     let b = h .before .before .first-byte .ensures in
     looks-miss g (x .l) id (h .before .before .first-byte .result) (b .0) (b .1) (h .before .before .before .if1 .left)
-    (search-of g (x .l) (h .before .before .first-byte .result) id (c .before .before .find .ensures) (h .before .ids-below .ensures) (h .ids-below2 .ensures) (c .enum-told .given .1))
+    (search-of g (x .l) (h .before .before .first-byte .result) id (c .before .before .find-between .ensures) (h .before .ids-below .ensures) (h .ids-below2 .ensures) (c .enum-told .given .1))
 
 pub lookup-spec : {M : Type 1} → statement M
 lookup-spec =
@@ -72,7 +81,10 @@ lookup-spec =
     add-ids-below
     ids-below-requires-2
     returns-2
-    find-requires
+    cast-low
+    mul-low
+    add-find-between
+    find-between-requires
     enum-known-p
     enum-told
     returns-3
