@@ -1,7 +1,7 @@
 // Object ids (gix_hash): bytes in a slice, compared, found at a place and set down; big-endian numbers at a place.
 // The functions on whole slices hold for ids of any width. Every function is total.
 ghost use mathlib.Core.Path.{_≡_};
-ghost use Prim.Native.Nat.{_+_, _*_, _<_};
+ghost use Prim.Native.Nat.{_+_, _*_, _<_, _≤_};
 ghost use lib.ListN.{length, getD};
 ghost use Rattle.hash.specs.Bytes.{eqId, compareId, at, u32At, u64At, setDown, idBytes};
 
@@ -145,13 +145,21 @@ fn word(a: u8, b: u8, c: u8, d: u8) -> u32
     wide(a) * 16777216 + wide(b) * 65536 + wide(c) * 256 + wide(d)
 }
 
+// The big-endian u32 at place i, all of which stands in s.
+fn word_at(s: &[u8], i: usize) -> u32
+    requires { ⌜ i + 4 ≤ length (now s) ⌝ }
+    ensures { λ r. ⌜ r ≡ u32At (now (s .entry)) i ⌝ }
+{
+    word(s[i], s[i + 1], s[i + 2], s[i + 3])
+}
+
 // The big-endian u32 at place i, a byte past the end counting as 0.
 pub fn be32(s: &[u8], i: usize) -> u32
     ensures { λ r. ⌜ r ≡ u32At (now (s .entry)) i ⌝ }
 {
     if i < s.len() {
         if 4 <= s.len() - i {
-            return word(s[i], s[i + 1], s[i + 2], s[i + 3]);
+            return word_at(s, i);
         }
     }
     word(
@@ -170,6 +178,18 @@ fn long(x: u32) -> u64
 
 // The big-endian u64 at place i, a byte past the end counting as 0.
 pub fn be64(s: &[u8], i: usize) -> u64
+    ensures { λ r. ⌜ r ≡ u64At (now (s .entry)) i ⌝ }
+{
+    if i < s.len() {
+        if 8 <= s.len() - i {
+            return long(word_at(s, i)) * 4294967296 + long(word_at(s, i + 4));
+        }
+    }
+    be64_at_end(s, i)
+}
+
+// The same, read where s ends before eight bytes: the low word only where a byte of it stands.
+fn be64_at_end(s: &[u8], i: usize) -> u64
     ensures { λ r. ⌜ r ≡ u64At (now (s .entry)) i ⌝ }
 {
     let high = long(be32(s, i));
