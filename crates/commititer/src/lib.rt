@@ -125,8 +125,7 @@ pub fn after_token(data: &[u8], at: usize) -> usize
             Line::Bad => no_more(data, 0),
         };
     }
-    let line = object::parent_line(data, at);
-    if line.good {
+    if object::is_parent_line(data, at) {
         return at + PARENT_LINE;
     }
     match person::author_line(data, at) {

@@ -21,7 +21,7 @@ use Rattle.object.specs.declared.SecondsRead.{SecondsRead}
 use Rattle.object.specs.declared.SecondsRead.the-variants.{Good as GoodSeconds, Bad as BadSeconds}
 use Rattle.object.specs.declared.Reading.the-variants.{Readable, Bad, Crowded}
 use Rattle.date.specs.declared.Seconds.{Seconds}
-use Rattle.object.proofs.Lines.{idLine-some}
+use Rattle.object.proofs.Lines.{idLine-some, good-is}
 use Rattle.object.proofs.PersonLines.{author-next, author-bad}
 use Rattle.object.proofs.Parents.{Run, parents-run, skip-run, after-parents}
 
@@ -135,36 +135,30 @@ module _ (b : List ℕ) (g : header b .tree ≡ true) where
   -- after the last there is another good one only where they are too many
   pub parent-last : parentAt b (46 + 48 * length (header b .ids)) .good ≡ header b .crowded
   unfolding parentAt
-  parent-last = go (idLine parentWord (drop (46 + 48 * length (header b .ids)) b)) ∙ sym (header-lines b g .next)
-    where
-      go : (o : Option (Id × List ℕ)) → idRead o .good ≡ isSome o
-      go none = refl
-      go (some t) = refl
+  parent-last = good-is (idLine parentWord (drop (46 + 48 * length (header b .ids)) b)) ∙ sym (header-lines b g .next)
 
-  -- a reading r of the parent line after k parents: the next id, or that there are no more, or that there are too many
-  module _ (k : ℕ) (within : k ≤ length (header b .ids)) {r : ParentLine} (read : r ≡ parentAt b (46 + 48 * k)) where
-    at-last : k ≡ length (header b .ids) → r .good ≡ header b .crowded
-    at-last m = ap (λ (q : ParentLine). q .good) (read ∙ ap (λ (i : ℕ). parentAt b (46 + 48 * i)) m) ∙ parent-last
+  -- the test r of the parent line after k parents: there is a next one, or there are no more, or there are too many
+  module _ (k : ℕ) (within : k ≤ length (header b .ids)) {r : Bool} (read : r ≡ parentAt b (46 + 48 * k) .good) where
+    at-last : k ≡ length (header b .ids) → r ≡ header b .crowded
+    at-last m = read ∙ ap (λ (i : ℕ). parentAt b (46 + 48 * i) .good) m ∙ parent-last
 
-    pub parent-taken : k < most → r .good ≡ true → (k < length (header b .ids)) × (r .id .bytes ≡ getD (header b .ids) k [])
+    pub parent-taken : k < most → r ≡ true → k < length (header b .ids)
     parent-taken h e =
         byCases (ltb k (length (header b .ids)))
-        (λ l.
-        let m : k < length (header b .ids) = ltb-true k (length (header b .ids)) l in
-        (m, ap (λ (q : ParentLine). q .id .bytes) (read ∙ parent-read k m)))
+        (λ l. ltb-true k (length (header b .ids)) l)
         (λ l.
         let m : k ≡ length (header b .ids) = omega (arith, ltb-false k (length (header b .ids)) l) in
         absurd (omega (arith, header-lines b g .full (sym (at-last m) ∙ e))))
 
-    pub parent-stop : r .good ≡ false → (k ≡ length (header b .ids)) × (header b .crowded ≡ false)
+    pub parent-stop : r ≡ false → (k ≡ length (header b .ids)) × (header b .crowded ≡ false)
     parent-stop e =
         byCases (ltb k (length (header b .ids)))
-        (λ l. clash (ap (λ (q : ParentLine). q .good) (read ∙ parent-read k (ltb-true k (length (header b .ids)) l))) e)
+        (λ l. clash (read ∙ ap (λ (q : ParentLine). q .good) (parent-read k (ltb-true k (length (header b .ids)) l))) e)
         (λ l.
         let m : k ≡ length (header b .ids) = omega (arith, ltb-false k (length (header b .ids)) l) in
         (m, sym (at-last m) ∙ e))
 
-    pub parent-crowd : most ≤ k → r .good ≡ true → (k ≡ length (header b .ids)) × (header b .crowded ≡ true)
+    pub parent-crowd : most ≤ k → r ≡ true → (k ≡ length (header b .ids)) × (header b .crowded ≡ true)
     parent-crowd h e =
         let m : k ≡ length (header b .ids) = omega (arith, header-lines b g .few) in
         (m, sym (at-last m) ∙ e)
@@ -249,14 +243,14 @@ module _ (b : List ℕ) (p n : ℕ) (tree : treeAt b 0 ≡ GoodLine p) (count : 
   after : p + 48 * n ≡ 46 + 48 * length (header b .ids)
   after = omega (arith, counted, tree-good b p tree .1)
 
-  module _ {r : ParentLine} (read : r ≡ parentAt b (p + 48 * n)) where
-    told : r .good ≡ header b .crowded
-    told = ap (λ (q : ParentLine). q .good) (read ∙ ap (parentAt b) after) ∙ parent-last b (tree-good b p tree .0)
+  module _ {r : Bool} (read : r ≡ parentAt b (p + 48 * n) .good) where
+    told : r ≡ header b .crowded
+    told = read ∙ ap (λ (i : ℕ). parentAt b i .good) after ∙ parent-last b (tree-good b p tree .0)
 
-    pub one-too-many : r .good ≡ true → Crowded ≡ readingOf (header b)
+    pub one-too-many : r ≡ true → Crowded ≡ readingOf (header b)
     one-too-many g = sym (reading-crowded (header b) (tree-good b p tree .0) (sym told ∙ g))
 
-    module _ (g : r .good ≡ false) {q : SecondsRead} (last : q ≡ secondsRead (afterAuthor (authorLine (drop (p + 48 * n) b)))) where
+    module _ (g : r ≡ false) {q : SecondsRead} (last : q ≡ secondsRead (afterAuthor (authorLine (drop (p + 48 * n) b)))) where
       ends : Option ℤ
       ends = afterAuthor (authorLine (drop (p + 48 * n) b))
 

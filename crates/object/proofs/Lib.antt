@@ -6,5 +6,3 @@ pub mod Parents
 pub mod Headers
 pub mod PersonLines
 pub mod PersonNumbers
-pub mod Table
-pub mod HexValue

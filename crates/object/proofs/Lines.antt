@@ -79,6 +79,11 @@ pub is-none {ℓ} : {A : Type ℓ} (o : Option A) → isSome o ≡ false → o �
 is-none none e = refl
 is-none (some a) e = clash refl e
 
+-- the reading of a line is good where it is there
+pub good-is : (o : Option (Id × List ℕ)) → idRead o .good ≡ isSome o
+good-is none = refl
+good-is (some t) = refl
+
 newline-front : (b : List ℕ) → 1 ≤ length b → getD b 0 0 ≡ 10 → strip newline b ≡ some (drop 1 b)
 unfolding strip
 newline-front [] h e = absurd (omega arith)
@@ -118,31 +123,45 @@ module _ (w b : List ℕ) (i : ℕ) where
           let k : getD (t .1) 0 0 ≡ 10 = rw r (getD-drop (i + length w + 40) b 0 0 ∙ rw z e) in
           rw (newline-front (t .1) n k)
 
-  -- what a reading r of the line tells
-  module _ {r : ParentLine} (read : r ≡ idRead (idLine w (drop i b))) where
-    pub good-line : r .good ≡ true → idLine w (drop i b) ≡ some (r .id .bytes, drop (i + (length w + 41)) b)
-    good-line g =
-        go (idLine w (drop i b)) refl (ap (λ (q : ParentLine). q .good) (sym read) ∙ g)
-        ∙ ap (λ (q : ParentLine). some (q .id .bytes, drop (i + (length w + 41)) b)) (sym read)
+  pub digits-test : isSome (strip w (drop i b)) ≡ true → i + length w + 41 ≤ length b → getD b (i + length w + 40) 0 ≡ 10
+      → isSome (idLine w (drop i b)) ≡ isSome (hexBytes idBytes (drop (i + length w) b))
+  digits-test f l e =
+      sym (good-is (idLine w (drop i b)))
+      ∙ ap (λ (q : ParentLine). q .good) (digits-decide f l e)
+      ∙ good-is (hexBytes idBytes (drop (i + length w) b))
+
+  -- what a line that is there tells
+  module _ (there : isSome (idLine w (drop i b)) ≡ true) where
+    pub good-line : (x : Id) × (idLine w (drop i b) ≡ some (x, drop (i + (length w + 41)) b))
+    good-line = go (idLine w (drop i b)) refl there
       where
-        go : (o : Option (Id × List ℕ)) → idLine w (drop i b) ≡ o → idRead o .good ≡ true → o ≡ some (idRead o .id .bytes, drop (i + (length w + 41)) b)
+        go : (o : Option (Id × List ℕ)) → idLine w (drop i b) ≡ o → isSome o ≡ true → (x : Id) × (o ≡ some (x, drop (i + (length w + 41)) b))
         go none e h = clash h refl
         go (some t) e h =
-            ap (λ (c : List ℕ). some (t .0, c)) (idLine-some w (drop i b) t e .rest ∙ drop-drop (length w + 41) i b)
+            (t .0, ap (λ (c : List ℕ). some (t .0, c)) (idLine-some w (drop i b) t e .rest ∙ drop-drop (length w + 41) i b))
 
-    pub bad-line : r .good ≡ false → idLine w (drop i b) ≡ none
-    bad-line g = go (idLine w (drop i b)) (ap (λ (q : ParentLine). q .good) (sym read) ∙ g)
-      where
-        go : (o : Option (Id × List ℕ)) → idRead o .good ≡ false → o ≡ none
-        go none h = refl
-        go (some t) h = clash refl h
+    parts : IdLine w (drop i b) (good-line .0, drop (i + (length w + 41)) b)
+    parts = idLine-some w (drop i b) (good-line .0, drop (i + (length w + 41)) b) (good-line .1)
 
-    -- a good line fits
-    pub line-fits : r .good ≡ true → i + (length w + 41) ≤ length b
-    line-fits g = omega (arith, idLine-some w (drop i b) _ (good-line g) .long, length-drop i b)
+    -- it fits
+    pub line-fits : i + (length w + 41) ≤ length b
+    line-fits = omega (arith, parts .long, length-drop i b)
 
-    pub good-place : r .good ≡ true → lineRead b (afterId (idLine w (drop i b))) ≡ Good (i + (length w + 41))
-    good-place g = let h = line-fits g in rw (good-line g, length-drop) (ap Good (omega arith))
+    pub good-place : lineRead b (afterId (idLine w (drop i b))) ≡ Good (i + (length w + 41))
+    good-place = let h = line-fits in rw (good-line .1, length-drop) (ap Good (omega arith))
 
-    pub bad-place : r .good ≡ false → lineRead b (afterId (idLine w (drop i b))) ≡ Bad
-    bad-place g = rw (bad-line g)
+    -- its digits are read, and they give its id
+    pub line-digits : idRead (idLine w (drop i b)) ≡ idRead (hexBytes idBytes (drop (i + length w) b))
+    line-digits =
+        let n : i + (length w + 40) ≡ i + length w + 40 = omega arith in
+        digits-decide (ap isSome (parts .word)) (omega (arith, line-fits)) (rw (← n) (sym (getD-drop i b (length w + 40) 0) ∙ parts .ends))
+
+    pub digits-there : isSome (hexBytes idBytes (drop (i + length w) b)) ≡ true
+    digits-there =
+        sym (good-is (hexBytes idBytes (drop (i + length w) b)))
+        ∙ ap (λ (q : ParentLine). q .good) (sym line-digits)
+        ∙ good-is (idLine w (drop i b))
+        ∙ there
+
+  pub bad-place : isSome (idLine w (drop i b)) ≡ false → lineRead b (afterId (idLine w (drop i b))) ≡ Bad
+  bad-place g = rw (is-none (idLine w (drop i b)) g)

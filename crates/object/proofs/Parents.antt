@@ -2,7 +2,7 @@
 -- where no good parent line stands, or at its limit. Assumes nothing.
 use mathlib.Core.Path.{_≡_, refl, sym, _∙_, ap}
 use Prim.Native.Nat.{ℕ, zero, suc, _+_, _*_, _-_, _≤_, _<_}
-use mathlib.Core.Bool.{true, false}
+use mathlib.Core.Bool.{Bool, true, false}
 use mathlib.Core.Option.{Option, none, some}
 use mathlib.Core.List.{List, [], _∷_}
 use native.Mathlib.Omega.{arith}
@@ -11,10 +11,10 @@ use lib.Seq.{drop-drop}
 use Rattle.hash.specs.Bytes.{Id}
 use Rattle.hash.proofs.Tests.{clash}
 use Rattle.object.specs.Header.{isSome, idLine, parentWord, Parents, withParent, fromParent, parentLines, pastParent, skipParents}
-use Rattle.object.specs.Read.{parentAt, afterParents}
+use Rattle.object.specs.Read.{idRead, parentAt, afterParents}
 use Rattle.object.specs.declared.ParentLine.{ParentLine}
 use Rattle.object.proofs.Rest.{Rest, rest-all, rest-further}
-use Rattle.object.proofs.Lines.{idLine-some, too-short, good-line, bad-line, line-fits, is-none}
+use Rattle.object.proofs.Lines.{idLine-some, too-short, good-is, good-line, line-fits, is-none}
 
 -- ---- a run of at most n lines
 
@@ -126,19 +126,31 @@ skip-run (suc n) k b h m = go (λ c g. skip-run n k c g) (idLine parentWord b) r
 
 -- ---- at places of b
 
--- what a reading r of the parent line at place i tells
+-- what the test r of the parent line at place i tells
+module _ (b : List ℕ) (i : ℕ) {r : Bool} (read : r ≡ parentAt b i .good) where
+  is-there : r ≡ isSome (idLine parentWord (drop i b))
+  unfolding parentAt
+  is-there = read ∙ good-is (idLine parentWord (drop i b))
+
+  pub parent-good : r ≡ true → (x : Id) × (idLine parentWord (drop i b) ≡ some (x, drop (i + 48) b))
+  parent-good g = good-line parentWord b i (sym is-there ∙ g)
+
+  pub parent-bad : r ≡ false → idLine parentWord (drop i b) ≡ none
+  parent-bad g = is-none (idLine parentWord (drop i b)) (sym is-there ∙ g)
+
+  pub parent-fits : r ≡ true → i + 48 ≤ length b
+  parent-fits g = line-fits parentWord b i (sym is-there ∙ g)
+
+-- what a reading r of it tells
 module _ (b : List ℕ) (i : ℕ) {r : ParentLine} (read : r ≡ parentAt b i) where
-  pub parent-good : r .good ≡ true → idLine parentWord (drop i b) ≡ some (r .id .bytes, drop (i + 48) b)
+  pub parent-id : r .good ≡ true → idLine parentWord (drop i b) ≡ some (r .id .bytes, drop (i + 48) b)
   unfolding parentAt
-  parent-good g = good-line parentWord b i read g
+  parent-id g =
+      let t = parent-good b i (ap (λ (q : ParentLine). q .good) read) g in
+      t .1 ∙ ap (λ (q : ParentLine). some (q .id .bytes, drop (i + 48) b)) (sym (read ∙ ap idRead (t .1)))
 
-  pub parent-bad : r .good ≡ false → idLine parentWord (drop i b) ≡ none
-  unfolding parentAt
-  parent-bad g = bad-line parentWord b i read g
-
-  pub parent-fits : r .good ≡ true → i + 48 ≤ length b
-  unfolding parentAt
-  parent-fits g = line-fits parentWord b i read g
+  pub parent-none : r .good ≡ false → idLine parentWord (drop i b) ≡ none
+  parent-none g = parent-bad b i (ap (λ (q : ParentLine). q .good) read) g
 
 -- the lines from place i to place p are parent lines
 pub record Skipped (b : List ℕ) (i p : ℕ) : Type 0 where
@@ -154,17 +166,17 @@ skipped-all {b} {i} {p} s e =
     let n : length (skipParents (length b) (drop i b)) ≡ length b - p = ap length (s .same ∙ skip-stops (length b) (drop p b) e) ∙ length-drop p b in
     rw (n, length-drop i b) (s .from)
 
-module _ {b : List ℕ} {i p : ℕ} (s : Skipped b i p) {r : ParentLine} (read : r ≡ parentAt b p) where
-  pub skipped-line : r .good ≡ true → Skipped b i (p + 48)
+module _ {b : List ℕ} {i p : ℕ} (s : Skipped b i p) {r : Bool} (read : r ≡ parentAt b p .good) where
+  pub skipped-line : r ≡ true → Skipped b i (p + 48)
   skipped-line g =
       let fits = parent-fits b p read g in
       let e = s .from in
       record {
         from = omega arith;
-        same = s .same ∙ skip-line (length b) (drop p b) _ (simp length-drop (omega arith)) (parent-good b p read g);
+        same = s .same ∙ skip-line (length b) (drop p b) _ (simp length-drop (omega arith)) (parent-good b p read g .1);
       }
 
-  pub skipped-stop : r .good ≡ false → p ≡ afterParents b i
+  pub skipped-stop : r ≡ false → p ≡ afterParents b i
   skipped-stop g = skipped-all s (parent-bad b p read g)
 
 pub skipped-end : {b : List ℕ} {i p : ℕ} → Skipped b i p → length b ≤ p → p ≡ afterParents b i
@@ -179,16 +191,16 @@ pub record Counted (m : ℕ) (b : List ℕ) (i n p : ℕ) : Type 0 where
 pub counted-none : (m : ℕ) (b : List ℕ) (i : ℕ) → Counted m b i 0 i
 counted-none m b i = let z : m - 0 ≡ m = omega arith in record { few = omega arith; place = omega arith; left = rw z (omega arith) }
 
-module _ {m : ℕ} {b : List ℕ} {i n p : ℕ} (s : Counted m b i n p) {r : ParentLine} (read : r ≡ parentAt b p) where
-  pub counted-line : n < m → r .good ≡ true → Counted m b i (n + 1) (p + 48)
+module _ {m : ℕ} {b : List ℕ} {i n p : ℕ} (s : Counted m b i n p) {r : Bool} (read : r ≡ parentAt b p .good) where
+  pub counted-line : n < m → r ≡ true → Counted m b i (n + 1) (p + 48)
   counted-line h g =
       let k : m - n ≡ suc (m - (n + 1)) = omega arith in
       let e = s .place in
       let l : length (parentLines (m - n) (drop p b) .ids) ≡ suc (length (parentLines (m - (n + 1)) (drop (p + 48) b) .ids)) =
-      rw k (ap length (parents-more (m - (n + 1)) (drop p b) _ (parent-good b p read g))) in
+      rw k (ap length (parents-more (m - (n + 1)) (drop p b) _ (parent-good b p read g .1))) in
       record { few = omega arith; place = omega arith; left = omega (arith, s .left) }
 
-  pub counted-all : r .good ≡ false → n ≡ length (parentLines m (drop i b) .ids)
+  pub counted-all : r ≡ false → n ≡ length (parentLines m (drop i b) .ids)
   counted-all g = omega (arith, s .left, ap length (parents-stop (m - n) (drop p b) (parent-bad b p read g)))
 
 pub counted-full : {m : ℕ} {b : List ℕ} {i n p : ℕ} → Counted m b i n p → m ≤ n → n ≡ length (parentLines m (drop i b) .ids)

@@ -4,8 +4,10 @@ use date::Seconds;
 pub mod person;
 
 ghost use mathlib.Core.Path.{_≡_};
+ghost use mathlib.Core.Bool.{true};
 ghost use mathlib.Core.Option.{none};
-ghost use Prim.Native.Nat.{_+_, _≤_};
+ghost use Prim.Native.Nat.{_+_, _/_, _≤_, _<_};
+ghost use lib.Dec.{eqb};
 ghost use lib.ListN.{length, drop};
 ghost use Rattle.hash.specs.Bytes.{idBytes};
 ghost use Rattle.object.specs.Header.{isSome, strip, hexVal, hexBytes, idLine, parentLines, most, authorLine, afterAuthor, secondsOf, header};
@@ -60,20 +62,46 @@ pub fn starts_with(body: &[u8], at: usize, word: &[u8]) -> bool
     hash::same(hash::part(body, at, word.len()), word)
 }
 
-// The value of a hexadecimal digit in lower case; 16 for any other byte. `0` to `9` have their value in the low four bits, `a` to `f` have 9
-// less there; a byte is a digit where it is the digit of that value. (Digits come in no order that a processor could foresee, so the value is
-// computed and not chosen.)
+// 0 for a hexadecimal digit in lower case, 1 for any other byte.
+fn wrong_digit(x: u8) -> u8
+    ensures { λ r. ⌜ r ≡ hexVal x / 16 ⌝ }
+{
+    if x < 48 {
+        return 1;
+    }
+    if x <= 57 {
+        return 0;
+    }
+    if x < 97 {
+        return 1;
+    }
+    if x <= 102 {
+        return 0;
+    }
+    1
+}
+
+// The value of a hexadecimal digit in lower case.
 fn hex_value(x: u8) -> u8
+    requires { ⌜ hexVal x < 16 ⌝ }
     ensures { λ r. ⌜ r ≡ hexVal x ⌝ }
 {
-    let v = x % 16 + 9 * (x / 64);
-    let digit = v + 48 + 39 * ((v + 6) / 16);
-    if digit == x {
-        if v < 16 {
-            return v;
-        }
+    if x <= 57 { x - 48 } else { x - 87 }
+}
+
+// How many of the 40 bytes at a place are no hexadecimal digit in lower case. It looks at all of them even after a wrong one: a loop with no
+// early exit is compiled to instructions that test many bytes at once, and in a store hardly any digit is wrong.
+fn wrong_digits(body: &[u8], at: usize) -> u8
+    requires { ⌜ at + 40 ≤ length (now body) ⌝ }
+    ensures { λ r. ⌜ eqb r 0 ≡ isSome (hexBytes idBytes (drop at (now (body .entry)))) ⌝ }
+{
+    let mut wrong: u8 = 0;
+    let mut i = 0;
+    while i < 40 {
+        wrong += wrong_digit(body[at + i]);
+        i += 1;
     }
-    16
+    wrong
 }
 
 // The answer where no good line stands.
@@ -86,23 +114,16 @@ fn no_id() -> ParentLine
     }
 }
 
-// The id in the 40 digits at a place.
-fn hex_id(body: &[u8], at: usize) -> ParentLine
+// The id in 40 digits at a place, none of them wrong. (So it tests none, and has no early exit either.)
+fn decoded(body: &[u8], at: usize) -> ParentLine
     requires { ⌜ at + 40 ≤ length (now body) ⌝ }
+    requires { ⌜ isSome (hexBytes idBytes (drop at (now body))) ≡ true ⌝ }
     ensures { λ r. ⌜ r ≡ idRead (hexBytes idBytes (drop at (now (body .entry)))) ⌝ }
 {
     let mut bytes = [0u8; 20];
     let mut i = 0;
     while i < 20 {
-        let high = hex_value(body[at + 2 * i]);
-        let low = hex_value(body[at + 2 * i + 1]);
-        if 16 <= high {
-            return no_id();
-        }
-        if 16 <= low {
-            return no_id();
-        }
-        bytes[i] = high * 16 + low;
+        bytes[i] = hex_value(body[at + 2 * i]) * 16 + hex_value(body[at + 2 * i + 1]);
         i += 1;
     }
     ParentLine {
@@ -111,35 +132,45 @@ fn hex_id(body: &[u8], at: usize) -> ParentLine
     }
 }
 
+// Whether a line with a word, an id and a newline stands at a place.
+fn is_id_line(body: &[u8], at: usize, word: &[u8]) -> bool
+    ensures { λ r. ⌜ r ≡ isSome (idLine (now (word .entry)) (drop at (now (body .entry)))) ⌝ }
+{
+    if body.len() < at {
+        return false;
+    }
+    if body.len() - at < word.len() {
+        return false;
+    }
+    let digits = at + word.len();
+    if body.len() - digits < DIGITS_LINE {
+        return false;
+    }
+    if body[digits + 40] != 10 {
+        return false;
+    }
+    if !starts_with(body, at, word) {
+        return false;
+    }
+    wrong_digits(body, digits) == 0
+}
+
 // The line with a word, an id and a newline at a place.
 fn id_line(body: &[u8], at: usize, word: &[u8]) -> ParentLine
     ensures { λ r. ⌜ r ≡ idRead (idLine (now (word .entry)) (drop at (now (body .entry)))) ⌝ }
 {
-    if body.len() < at {
-        return no_id();
+    if is_id_line(body, at, word) {
+        decoded(body, at + word.len())
+    } else {
+        no_id()
     }
-    if body.len() - at < word.len() {
-        return no_id();
-    }
-    let digits = at + word.len();
-    if body.len() - digits < DIGITS_LINE {
-        return no_id();
-    }
-    if body[digits + 40] != 10 {
-        return no_id();
-    }
-    if !starts_with(body, at, word) {
-        return no_id();
-    }
-    hex_id(body, digits)
 }
 
 // The tree line at a place.
 pub fn tree_line(body: &[u8], at: usize) -> Line
     ensures { λ r. ⌜ r ≡ treeAt (now (body .entry)) at ⌝ }
 {
-    let read = id_line(body, at, b"tree ");
-    if read.good {
+    if is_id_line(body, at, b"tree ") {
         Line::Good(at + TREE_LINE)
     } else {
         Line::Bad
@@ -153,14 +184,20 @@ pub fn parent_line(body: &[u8], at: usize) -> ParentLine
     id_line(body, at, b"parent ")
 }
 
+// Whether a good parent line stands at a place: its digits are tested, and no id is made of them.
+pub fn is_parent_line(body: &[u8], at: usize) -> bool
+    ensures { λ r. ⌜ r ≡ parentAt (now (body .entry)) at .good ⌝ }
+{
+    is_id_line(body, at, b"parent ")
+}
+
 // The place after the parent lines at a place, uncounted.
 pub fn after_parents(body: &[u8], at: usize) -> usize
     ensures { λ r. ⌜ r ≡ afterParents (now (body .entry)) at ⌝ }
 {
     let mut p = at;
     while p < body.len() {
-        let read = parent_line(body, p);
-        if !read.good {
+        if !is_parent_line(body, p) {
             return p;
         }
         p += PARENT_LINE;
@@ -175,8 +212,7 @@ pub fn count_parents(body: &[u8], at: usize) -> usize
     let mut n = 0;
     let mut p = at;
     while n < MOST_PARENTS {
-        let read = parent_line(body, p);
-        if !read.good {
+        if !is_parent_line(body, p) {
             return n;
         }
         p += PARENT_LINE;
@@ -204,8 +240,7 @@ pub fn readable(body: &[u8]) -> Reading
     };
     let n = count_parents(body, at);
     let p = at + PARENT_LINE * n;
-    let next = parent_line(body, p);
-    if next.good {
+    if is_parent_line(body, p) {
         return Reading::Crowded;
     }
     match person_lines(body, p) {

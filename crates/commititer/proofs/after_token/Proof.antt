@@ -46,21 +46,21 @@ returns-2 c =
     ∙ ap (λ (i : ℕ). placeAfter b i (treeTold (idLine treeWord b))) (sym e)
     ∙ sym (ap (placeAfter b (x .at)) (at-start b (x .at) e))
 
-parent-line-requires : tie.Need-parent-line-requires
-parent-line-requires c κs = search needs
+is-parent-line-requires : tie.Need-is-parent-line-requires
+is-parent-line-requires c κs = search needs
 
 add-result : tie.Need-add-result
 add-result c =
     let x = c .before .before .before .before .args in
-    omega (arith, parent-fits (x .«data» .now) (x .at) (c .before .parent-line .ensures) (c .if2 .taken))
+    omega (arith, parent-fits (x .«data» .now) (x .at) (c .before .is-parent-line .ensures) (c .if2 .taken))
 
 returns-3 : tie.Need-returns-3
 unfolding afterToken
 returns-3 c =
     let x = c .before .before .before .before .args in
     let b = x .«data» .now in
-    let h = parent-fits b (x .at) (c .before .parent-line .ensures) (c .if2 .taken) in
-    sym (ap (placeAfter b (x .at)) (at-parent b (x .at) (c .before .before .if1 .left) _ (parent-good b (x .at) (c .before .parent-line .ensures) (c .if2 .taken))) ∙ simp length-drop (omega arith))
+    let h = parent-fits b (x .at) (c .before .is-parent-line .ensures) (c .if2 .taken) in
+    sym (ap (placeAfter b (x .at)) (at-parent b (x .at) (c .before .before .if1 .left) _ (parent-good b (x .at) (c .before .is-parent-line .ensures) (c .if2 .taken) .1)) ∙ simp length-drop (omega arith))
 
 author-line-requires : tie.Need-author-line-requires
 author-line-requires c κs = search needs
@@ -80,7 +80,7 @@ returns-4 c =
     let x = c .before .before .before .before .before .before .before .before .args in
     let b = x .«data» .now in
     sym
-    (ap (placeAfter b (x .at)) (at-person b (x .at) (c .before .before .before .before .before .before .if1 .left) (parent-bad b (x .at) (c .before .before .before .before .before .parent-line .ensures) (c .before .before .before .before .if2 .left)))
+    (ap (placeAfter b (x .at)) (at-person b (x .at) (c .before .before .before .before .before .before .if1 .left) (parent-bad b (x .at) (c .before .before .before .before .before .is-parent-line .ensures) (c .before .before .before .before .if2 .left)))
     ∙ author-good b (x .at) (authorLine (drop (x .at) b)) (committerTold (committerLine (drop (x .at) b))) _ (sym (c .before .before .before .author-line .ensures) ∙ c .before .next2 .given .1) .after)
 
 returns-5 : tie.Need-returns-5
@@ -90,7 +90,7 @@ returns-5 c =
     let b = x .«data» .now in
     c .no-more2 .ensures
     ∙ sym
-    (ap (placeAfter b (x .at)) (at-person b (x .at) (c .before .before .before .before .before .before .if1 .left) (parent-bad b (x .at) (c .before .before .before .before .before .parent-line .ensures) (c .before .before .before .before .if2 .left)))
+    (ap (placeAfter b (x .at)) (at-person b (x .at) (c .before .before .before .before .before .before .if1 .left) (parent-bad b (x .at) (c .before .before .before .before .before .is-parent-line .ensures) (c .before .before .before .before .if2 .left)))
     ∙ ap (placeAfter b (x .at)) (author-bad b (authorLine (drop (x .at) b)) (committerTold (committerLine (drop (x .at) b))) (sym (c .before .before .before .author-line .ensures) ∙ c .before .enum-told2 .given .1))
     ∙ committer-last b (x .at))
 
@@ -104,7 +104,7 @@ after-token-spec =
     no-more-requires
     returns
     returns-2
-    parent-line-requires
+    is-parent-line-requires
     add-result
     returns-3
     author-line-requires

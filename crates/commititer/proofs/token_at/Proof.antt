@@ -3,7 +3,7 @@
 use mathlib.Core.Path.{sym, ap, _∙_}
 use Prim.Native.Nat.{ℕ}
 use Rattle.object.specs.Header.{idLine, treeWord}
-use Rattle.object.proofs.Parents.{parent-good, parent-bad}
+use Rattle.object.proofs.Parents.{parent-id, parent-none}
 use Rattle.commititer.specs.Token.{treeTold, tokenOf, tokenAt}
 use Rattle.commititer.proofs.Told.{at-start, at-parent, at-person}
 use borrow.Author.Needs.{needs}
@@ -29,7 +29,7 @@ unfolding tokenAt
 returns-2 c =
     let x = c .before .before .before .before .before .args in
     let b = x .«data» .now in
-    sym (ap (tokenOf b (x .at)) (at-parent b (x .at) (c .before .before .before .if1 .left) _ (parent-good b (x .at) (c .before .before .parent-line .ensures) (c .before .if2 .taken))))
+    sym (ap (tokenOf b (x .at)) (at-parent b (x .at) (c .before .before .before .if1 .left) _ (parent-id b (x .at) (c .before .before .parent-line .ensures) (c .before .if2 .taken))))
 
 person-token-requires : tie.Need-person-token-requires
 person-token-requires c κs = search needs
@@ -40,7 +40,7 @@ returns-3 c =
     let x = c .before .before .before .before .before .args in
     let b = x .«data» .now in
     c .person-token .ensures
-    ∙ sym (ap (tokenOf b (x .at)) (at-person b (x .at) (c .before .before .before .if1 .left) (parent-bad b (x .at) (c .before .before .parent-line .ensures) (c .before .if2 .left))))
+    ∙ sym (ap (tokenOf b (x .at)) (at-person b (x .at) (c .before .before .before .if1 .left) (parent-none b (x .at) (c .before .before .parent-line .ensures) (c .before .if2 .left))))
 
 pub token-at-spec : {M : Type 1} → statement M
 token-at-spec =

@@ -18,20 +18,20 @@ abbrev μ-loop : tie.MeasureT-loop
 loop-holds : tie.Need-loop-holds Inv-loop μ-loop
 loop-holds c = skipped-none _ _
 
-parent-line-requires : tie.Need-parent-line-requires Inv-loop μ-loop
-parent-line-requires c κs = search needs
+is-parent-line-requires : tie.Need-is-parent-line-requires Inv-loop μ-loop
+is-parent-line-requires c κs = search needs
 
 returns : tie.Need-returns Inv-loop μ-loop
-returns c = skipped-stop (c .before .before .before .before .loop .inv) (c .before .before .parent-line .ensures) (not-true _ (c .if1 .taken))
+returns c = skipped-stop (c .before .before .before .loop .inv) (c .before .is-parent-line .ensures) (not-true _ (c .if1 .taken))
 
 add-p : tie.Need-add-p Inv-loop μ-loop
-add-p c = let l = c .before .before .before .before in omega (arith, parent-fits (l .before .before .args .body .now) (l .loop .p) (c .before .before .parent-line .ensures) (not-false _ (c .if1 .left)))
+add-p c = let l = c .before .before .before in omega (arith, parent-fits (l .before .before .args .body .now) (l .loop .p) (c .before .is-parent-line .ensures) (not-false _ (c .if1 .left)))
 
 loop-less : tie.Need-loop-less Inv-loop μ-loop
-loop-less c = let l = c .before .before .before .before in omega (arith, parent-fits (l .before .before .args .body .now) (l .loop .p) (c .before .before .parent-line .ensures) (not-false _ (c .if1 .left)))
+loop-less c = let l = c .before .before .before in omega (arith, parent-fits (l .before .before .args .body .now) (l .loop .p) (c .before .is-parent-line .ensures) (not-false _ (c .if1 .left)))
 
 loop-again : tie.Need-loop-again Inv-loop μ-loop
-loop-again c = skipped-line (c .before .before .before .before .loop .inv) (c .before .before .parent-line .ensures) (not-false _ (c .if1 .left))
+loop-again c = skipped-line (c .before .before .before .loop .inv) (c .before .is-parent-line .ensures) (not-false _ (c .if1 .left))
 
 returns-2 : tie.Need-returns-2 Inv-loop μ-loop
 returns-2 c = skipped-end (c .before .loop .inv) (search needs)
@@ -43,7 +43,7 @@ after-parents-spec =
     Inv-loop
     μ-loop
     loop-holds
-    parent-line-requires
+    is-parent-line-requires
     returns
     add-p
     loop-less

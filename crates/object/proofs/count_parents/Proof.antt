@@ -18,14 +18,14 @@ abbrev μ-loop : tie.MeasureT-loop
 loop-holds : tie.Need-loop-holds Inv-loop μ-loop
 loop-holds c = counted-none _ _ _
 
-parent-line-requires : tie.Need-parent-line-requires Inv-loop μ-loop
-parent-line-requires c κs = search needs
+is-parent-line-requires : tie.Need-is-parent-line-requires Inv-loop μ-loop
+is-parent-line-requires c κs = search needs
 
 returns : tie.Need-returns Inv-loop μ-loop
-returns c = counted-all (c .before .before .before .before .loop .inv) (c .before .before .parent-line .ensures) (not-true _ (c .if1 .taken))
+returns c = counted-all (c .before .before .before .loop .inv) (c .before .is-parent-line .ensures) (not-true _ (c .if1 .taken))
 
 add-p : tie.Need-add-p Inv-loop μ-loop
-add-p c = let l = c .before .before .before .before in omega (arith, parent-fits (l .before .before .args .body .now) (l .loop .p) (c .before .before .parent-line .ensures) (not-false _ (c .if1 .left)))
+add-p c = let l = c .before .before .before in omega (arith, parent-fits (l .before .before .args .body .now) (l .loop .p) (c .before .is-parent-line .ensures) (not-false _ (c .if1 .left)))
 
 add-n : tie.Need-add-n Inv-loop μ-loop
 add-n c = search needs
@@ -34,7 +34,7 @@ loop-less : tie.Need-loop-less Inv-loop μ-loop
 loop-less c = search needs
 
 loop-again : tie.Need-loop-again Inv-loop μ-loop
-loop-again c = counted-line (c .before .before .before .before .loop .inv) (c .before .before .parent-line .ensures) (search needs) (not-false _ (c .if1 .left))
+loop-again c = counted-line (c .before .before .before .loop .inv) (c .before .is-parent-line .ensures) (search needs) (not-false _ (c .if1 .left))
 
 returns-2 : tie.Need-returns-2 Inv-loop μ-loop
 returns-2 c = counted-full (c .before .loop .inv) (search needs)
@@ -46,7 +46,7 @@ count-parents-spec =
     Inv-loop
     μ-loop
     loop-holds
-    parent-line-requires
+    is-parent-line-requires
     returns
     add-p
     add-n

@@ -1,100 +1,42 @@
--- `object::id_line` meets its contract: with a byte too few, no newline or another word there is no line; else the digits decide.
--- Assumes nothing.
-use mathlib.Core.Path.{sym, _∙_, ap}
+-- `object::id_line` meets its contract: the digits of a line that is there give its id. Assumes nothing.
+use mathlib.Core.Path.{_≡_, sym, _∙_, ap}
+use mathlib.Core.Bool.{true}
 use native.Mathlib.Omega.{arith}
-use borrow.Author.Tests.{not-true, not-false}
+use lib.ListN.{drop}
+use Rattle.object.specs.Header.{isSome, idLine}
 use Rattle.object.specs.Read.{idRead}
-use Rattle.object.proofs.Lines.{no-word, too-short, no-newline, digits-decide}
+use Rattle.object.proofs.Lines.{is-none, line-fits, line-digits, digits-there}
 use borrow.Author.Needs.{needs}
 use Rattle.object.proofs.id_line.Statement.{statement}
 use Rattle.object.proofs.id_line.Tie as tie
+
+-- the line is there
+there : (c : tie.Then1) → isSome (idLine (c .before .before .before .before .args .word .now) (drop (c .before .before .before .before .args .at) (c .before .before .before .before .args .body .now))) ≡ true
+there c = sym (c .before .is-id-line .ensures) ∙ c .if1 .taken
+
+is-id-line-requires : tie.Need-is-id-line-requires
+is-id-line-requires c κs = search needs
+
+add-decoded : tie.Need-add-decoded
+add-decoded c = let x = c .before .before .before .before .args in omega (arith, line-fits (x .word .now) (x .body .now) (x .at) (there c))
+
+decoded-requires : tie.Need-decoded-requires
+decoded-requires c κs =
+    let x = c .before .before .before .before .args in
+    (omega (arith, line-fits (x .word .now) (x .body .now) (x .at) (there c)), digits-there (x .word .now) (x .body .now) (x .at) (there c))
 
 no-id-requires : tie.Need-no-id-requires
 no-id-requires c κs = search needs
 
 returns : tie.Need-returns
-returns c =
-    let x = c .before .before .before .before .args in
-    c .no-id .ensures ∙ ap idRead (sym (too-short (x .word .now) (x .body .now) (x .at) (search needs)))
-
-sub-if2 : tie.Need-sub-if2
-sub-if2 c = search needs
-
-no-id-requires-2 : tie.Need-no-id-requires-2
-no-id-requires-2 c κs = search needs
+returns c = let x = c .before .before .before .before .before .args in c .decoded .ensures ∙ sym (line-digits (x .word .now) (x .body .now) (x .at) (there (c .before)))
 
 returns-2 : tie.Need-returns-2
 returns-2 c =
     let x = c .before .before .before .before .before .args in
-    c .no-id2 .ensures ∙ ap idRead (sym (too-short (x .word .now) (x .body .now) (x .at) (search needs)))
-
-add-digits : tie.Need-add-digits
-add-digits c = search needs
-
-sub-if3 : tie.Need-sub-if3
-sub-if3 c = search needs
-
-no-id-requires-3 : tie.Need-no-id-requires-3
-no-id-requires-3 c κs = search needs
-
-returns-3 : tie.Need-returns-3
-returns-3 c =
-    let x = c .before .before .before .before .before .before .args in
-    c .no-id3 .ensures ∙ ap idRead (sym (too-short (x .word .now) (x .body .now) (x .at) (search needs)))
-
-add-if4 : tie.Need-add-if4
-add-if4 c = search needs
-
-shared-slice-read-if4 : tie.Need-shared-slice-read-if4
-shared-slice-read-if4 c = search needs
-
-no-id-requires-4 : tie.Need-no-id-requires-4
-no-id-requires-4 c κs = search needs
-
-returns-4 : tie.Need-returns-4
-returns-4 c =
-    let x = c .before .before .before .before .before .before .before .before .args in
-    c .no-id4 .ensures ∙ ap idRead (sym (no-newline (x .word .now) (x .body .now) (x .at) (c .before .if4 .taken)))
-
-starts-with-requires : tie.Need-starts-with-requires
-starts-with-requires c κs = search needs
-
-no-id-requires-5 : tie.Need-no-id-requires-5
-no-id-requires-5 c κs = search needs
-
-returns-5 : tie.Need-returns-5
-returns-5 c =
-    let x = c .before .before .before .before .before .before .before .before .before .before .args in
-    c .no-id5 .ensures ∙ ap idRead (sym (no-word (x .word .now) (x .body .now) (x .at) (sym (c .before .before .starts-with .ensures) ∙ not-true _ (c .before .if5 .taken))))
-
-hex-id-requires : tie.Need-hex-id-requires
-hex-id-requires c κs = search needs
-
-returns-6 : tie.Need-returns-6
-returns-6 c =
-    let x = c .before .before .before .before .before .before .before .before .before .before .args in
-    c .hex-id .ensures
-    ∙ sym (digits-decide (x .word .now) (x .body .now) (x .at) (sym (c .before .before .starts-with .ensures) ∙ not-false _ (c .before .if5 .left)) (omega arith) (c .before .before .before .if4 .left))
+    c .no-id .ensures ∙ ap idRead (sym (is-none (idLine (x .word .now) (drop (x .at) (x .body .now))) (sym (c .before .before .is-id-line .ensures) ∙ c .before .if1 .left)))
 
 pub id-line-spec : {M : Type 1} → statement M
 id-line-spec =
     tie.close
-    (tie.spec
-    no-id-requires
-    returns
-    sub-if2
-    no-id-requires-2
-    returns-2
-    add-digits
-    sub-if3
-    no-id-requires-3
-    returns-3
-    add-if4
-    shared-slice-read-if4
-    no-id-requires-4
-    returns-4
-    starts-with-requires
-    no-id-requires-5
-    returns-5
-    hex-id-requires
-    returns-6)
+    (tie.spec is-id-line-requires add-decoded decoded-requires no-id-requires returns returns-2)

@@ -34,11 +34,11 @@ mul-p c = omega (arith, few-parents _ _ _ (tree (c .before)) (c .count-parents .
 add-p : tie.Need-add-p
 add-p c = omega (arith, parents-fit _ _ _ (tree (c .before)) (c .count-parents .ensures))
 
-parent-line-requires : tie.Need-parent-line-requires
-parent-line-requires c κs = search needs
+is-parent-line-requires : tie.Need-is-parent-line-requires
+is-parent-line-requires c κs = search needs
 
 returns-2 : tie.Need-returns-2
-returns-2 c = let n = c .before .before in one-too-many _ _ _ (tree (n .before)) (n .count-parents .ensures) (c .before .parent-line .ensures) (c .if1 .taken)
+returns-2 c = let n = c .before .before in one-too-many _ _ _ (tree (n .before)) (n .count-parents .ensures) (c .before .is-parent-line .ensures) (c .if1 .taken)
 
 person-lines-requires : tie.Need-person-lines-requires
 person-lines-requires c κs = search needs
@@ -53,13 +53,13 @@ returns-3 : tie.Need-returns-3
 returns-3 c =
     let l = c .before .before .before in
     let n = l .before .before .before in
-    all-good _ _ _ (tree (n .before)) (n .count-parents .ensures) (l .before .before .parent-line .ensures) (l .before .if1 .left) (l .person-lines .ensures) _ (c .before .s .given .1)
+    all-good _ _ _ (tree (n .before)) (n .count-parents .ensures) (l .before .before .is-parent-line .ensures) (l .before .if1 .left) (l .person-lines .ensures) _ (c .before .s .given .1)
 
 returns-4 : tie.Need-returns-4
 returns-4 c =
     let l = c .before .before in
     let n = l .before .before .before in
-    last-bad _ _ _ (tree (n .before)) (n .count-parents .ensures) (l .before .before .parent-line .ensures) (l .before .if1 .left) (l .person-lines .ensures) (c .enum-told2 .given .1)
+    last-bad _ _ _ (tree (n .before)) (n .count-parents .ensures) (l .before .before .is-parent-line .ensures) (l .before .if1 .left) (l .person-lines .ensures) (c .enum-told2 .given .1)
 
 pub readable-spec : {M : Type 1} → statement M
 readable-spec =
@@ -72,7 +72,7 @@ readable-spec =
     count-parents-requires
     mul-p
     add-p
-    parent-line-requires
+    is-parent-line-requires
     returns-2
     person-lines-requires
     enum-known-s
