@@ -4,9 +4,9 @@ use mathlib.Core.Path.{_≡_, sym, _∙_, ap}
 use Prim.Native.Nat.{ℕ, _+_, _*_, _≤_, _<_}
 use mathlib.Core.Bool.{Bool, true, false, not, _&&_}
 use mathlib.Core.Option.{none, some}
-use mathlib.Core.List.{List, []}
+use mathlib.Core.List.{List}
 use native.Mathlib.Omega.{arith}
-use lib.ListN.{length, drop, getD}
+use lib.ListN.{length, drop}
 use lib.Dec.{ltb}
 use borrow.Author.Tests.{lt-ltb, le-ltb, ltb-true, ltb-false}
 use Rattle.hash.specs.Bytes.{pick}
@@ -40,7 +40,7 @@ author-unreadable b i e = rw (author-bad b i e)
 
 -- ---- the steps
 
-parent-step : (h : Header) (k : ℕ) → k < length (h .ids) → stepOf h k ≡ parentStep (record { bytes = getD (h .ids) k [] })
+parent-step : (h : Header) (k : ℕ) → k < length (h .ids) → stepOf h k ≡ parentStep
 unfolding stepOf
 parent-step h k l = rw (lt-ltb k (length (h .ids)) l)
 
@@ -64,32 +64,30 @@ end-author b k g m e =
 pub steps-far : (b : List ℕ) (k : ℕ) (r : BodyStep) → most < k → StepsBody b k r
 steps-far b k r h = record { right = λ g l. absurd (omega (arith, header-lines b g .few)) }
 
-module _ (b : List ℕ) (k : ℕ) {r : ParentLine} (read : r ≡ parentAt b (46 + 48 * k)) where
-  pub steps-end : {e : BodyEnd} {s : BodyStep} → r .good ≡ false → e ≡ endAt b (46 + 48 * k) → s ≡ endStep e → StepsBody b k s
+module _ (b : List ℕ) (k : ℕ) {r : Bool} (read : r ≡ parentAt b (46 + 48 * k) .good) where
+  pub steps-end : {e : BodyEnd} {s : BodyStep} → r ≡ false → e ≡ endAt b (46 + 48 * k) → s ≡ endStep e → StepsBody b k s
   steps-end n e f = record {
     right = λ g l.
         let w = parent-stop b g k l read n in
         f ∙ ap endStep (e ∙ sym (end-author b k g (w .0) (w .1))) ∙ sym (last-step (header b) k (w .0));
   }
 
-  pub steps-crowd : {s : BodyStep} → r .good ≡ true → k ≡ most → s ≡ endStep Crowded → StepsBody b k s
+  pub steps-crowd : {s : BodyStep} → r ≡ true → k ≡ most → s ≡ endStep Crowded → StepsBody b k s
   steps-crowd t m f = record {
     right = λ g l.
         let w = parent-crowd b g k l read (omega (arith, m)) t in
         f ∙ ap endStep (sym (end-crowded (header b) (w .1))) ∙ sym (last-step (header b) k (w .0));
   }
 
-  pub steps-parent : r .good ≡ true → k < most → StepsBody b k (parentStep (r .id))
+  pub steps-parent : r ≡ true → k < most → StepsBody b k parentStep
   steps-parent t h = record {
-    right = λ g l.
-        let w = parent-taken b g k l read h t in
-        ap (λ (y : List ℕ). parentStep (record { bytes = y })) (w .1) ∙ sym (parent-step (header b) k (w .0));
+    right = λ g l. sym (parent-step (header b) k (parent-taken b g k l read h t));
   }
 
-  pub gives-body-parent : GivesBodyParent b k (r .id)
-  gives-body-parent = record {
-    right = λ g l. ap (λ (q : ParentLine). q .id .bytes) (read ∙ parent-read b g k l);
-  }
+pub gives-body-parent : (b : List ℕ) (k : ℕ) {r : ParentLine} → r ≡ parentAt b (46 + 48 * k) → GivesBodyParent b k (r .id)
+gives-body-parent b k read = record {
+  right = λ g l. ap (λ (q : ParentLine). q .id .bytes) (read ∙ parent-read b g k l);
+}
 
 pub gives-none : (b : List ℕ) (k : ℕ) (r : ObjectId) → most ≤ k → GivesBodyParent b k r
 gives-none b k r h = record { right = λ g l. absurd (omega (arith, header-lines b g .few)) }
@@ -97,13 +95,11 @@ gives-none b k r h = record { right = λ g l. absurd (omega (arith, header-lines
 -- ---- what a step tells who goes by it
 
 module _ (h : Header) (k : ℕ) {r : BodyStep} (e : r ≡ stepOf h k) where
-  pub step-taken : r .taken ≡ true → (k < length (h .ids)) × (r .id .bytes ≡ getD (h .ids) k [])
+  pub step-taken : r .taken ≡ true → k < length (h .ids)
   unfolding stepOf
   step-taken t =
       byCases (ltb k (length (h .ids)))
-      (λ l.
-      let m : k < length (h .ids) = ltb-true k (length (h .ids)) l in
-      (m, ap (λ (s : BodyStep). s .id .bytes) (e ∙ parent-step h k m)))
+      (λ l. ltb-true k (length (h .ids)) l)
       (λ l. clash t (ap (λ (s : BodyStep). s .taken) e ∙ rw l))
 
   pub step-ended : k ≤ length (h .ids) → r .taken ≡ false → (k ≡ length (h .ids)) × (r .ends ≡ endOf h)

@@ -4,9 +4,9 @@ use mathlib.Core.Path.{_≡_}
 use mathlib.Core.Bool.{true, false}
 use mathlib.Core.Option.{Option, none, some}
 use mathlib.Core.List.{List, []}
-use lib.ListN.{length, drop, getD, replicate}
+use lib.ListN.{length, drop, getD}
 use lib.Dec.{ltb}
-use Rattle.hash.specs.Bytes.{idBytes, pick}
+use Rattle.hash.specs.Bytes.{pick}
 use Rattle.object.specs.Header.{Header, header, isSome, authorLine}
 use Rattle.object.specs.declared.ObjectId.{ObjectId}
 use Rattle.walk.specs.declared.Refusal.{Refusal}
@@ -31,15 +31,15 @@ refusalOf Unreadable = some CommitUnreadable
 refusalOf Crowded = some TooManyParents
 
 -- a step that takes a parent, and one that ends the reading
-abbrev pub parentStep : ObjectId → BodyStep
-parentStep x = record { taken = true; id = x; ends = Whole }
+abbrev pub parentStep : BodyStep
+parentStep = record { taken = true; ends = Whole }
 
 abbrev pub endStep : BodyEnd → BodyStep
-endStep e = record { taken = false; id = record { bytes = replicate idBytes 0 }; ends = e }
+endStep e = record { taken = false; ends = e }
 
 -- the step after k parents
 unfoldable pub stepOf : Header → ℕ → BodyStep
-stepOf h k = pick (ltb k (length (h .ids))) (parentStep (record { bytes = getD (h .ids) k [] })) (endStep (endOf h))
+stepOf h k = pick (ltb k (length (h .ids))) parentStep (endStep (endOf h))
 
 -- what `body_step` answers after k parents of a body
 pub record StepsBody (b : List ℕ) (k : ℕ) (r : BodyStep) : Type 0 where

@@ -13,10 +13,9 @@ pub enum BodyEnd {
     Crowded,
 }
 
-// One step of the reading: the next parent; or there is none more, and the reading ends.
+// One step of the reading: there is a next parent, whose id `body_parent` gives; or there is none more, and the reading ends.
 pub struct BodyStep {
     pub taken: bool,
-    pub id: ObjectId,
     pub ends: BodyEnd,
 }
 
@@ -63,11 +62,7 @@ fn end_at(body: &[u8], at: usize) -> BodyEnd
 fn ended(ends: BodyEnd) -> BodyStep
     ensures { λ r. ⌜ r ≡ endStep ends ⌝ }
 {
-    BodyStep {
-        taken: false,
-        id: ObjectId { bytes: [0u8; 20] },
-        ends,
-    }
+    BodyStep { taken: false, ends }
 }
 
 // The step after k parents of a body with a good tree line.
@@ -78,17 +73,14 @@ pub fn body_step(body: &[u8], k: usize) -> BodyStep
         return ended(BodyEnd::Crowded);
     }
     let at = TREE_LINE + PARENT_LINE * k;
-    let read = object::parent_line(body, at);
-    if !read.good {
+    if !object::is_parent_line(body, at) {
         return ended(end_at(body, at));
     }
     if k == MOST_PARENTS {
         return ended(BodyEnd::Crowded);
     }
-    let id = read.id;
     BodyStep {
         taken: true,
-        id,
         ends: BodyEnd::Whole,
     }
 }

@@ -18,8 +18,8 @@ mul-at c = search needs
 add-at : tie.Need-add-at
 add-at c = search needs
 
-parent-line-requires : tie.Need-parent-line-requires
-parent-line-requires c κs = search needs
+is-parent-line-requires : tie.Need-is-parent-line-requires
+is-parent-line-requires c κs = search needs
 
 end-at-requires : tie.Need-end-at-requires
 end-at-requires c κs = search needs
@@ -28,16 +28,16 @@ ended-requires-2 : tie.Need-ended-requires-2
 ended-requires-2 c κs = search needs
 
 returns-2 : tie.Need-returns-2
-returns-2 c = let x = c .before .before .before .before .before .before .before .args in steps-end (x .body .now) (x .k) (c .before .before .before .before .parent-line .ensures) (not-true _ (c .before .before .if2 .taken)) (c .before .end-at .ensures) (c .ended2 .ensures)
+returns-2 c = let x = c .before .before .before .before .before .before .args in steps-end (x .body .now) (x .k) (c .before .before .before .is-parent-line .ensures) (not-true _ (c .before .before .if2 .taken)) (c .before .end-at .ensures) (c .ended2 .ensures)
 
 ended-requires-3 : tie.Need-ended-requires-3
 ended-requires-3 c κs = search needs
 
 returns-3 : tie.Need-returns-3
-returns-3 c = let x = c .before .before .before .before .before .before .before .args in steps-crowd (x .body .now) (x .k) (c .before .before .before .before .parent-line .ensures) (not-false _ (c .before .before .if2 .left)) (c .before .if3 .taken) (c .ended3 .ensures)
+returns-3 c = let x = c .before .before .before .before .before .before .args in steps-crowd (x .body .now) (x .k) (c .before .before .before .is-parent-line .ensures) (not-false _ (c .before .before .if2 .left)) (c .before .if3 .taken) (c .ended3 .ensures)
 
 returns-4 : tie.Need-returns-4
-returns-4 c = let x = c .before .before .before .before .before .before .before .args in steps-parent (x .body .now) (x .k) (c .before .before .before .before .parent-line .ensures) (not-false _ (c .before .before .if2 .left)) (omega arith)
+returns-4 c = let x = c .before .before .before .before .before .args in steps-parent (x .body .now) (x .k) (c .before .before .is-parent-line .ensures) (not-false _ (c .before .if2 .left)) (omega arith)
 
 pub body-step-spec : {M : Type 1} → statement M
 body-step-spec =
@@ -47,7 +47,7 @@ body-step-spec =
     returns
     mul-at
     add-at
-    parent-line-requires
+    is-parent-line-requires
     end-at-requires
     ended-requires-2
     returns-2
