@@ -4,14 +4,15 @@ use mathlib.Core.Logic.{_⊎_, inl, inr}
 use Prim.Native.Nat.{ℕ, _+_, _≤_, _<_}
 use mathlib.Core.Bool.{Bool, true, false}
 use mathlib.Core.List.{List}
-use native.Mathlib.Omega.{arith}
 use lib.IntN.{ℤ}
 use lib.ListN.{getD, set}
 use Rattle.hash.specs.Bytes.{Id}
+use Rattle.hash.proofs.Tests.{clash}
 use Rattle.commit.specs.declared.Cache.{Cache}
 use Rattle.hashtable.specs.Table.{Table}
 use Rattle.revwalk.specs.Pending.{Room, Pushes}
 use Rattle.revwalk.specs.declared.pending.Pending.{Pending}
+use Rattle.revwalk.specs.declared.pending.Pushed.{Pushed}
 use Rattle.walk.specs.Lookup.{World, Read, fail, read, pairOf}
 use Rattle.walk.specs.Painting.{Paint, mark}
 use Rattle.walk.specs.declared.GenThenTime.{GenThenTime}
@@ -80,12 +81,12 @@ module _ {names marks names′ marks′ : List ℕ} {cap : ℕ} {x : Id} {bits :
 
 -- ---- its slot is queued
 
-module _ {levels : List ℕ} {times : List ℤ} {slot : ℕ} {p q : Pending} {line line′ : List ℕ} (w : Pushes levels times slot p line q line′) where
-  pub was-queued : Queues levels times slot p line line′ (Going q)
+module _ {levels : List ℕ} {times : List ℤ} {slot : ℕ} {p : Pending} {line : List ℕ} {q : Pushed} {line′ : List ℕ} (w : Pushes levels times slot p line q line′) where
+  pub was-queued : Queues levels times slot p line line′ (Going (q .pending))
   was-queued = record { long = w .long; below = w .below; room = λ r. (q, refl, w .entered r) }
 
-  pub not-queued : p .start ≤ q .start → Queues levels times slot p line line′ NoRoom
-  not-queued h = record { long = w .long; below = w .below; room = λ r. absurd (omega (arith, w .entered r .start)) }
+  pub not-queued : q .done ≡ false → Queues levels times slot p line line′ NoRoom
+  not-queued h = record { long = w .long; below = w .below; room = λ r. clash (w .entered r .done) h }
 
 -- ---- all of it
 
@@ -105,7 +106,7 @@ module _ {c : Cache} {g s names marks levels : List ℕ} {times : List ℤ} {nam
         let e = v .room (has-room h (o .0) (o .1)) in
         subst
         (λ (a : Marked). Ends (worldUnder c g s) cap u p (lent names marks levels times line) (lent names′ marks′ levels′ times′ line′) a (mark (worldUnder c g s) (marksOf bits) x st))
-        (sym (e .1)) (goes-here h (o .0) (o .1) (e .2) (v .long) (v .below));
+        (sym (e .1)) (goes-here h (o .0) (o .1) (e .2) (v .below));
   }
 
   pub marks-unread : (n : Refusal) → d ≡ Unread n → Takes mark c g s cap (lent names marks levels times line) (lent names′ marks′ levels′ times′ line) p x bits (Stop n)

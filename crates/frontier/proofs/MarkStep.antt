@@ -1,6 +1,7 @@
 -- One commit gets marks. In the table the mark of its id changes and no other. Its slot has its pair: it was read before, and is as it
 -- was, or is read now. The queue gets the slot where the walk's queue gets the commit, because slots are set against each other as their
--- pairs are. Slots that were queued or read had a mark before, so nothing of theirs changes. Assumes nothing.
+-- pairs are. Slots that were queued or read had a mark before, so nothing of theirs changes, nor the
+-- order in which the queued ones leave. Assumes nothing.
 use mathlib.Core.Path.{_≡_, refl, sym, _∙_, ap, subst}
 use mathlib.Core.Logic.{_⊎_, inl, inr, ⊎-elim}
 use Prim.Native.Nat.{ℕ, suc, _-_, _≤_, _<_}
@@ -22,7 +23,8 @@ use Rattle.hashtable.proofs.TableRoom.{within, room}
 use Rattle.revwalk.specs.Order.{insertBy, In}
 use Rattle.revwalk.specs.Pending.{levelOf, secondsOf, ahead, slotsIn, Room, Entered}
 use Rattle.revwalk.specs.declared.pending.Pending.{Pending}
-use Rattle.revwalk.proofs.PendingLaws.{length-slots, few-room, map-agree, insert-map, pushed-all}
+use Rattle.revwalk.specs.declared.pending.Pushed.{Pushed}
+use Rattle.revwalk.proofs.PendingLaws.{few-room, map-agree, insert-map, pushed-all, slots-frame}
 use Rattle.walk.specs.Lookup.{World, Pair, ltPair, Read, fail, good, read}
 use Rattle.walk.specs.Painting.{Paint, Painting, stop, going, addPending, also, mark, markRead}
 use Rattle.walk.specs.State.{add}
@@ -229,34 +231,37 @@ module _ {w : World} {cap : ℕ} {u : List Id} {names marks levels : List ℕ} {
       pub has-room : Room p line
       has-room =
           let n = h .room (marked st x bits (pairAt levels′ times′ k)) is-marked in
-          few-room p line (h .reads .start) (h .reads .end)
-          (omega (arith, length-addPending (pairAt levels′ times′ k) x (st .pending), ap length (h .reads .queue), length-map (slotsIn p line) (entryAt names levels times)))
+          few-room levels times p line (h .reads .right)
+          (omega (arith, length-addPending (pairAt levels′ times′ k) x (st .pending), ap length (h .reads .queue), length-map (slotsIn levels times p line) (entryAt names levels times)))
 
-      module _ {line′ : List ℕ} {p′ : Pending} (e : Entered levels′ times′ k p line p′ line′) where
-        queue-now : addPending (pairAt levels′ times′ k) x (st .pending) ≡ map (entryAt names′ levels′ times′) (slotsIn p′ line′)
+      -- the slot had no mark of painting's where its pair is set down, so it did not wait, and those that wait are as they were
+      still-wait : slotsIn levels′ times′ p line ≡ slotsIn levels times p line
+      still-wait = slots-frame levels levels′ times times′ p line (λ s i. let o = h .reads .queued s i in (level-same g q s (o .1), time-same g q s (o .1)))
+
+      module _ {line′ : List ℕ} {d : Pushed} (e : Entered levels′ times′ k p line d line′) where
+        queue-now : addPending (pairAt levels′ times′ k) x (st .pending) ≡ map (entryAt names′ levels′ times′) (slotsIn levels′ times′ (d .pending) line′)
         queue-now =
             ap (addPending (pairAt levels′ times′ k) x) (h .reads .queue)
-            ∙ ap (λ (y : Id). addPending (pairAt levels′ times′ k) y (map (entryAt names levels times) (slotsIn p line))) (sym (g .holds .is))
+            ∙ ap (λ (y : Id). addPending (pairAt levels′ times′ k) y (map (entryAt names levels times) (slotsIn levels times p line))) (sym (g .holds .is))
             ∙ ap (addPending (pairAt levels′ times′ k) (idOf names′ k))
-            (sym (map-agree (entryAt names′ levels′ times′) (entryAt names levels times) (slotsIn p line)
+            (sym (map-agree (entryAt names′ levels′ times′) (entryAt names levels times) (slotsIn levels times p line)
             (λ s i. let o = h .reads .queued s i in entry-same g q s (o .0) (o .1))))
-            ∙ sym (insert-entries names′ levels′ times′ k (slotsIn p line))
+            ∙ sym (insert-entries names′ levels′ times′ k (slotsIn levels times p line))
+            ∙ ap (λ (l : List ℕ). map (entryAt names′ levels′ times′) (insertBy (ahead levels′ times′) k l)) (sym still-wait)
             ∙ ap (map (entryAt names′ levels′ times′)) (sym (e .slots))
 
-        marked-reads : length line′ ≡ length line → PaintReads w cap (lent names′ marks′ levels′ times′ line′) p′ (marked st x bits (pairAt levels′ times′ k))
-        marked-reads long = record {
+        marked-reads : PaintReads w cap (lent names′ marks′ levels′ times′ line′) (d .pending) (marked st x bits (pairAt levels′ times′ k))
+        marked-reads = record {
           table = g .table;
           for-levels = levels-long g q (h .reads .for-levels);
           for-times = times-long g q (h .reads .for-times);
-          base = omega (arith, has-room .free, e .base, e .start);
-          start = omega (arith, h .reads .start, e .start, e .end);
-          end = omega (arith, h .reads .end, e .end, long);
+          right = e .right;
           vis = gained-bit g visible visible-withBits (st .vis) (h .reads .vis);
           hid = gained-bit g hidden hidden-withBits (st .hid) (h .reads .hid);
           stale = gained-bit g stale stale-withBits (st .stale) (h .reads .stale);
           queue = queue-now;
           queued = pushed-all e (λ (s : ℕ). (s < cap) × (isPainted (getD marks′ s 0) ≡ true)) (g .holds .low, slot-painted g (h .some-mark))
-              (λ s i. let o = h .reads .queued s i in (o .0, stays-painted g (h .some-mark) s (o .1)));
+              (λ s i. let o = h .reads .queued s (subst (In s) still-wait i) in (o .0, stays-painted g (h .some-mark) s (o .1)));
           known = λ s l a.
               ⊎-elim (λ o. subst (λ (j : ℕ). IsKnown w names′ levels′ times′ j) (sym o) here)
               (λ n. let b : isPainted (getD marks s 0) ≡ true = ap isPainted (sym (g .apart s n)) ∙ a in still-known g q s l b (h .reads .known s l b))
@@ -264,12 +269,12 @@ module _ {w : World} {cap : ℕ} {u : List Id} {names marks levels : List ℕ} {
         }
 
         -- painting goes on
-        pub goes-here : length line′ ≡ length line → take (p .base) line′ ≡ take (p .base) line
-            → Goes w cap u p (lent names marks levels times line) (lent names′ marks′ levels′ times′ line′) p′ (mark w (marksOf bits) x st)
-        goes-here long below = record {
+        pub goes-here : take (p .base) line′ ≡ take (p .base) line
+            → Goes w cap u p (lent names marks levels times line) (lent names′ marks′ levels′ times′ line′) (d .pending) (mark w (marksOf bits) x st)
+        goes-here below = record {
           state = marked st x bits (pairAt levels′ times′ k);
           is = is-marked;
-          reads = marked-reads long;
+          reads = marked-reads;
           named = gained-named g levels levels′ times times′ line line′ u (h .in-u) (h .named);
           spares = gained-spares g (h .some-mark) levels levels′ times times′ line line′ (p .base) below;
           base = e .base;

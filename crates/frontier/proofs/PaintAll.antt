@@ -15,10 +15,10 @@ use Rattle.hashtable.specs.Marks.{visible, hidden, stale, seen}
 use Rattle.hashtable.specs.Table.{idOf, markFor}
 use Rattle.hashtable.proofs.MarksBits.{seen-live}
 use Rattle.revwalk.specs.Order.{In}
-use Rattle.revwalk.specs.Pending.{slotsIn}
+use Rattle.revwalk.specs.Pending.{slotsIn, Right}
 use Rattle.revwalk.specs.declared.pending.Pending.{Pending}
 use Rattle.revwalk.specs.declared.queue.Queue.{Queue}
-use Rattle.revwalk.proofs.PendingLaws.{empty-slots}
+use Rattle.revwalk.proofs.PendingLaws.{empty-slots, empty-right, lowered-right}
 use Rattle.revwalk.proofs.QueueGood.{good-size}
 use Rattle.revwalk.proofs.QueueSlots.{slots-low}
 use Rattle.walk.specs.Lookup.{World}
@@ -59,22 +59,20 @@ hidden-some : isPainted 2 ≡ true
 unfolding isPainted visible hidden
 hidden-some = refl
 
--- ---- the queue's memory may reach further down
+-- ---- the queue may stand elsewhere, and its memory reach further down
 
-rebased : {w : World} {cap : ℕ} {m : Lent} {p : Pending} {st : Paint} (base : ℕ) → base ≤ p .start → PaintReads w cap m p st
-    → PaintReads w cap m (record { base = base; start = p .start; end = p .end }) st
-rebased base h r = record {
+moved : {w : World} {cap : ℕ} {m : Lent} {p p′ : Pending} {st : Paint} → Right p′ (m .line) → slotsIn (m .levels) (m .times) p′ (m .line) ≡ slotsIn (m .levels) (m .times) p (m .line)
+    → PaintReads w cap m p st → PaintReads w cap m p′ st
+moved {m = m} h e r = record {
   table = r .table;
   for-levels = r .for-levels;
   for-times = r .for-times;
-  base = h;
-  start = r .start;
-  end = r .end;
+  right = h;
   vis = r .vis;
   hid = r .hid;
   stale = r .stale;
-  queue = r .queue;
-  queued = r .queued;
+  queue = r .queue ∙ ap (map (entryAt (m .names) (m .levels) (m .times))) (sym e);
+  queued = λ s i. r .queued s (subst (In s) e i);
   known = r .known;
 }
 
@@ -89,9 +87,9 @@ spares-less {m = m} {m′ = m′} base low h k = record {
 
 -- the queue while n slots stand below its memory
 abbrev pub runOf : ℕ → ℕ → Pending
-runOf cap n = record { base = 2 * cap + n; start = 5 * cap; end = 5 * cap }
+runOf cap n = record { base = 2 * cap + n; low = 2 * cap + n; high = 2 * cap + n; start = 5 * cap; end = 5 * cap }
 
-module _ (c : Cache) (g s : List ℕ) (cap : ℕ) (m m₁ m₂ m₃ : Lent) (n : ℕ) (hide : List Id) (r₁ r₂ r₃ : Marked) (few : n ≤ cap) where
+module _ (c : Cache) (g s : List ℕ) (cap : ℕ) (m m₁ m₂ m₃ : Lent) (n : ℕ) (hide : List Id) (r₁ r₂ r₃ : Marked) (large : 5 * cap ≤ length (m .line)) (few : n ≤ cap) where
   module _ (f : Files c g s) (u waiting : List Id) (h : MayStart (worldUnder c g s) cap u m n waiting hide) where
     abbrev w : World
     w = worldUnder c g s
@@ -101,9 +99,10 @@ module _ (c : Cache) (g s : List ℕ) (cap : ℕ) (m m₁ m₂ m₃ : Lent) (n :
     shown o =
         subst (λ (a : Marks). Ends w cap u (runOf cap n) m m₁ r₁ (markAll w a (sorted waiting) unpainted)) visible-is
         (subst (λ (xs : List Id). Ends w cap u (runOf cap n) m m₁ r₁ (markAll w (marksOf 1) xs unpainted)) (h .ids)
-        (o .right f u unpainted (record { fits = omega arith; inside = omega (arith, h .reads .end); taken = h .taken })
+        (o .right f u unpainted (record { fits = omega arith; inside = omega arith; taken = h .taken })
         (record {
-          reads = rebased (2 * cap + n) (omega arith) (h .reads);
+          reads = moved (empty-right (2 * cap + n) (5 * cap) (m .line) (omega arith) large)
+              (empty-slots (m .levels) (m .times) (runOf cap n) (m .line) (omega arith) ∙ sym (empty-slots (m .levels) (m .times) (startOf cap) (m .line) (omega arith))) (h .reads);
           named = h .named;
           in-u = λ x k. h .ample .waiting-in x (sorted-out waiting x (subst (λ (xs : List Id). List·Memᴰ x xs) (h .ids) k));
           some-mark = visible-some;
@@ -115,11 +114,11 @@ module _ (c : Cache) (g s : List ℕ) (cap : ℕ) (m m₁ m₂ m₃ : Lent) (n :
     hiding : (r : Marked) → Ends w cap u (runOf cap n) m m₁ r (markAll w VISIBLE (sorted waiting) unpainted) → AllTakenAfter markAll c g s cap m₁ m₂ (loweredTo (2 * cap) r) hide 2 r₂
         → Ends w cap u (startOf cap) m m₂ r₂ (then (markAll w VISIBLE (sorted waiting) unpainted) (λ st. markAll w HIDDEN hide st))
     hiding (Going p) gone o =
-        let low : Goes w cap u (startOf cap) m m₁ (record { base = 2 * cap; start = p .start; end = p .end }) (markAll w VISIBLE (sorted waiting) unpainted) =
+        let low : Goes w cap u (startOf cap) m m₁ (record { base = 2 * cap; low = p .low; high = p .high; start = p .start; end = p .end }) (markAll w VISIBLE (sorted waiting) unpainted) =
         record {
           state = gone .state;
           is = gone .is;
-          reads = rebased (2 * cap) (omega (arith, gone .reads .base, gone .base)) (gone .reads);
+          reads = moved (lowered-right (2 * cap) p (m₁ .line) (omega (arith, gone .base)) (gone .reads .right)) refl (gone .reads);
           named = gone .named;
           spares = spares-less (2 * cap + n) (2 * cap) (omega arith) (gone .spares);
           base = refl;
@@ -171,12 +170,12 @@ module _ (c : Cache) (g s : List ℕ) (cap : ℕ) (m m₁ m₂ m₃ : Lent) (n :
         }))
     turning NoRoom gone o = absurd gone
 
-pub paints-from : {c : Cache} {g s : List ℕ} {cap : ℕ} {m m₁ m₂ m₃ : Lent} {n : ℕ} {hide : List Id} {low r₁ r₂ r₃ : Marked} → n ≤ cap → MarksRun c g s cap m m₁ (runOf cap n) (2 * cap) n 1 r₁
+pub paints-from : {c : Cache} {g s : List ℕ} {cap : ℕ} {m m₁ m₂ m₃ : Lent} {n : ℕ} {hide : List Id} {low r₁ r₂ r₃ : Marked} → 5 * cap ≤ length (m .line) → n ≤ cap → MarksRun c g s cap m m₁ (runOf cap n) (2 * cap) n 1 r₁
     → low ≡ loweredTo (2 * cap) r₁ → TakesAllAfter markAll c g s cap m₁ m₂ low hide 2 r₂ → TakesTurnsAfter c g s cap m₂ m₃ r₂ (4 * cap) r₃ → PaintsFrom c g s cap m m₃ n hide r₃
-paints-from {c} {g} {s} {cap} {m} {m₁} {m₂} {m₃} {n} {hide} {low} {r₁} {r₂} {r₃} few a e b d = record {
+paints-from {c} {g} {s} {cap} {m} {m₁} {m₂} {m₃} {n} {hide} {low} {r₁} {r₂} {r₃} large few a e b d = record {
   right = λ f u waiting h.
-      turning c g s cap m m₁ m₂ m₃ n hide r₁ r₂ r₃ few f u waiting h r₂
-      (hiding c g s cap m m₁ m₂ m₃ n hide r₁ r₂ r₃ few f u waiting h r₁ (shown c g s cap m m₁ m₂ m₃ n hide r₁ r₂ r₃ few f u waiting h a)
+      turning c g s cap m m₁ m₂ m₃ n hide r₁ r₂ r₃ large few f u waiting h r₂
+      (hiding c g s cap m m₁ m₂ m₃ n hide r₁ r₂ r₃ large few f u waiting h r₁ (shown c g s cap m m₁ m₂ m₃ n hide r₁ r₂ r₃ large few f u waiting h a)
       (subst (λ (q : Marked). AllTakenAfter markAll c g s cap m₁ m₂ q hide 2 r₂) e (b .does)))
       (d .does);
 }
@@ -204,8 +203,8 @@ module _ {w : World} {cap : ℕ} {u : List Id} {names marks levels : List ℕ} {
   no-mark : (x : Id) → isPainted (markFor false names (washed cap marks) cap x) ≡ false
   no-mark x = ap isPainted (wash-mark (h .table) (h .only-seen) x) ∙ high-painted (markFor false names marks cap x)
 
-  none-queued : slotsIn (startOf cap) line′ ≡ []
-  none-queued = empty-slots (startOf cap) line′ (omega arith)
+  none-queued : slotsIn levels times (startOf cap) line′ ≡ []
+  none-queued = empty-slots levels times (startOf cap) line′ (omega arith)
 
   slot-clean : (s : ℕ) → s < cap → isPainted (getD (washed cap marks) s 0) ≡ false
   slot-clean s l = ap isPainted (washed-low cap marks s l) ∙ high-painted (getD marks s 0)
@@ -216,9 +215,7 @@ module _ {w : World} {cap : ℕ} {u : List Id} {names marks levels : List ℕ} {
     table = wash-table (h .table) (h .only-seen);
     for-levels = h .for-levels;
     for-times = h .for-times;
-    base = omega arith;
-    start = omega arith;
-    end = omega (arith, h .for-line, o .long);
+    right = empty-right (2 * cap) (5 * cap) line′ (omega arith) (omega (arith, h .for-line, o .long));
     vis = λ x. sym (clean-visible (markFor false names (washed cap marks) cap x) (no-mark x));
     hid = λ x. sym (clean-hidden (markFor false names (washed cap marks) cap x) (no-mark x));
     stale = λ x. sym (clean-stale (markFor false names (washed cap marks) cap x) (no-mark x));

@@ -17,10 +17,10 @@ use Rattle.hashtable.specs.Marks.{visible, hidden, stale}
 use Rattle.hashtable.specs.Table.{idOf, markFor}
 use Rattle.hashtable.proofs.TableIds.{less?, width-of}
 use Rattle.hashtable.proofs.TableView.{mark-held}
-use Rattle.revwalk.specs.Pending.{slotsIn, Waits, Took, Pops, staleAt, fresh as anyFresh}
+use Rattle.revwalk.specs.Pending.{slotsIn, waiting, Took, Pops, staleAt}
 use Rattle.revwalk.specs.declared.pending.Pending.{Pending}
 use Rattle.revwalk.specs.declared.pending.Taken.{Taken}
-use Rattle.revwalk.proofs.PendingLaws.{empty-slots, fresh-map, taken-in}
+use Rattle.revwalk.proofs.PendingLaws.{empty-slots, fresh-map, fresh-slots, taken-in}
 use Rattle.walk.specs.Lookup.{World, Pair, read, parentsOf}
 use Rattle.walk.specs.Painting.{Paint, Painting, stop, going, then, Marks, pass, passed, withPending, fresh, turn, turns}
 use Rattle.walk.specs.declared.Refusal.{Refusal}
@@ -34,7 +34,7 @@ use Rattle.frontier.specs.declared.marking.Marked.the-variants.{Going, S
 use Rattle.frontier.specs.Bits.{isPainted, marksOf, passedBits}
 use Rattle.frontier.specs.Paint.{Lent, Files, entryAt, PaintReads, Named, Goes, Stops, Ends}
 use Rattle.frontier.specs.Lists.{PassesAll}
-use Rattle.frontier.specs.Turns.{TurnFits, MayTurn, TakesTurn, TurnTakenAfter, TakesTurnAfter, dueAfter, MayTurns, TakesTurns, TurnsTakenAfter, TakesTurnsAfter}
+use Rattle.frontier.specs.Turns.{TurnFits, MayTurn, TakesTurn, TurnTakenAfter, TakesTurnAfter, anyLacking, dueAfter, MayTurns, TakesTurns, TurnsTakenAfter, TakesTurnsAfter}
 use Rattle.frontier.proofs.PaintBits.{painted-live, visible-passed, hidden-passed, stale-passed, painted-passed}
 use Rattle.frontier.proofs.MarkStep.{spares-none}
 use Rattle.frontier.proofs.Steps.{ends-then, goes-still, then-is, then-stop, then-going, then-both, Long, long-none, long-then}
@@ -54,10 +54,11 @@ module _ {w : World} {cap : ℕ} {m : Lent} {p : Pending} {st : Paint} (r : Pain
   id-mark : (s : ℕ) → s < cap → isPainted (getD (m .marks) s 0) ≡ true → markFor false (m .names) (m .marks) cap (idOf (m .names) s) ≡ getD (m .marks) s 0
   id-mark s l h = mark-held (r .table) s (record { low = l; alive = painted-live (getD (m .marks) s 0) h; is = refl })
 
-  pub fresh-is : anyFresh (staleAt (m .marks)) (slotsIn p (m .line)) ≡ fresh (st .stale) (st .pending)
+  pub fresh-is : anyLacking (m .marks) (m .line) p ≡ fresh (st .stale) (st .pending)
   fresh-is =
-      fresh-map (entryAt (m .names) (m .levels) (m .times)) (staleAt (m .marks)) (λ q. st .stale (q .1)) (λ l. fresh (st .stale) l) (fresh-nil (st .stale)) (fresh-cons (st .stale))
-      (slotsIn p (m .line))
+      sym (fresh-slots (staleAt (m .marks)) (m .levels) (m .times) p (m .line))
+      ∙ fresh-map (entryAt (m .names) (m .levels) (m .times)) (staleAt (m .marks)) (λ q. st .stale (q .1)) (λ l. fresh (st .stale) l) (fresh-nil (st .stale)) (fresh-cons (st .stale))
+      (slotsIn (m .levels) (m .times) p (m .line))
       (λ y i.
       let o = r .queued y i in
       ap stale (sym (id-mark y (o .0) (o .1))) ∙ sym (r .stale (idOf (m .names) y)))
@@ -91,9 +92,9 @@ turn-empty : (w : World) (st : Paint) → turn w st [] ≡ going st
 unfolding turn
 turn-empty w st = refl
 
-module _ {w : World} {cap : ℕ} {m : Lent} {p : Pending} {st : Paint} {t : Taken} (r : PaintReads w cap m p st) (v : Waits p (m .line)) (e : Took p (m .line) t) where
+module _ {w : World} {cap : ℕ} {m : Lent} {p : Pending} {st : Paint} {t : Taken} (r : PaintReads w cap m p st) (e : Took (m .levels) (m .times) p (m .line) t) where
   abbrev rest : List (Pair × Id)
-  rest = map (entryAt (m .names) (m .levels) (m .times)) (slotsIn (t .pending) (m .line))
+  rest = map (entryAt (m .names) (m .levels) (m .times)) (slotsIn (m .levels) (m .times) (t .pending) (m .line))
 
   first-is : st .pending ≡ entryAt (m .names) (m .levels) (m .times) (t .slot) ∷ rest
   first-is = r .queue ∙ ap (map (entryAt (m .names) (m .levels) (m .times))) (e .slots)
@@ -104,9 +105,7 @@ module _ {w : World} {cap : ℕ} {m : Lent} {p : Pending} {st : Paint} {t : Take
     table = r .table;
     for-levels = r .for-levels;
     for-times = r .for-times;
-    base = omega (arith, r .base, e .base, e .start);
-    start = omega (arith, v .some, e .start, e .end);
-    end = omega (arith, r .end, e .end);
+    right = e .right;
     vis = r .vis;
     hid = r .hid;
     stale = r .stale;
@@ -118,24 +117,23 @@ module _ {w : World} {cap : ℕ} {m : Lent} {p : Pending} {st : Paint} {t : Take
   turn-is : turn w st (st .pending) ≡ pass w (passed st (idOf (m .names) (t .slot))) (parentsOf (read w (idOf (m .names) (t .slot)))) (withPending rest st)
   turn-is = ap (turn w st) first-is ∙ turn-first w st (entryAt (m .names) (m .levels) (m .times) (t .slot)) rest
 
-module _ {c : Cache} {g s : List ℕ} {cap : ℕ} {m : Lent} {p : Pending} {t : Taken} (v : Pops p (m .line) t) where
+module _ {c : Cache} {g s : List ℕ} {cap : ℕ} {m : Lent} {p : Pending} {t : Taken} (v : Pops (m .levels) (m .times) p (m .line) t) where
   pub turn-some : {m′ : Lent} {d : Commit} {y : Id} {n b : ℕ} {r : Marked} → t .found ≡ true → n ≡ getD (m .marks) (t .slot) 0 → b ≡ passedBits n → y ≡ padded (idOf (m .names) (t .slot))
       → ReadsCommit c g s y d → PassesAll c g s cap m m′ (t .pending) d b r → TakesTurn c g s cap m m′ p r
   turn-some {m′} {d} {y} {n} {b} {r} fd en eb ey rd o = record {
     right = λ f u st h.
-        let a = v .waits fd in
-        let e = v .took a in
+        let e = v .took (v .waits fd) in
         let i = h .reads .queued (t .slot) (taken-in e (t .slot) (inl refl)) in
         let x : Id = idOf (m .names) (t .slot) in
         let ex : y ≡ idOf (m .names) (t .slot) = ey ∙ padded-id (idOf (m .names) (t .slot)) (width-of (t .slot) (h .reads .table .sized) (i .0)) in
         let ebits : b ≡ passedBits (getD (m .marks) (t .slot) 0) = eb ∙ ap passedBits en in
         let k : passed st (idOf (m .names) (t .slot)) ≡ marksOf b = passed-is (h .reads) (t .slot) (i .0) (i .1) ∙ ap marksOf (sym ebits) in
-        let st′ : Paint = withPending (rest (h .reads) a e) st in
-        let gone : Goes (worldUnder c g s) cap u p m m (t .pending) (going (withPending (rest (h .reads) a e) st)) =
+        let st′ : Paint = withPending (rest (h .reads) e) st in
+        let gone : Goes (worldUnder c g s) cap u p m m (t .pending) (going (withPending (rest (h .reads) e) st)) =
         record {
-          state = withPending (rest (h .reads) a e) st;
+          state = withPending (rest (h .reads) e) st;
           is = refl;
-          reads = rest-reads (h .reads) a e;
+          reads = rest-reads (h .reads) e;
           named = h .named;
           spares = spares-none cap (p .base) m;
           base = e .base;
@@ -143,19 +141,19 @@ module _ {c : Cache} {g s : List ℕ} {cap : ℕ} {m : Lent} {p : Pending} {t : 
         } in
         ends-then m′ r gone
         (ap
-        (λ (z : Marks). pass (worldUnder c g s) z (parentsOf (read (worldUnder c g s) (idOf (m .names) (t .slot)))) (withPending (rest (h .reads) a e) st)) (sym k)
-        ∙ sym (turn-is (h .reads) a e))
-        (o .right f (idOf (m .names) (t .slot)) (subst (λ (z : Id). IsRead c g s z d) ex (rd .right (f .store-ok) (f .graph-ok))) u (withPending (rest (h .reads) a e) st)
+        (λ (z : Marks). pass (worldUnder c g s) z (parentsOf (read (worldUnder c g s) (idOf (m .names) (t .slot)))) (withPending (rest (h .reads) e) st)) (sym k)
+        ∙ sym (turn-is (h .reads) e))
+        (o .right f (idOf (m .names) (t .slot)) (subst (λ (z : Id). IsRead c g s z d) ex (rd .right (f .store-ok) (f .graph-ok))) u (withPending (rest (h .reads) e) st)
         (record {
-          reads = rest-reads (h .reads) a e;
+          reads = rest-reads (h .reads) e;
           named = h .named;
           in-u = h .parents-in (idOf (m .names) (t .slot));
           some-mark = ap isPainted ebits ∙ painted-passed (getD (m .marks) (t .slot) 0) (i .1);
           room = λ j st″ q.
               omega (
                 arith,
-                h .room (entryAt (m .names) (m .levels) (m .times) (t .slot)) (rest (h .reads) a e) (first-is (h .reads) a e) j st″
-                    (ap (λ (z : Marks). pass (worldUnder c g s) z (take j (parentsOf (read (worldUnder c g s) (idOf (m .names) (t .slot))))) (withPending (rest (h .reads) a e) st)) k ∙ q),
+                h .room (entryAt (m .names) (m .levels) (m .times) (t .slot)) (rest (h .reads) e) (first-is (h .reads) e) j st″
+                    (ap (λ (z : Marks). pass (worldUnder c g s) z (take j (parentsOf (read (worldUnder c g s) (idOf (m .names) (t .slot))))) (withPending (rest (h .reads) e) st)) k ∙ q),
                 e .base,
                 e .end,
               );
@@ -165,8 +163,8 @@ module _ {c : Cache} {g s : List ℕ} {cap : ℕ} {m : Lent} {p : Pending} {t : 
   pub turn-none : t .found ≡ false → TakesTurn c g s cap m m p (Going p)
   turn-none fd = record {
     right = λ f u st h.
-        let l : p .end ≤ p .start = ⊎-elim (λ k. clash (v .took (record { some = k; inside = h .reads .end }) .found) fd) (λ k. k) (less? (p .start) (p .end)) in
-        let e : st .pending ≡ [] = h .reads .queue ∙ ap (map (entryAt (m .names) (m .levels) (m .times))) (empty-slots p (m .line) l) in
+        let l : waiting p ≡ 0 = ⊎-elim (λ k. clash (v .took (record { right = h .reads .right; some = k }) .found) fd) (λ k. omega (arith, k)) (less? 0 (waiting p)) in
+        let e : st .pending ≡ [] = h .reads .queue ∙ ap (map (entryAt (m .names) (m .levels) (m .times))) (empty-slots (m .levels) (m .times) p (m .line) l) in
         goes-still (ap (turn (worldUnder c g s) st) e ∙ turn-empty (worldUnder c g s) st) (h .reads) (h .named);
   }
 
@@ -197,19 +195,19 @@ turns-add w (suc i) d st =
 
 -- ---- the loop
 
-due-some : (marks line : List ℕ) (left : ℕ) (p : Pending) → dueAfter marks line left (Going p) ≡ true → (0 < left) × (anyFresh (staleAt marks) (slotsIn p line) ≡ true)
+due-some : (marks line : List ℕ) (left : ℕ) (p : Pending) → dueAfter marks line left (Going p) ≡ true → (0 < left) × (anyLacking marks line p ≡ true)
 due-some marks line left p e =
-    (ltb-true 0 left (guard-test (ltb 0 left) (anyFresh (staleAt marks) (slotsIn p line)) e), guarded (ltb 0 left) (anyFresh (staleAt marks) (slotsIn p line)) e)
+    (ltb-true 0 left (guard-test (ltb 0 left) (anyLacking marks line p) e), guarded (ltb 0 left) (anyLacking marks line p) e)
 
 due-left : (marks line : List ℕ) (left : ℕ) (r : Marked) → dueAfter marks line left r ≡ true → 0 < left
 due-left marks line left (Going p) e = due-some marks line left p e .0
 due-left marks line left (Stop n) e = clash e refl
 due-left marks line left NoRoom e = clash e refl
 
-due-none : (marks line : List ℕ) (left : ℕ) (p : Pending) → dueAfter marks line left (Going p) ≡ false → (left ≡ 0) ⊎ (anyFresh (staleAt marks) (slotsIn p line) ≡ false)
+due-none : (marks line : List ℕ) (left : ℕ) (p : Pending) → dueAfter marks line left (Going p) ≡ false → (left ≡ 0) ⊎ (anyLacking marks line p ≡ false)
 due-none marks line left p e =
     byCases (ltb 0 left)
-    (λ h. inr (sym (ap (λ (b : Bool). cond b (anyFresh (staleAt marks) (slotsIn p line)) false) h) ∙ e))
+    (λ h. inr (sym (ap (λ (b : Bool). cond b (anyLacking marks line p) false) h) ∙ e))
     (λ h. inl (omega (arith, ltb-false 0 left h)))
 
 -- painting has come to the memory m and the answer r after i turns

@@ -12,6 +12,7 @@ use Rattle.hashtable.specs.Table.{Table, markFor, Finds}
 use Rattle.hashtable.specs.declared.table.Slot.the-variants.{Full as TableFull}
 use Rattle.revwalk.specs.Pending.{Room, Entered}
 use Rattle.revwalk.specs.declared.pending.Pending.{Pending}
+use Rattle.revwalk.specs.declared.pending.Pushed.{Pushed}
 use Rattle.walk.specs.Lookup.{World, Pair, fail, good, read}
 use Rattle.walk.specs.Painting.{Paint, Painting, going, Marks, mark, lacks}
 use Rattle.reading.specs.Files.{worldUnder}
@@ -66,7 +67,7 @@ pub record Places (c : Cache) (g s names marks levels : List ℕ) (times : List 
 pub record Queues (levels : List ℕ) (times : List ℤ) (slot : ℕ) (p : Pending) (line line′ : List ℕ) (r : Marked) : Type 0 where
   pub long : length line′ ≡ length line
   pub below : take (p .base) line′ ≡ take (p .base) line
-  pub room : Room p line → (p′ : Pending) × (r ≡ Going p′) × Entered levels times slot p line p′ line′
+  pub room : Room p line → (q : Pushed) × (r ≡ Going (q .pending)) × Entered levels times slot p line q line′
 
 -- ---- all of it
 

@@ -13,7 +13,7 @@ use Rattle.commit.specs.declared.Cache.{Cache}
 use Rattle.hashtable.specs.Marks.{visible, hidden, stale, seen}
 use Rattle.hashtable.specs.Table.{idOf, liveAt, Table, markFor, has}
 use Rattle.revwalk.specs.Order.{In}
-use Rattle.revwalk.specs.Pending.{levelOf, secondsOf, slotsIn}
+use Rattle.revwalk.specs.Pending.{levelOf, secondsOf, slotsIn, Right}
 use Rattle.revwalk.specs.declared.pending.Pending.{Pending}
 use Rattle.walk.specs.Lookup.{World, Pair, good, read}
 use Rattle.walk.specs.Painting.{Paint, Painting, stop, going}
@@ -58,14 +58,12 @@ pub record PaintReads (w : World) (cap : ℕ) (m : Lent) (p : Pending) (st : Pai
   pub table : Table false (m .names) (m .marks) cap
   pub for-levels : cap ≤ length (m .levels)
   pub for-times : cap ≤ length (m .times)
-  pub base : p .base ≤ p .start
-  pub start : p .start ≤ p .end
-  pub end : p .end ≤ length (m .line)
+  pub right : Right p (m .line)
   pub vis : (x : Id) → st .vis x ≡ has false (m .names) (m .marks) cap visible x
   pub hid : (x : Id) → st .hid x ≡ has false (m .names) (m .marks) cap hidden x
   pub stale : (x : Id) → st .stale x ≡ has false (m .names) (m .marks) cap stale x
-  pub queue : st .pending ≡ map (entryAt (m .names) (m .levels) (m .times)) (slotsIn p (m .line))
-  pub queued : (s : ℕ) → In s (slotsIn p (m .line)) → (s < cap) × (isPainted (getD (m .marks) s 0) ≡ true)
+  pub queue : st .pending ≡ map (entryAt (m .names) (m .levels) (m .times)) (slotsIn (m .levels) (m .times) p (m .line))
+  pub queued : (s : ℕ) → In s (slotsIn (m .levels) (m .times) p (m .line)) → (s < cap) × (isPainted (getD (m .marks) s 0) ≡ true)
   pub known : (s : ℕ) → s < cap → isPainted (getD (m .marks) s 0) ≡ true → IsKnown w (m .names) (m .levels) (m .times) s
 
 -- what painting leaves as it was: which ids are seen, the ids in the slots that are taken, and the line below the queue's memory

@@ -23,13 +23,13 @@ use Rattle.frontier.specs.Lists.{idsIn}
 
 -- an answer whose queue may reach down to another place
 abbrev pub loweredTo : ℕ → Marked → Marked
-loweredTo base (Going p) = Going (record { base = base; start = p .start; end = p .end })
+loweredTo base (Going p) = Going (record { base = base; low = p .low; high = p .high; start = p .start; end = p .end })
 loweredTo base (Stop n) = Stop n
 loweredTo base NoRoom = NoRoom
 
 -- painting's queue, empty, in line[2 · cap .. 5 · cap)
 abbrev pub startOf : ℕ → Pending
-startOf cap = record { base = 2 * cap; start = 5 * cap; end = 5 * cap }
+startOf cap = record { base = 2 * cap; low = 2 * cap; high = 2 * cap; start = 5 * cap; end = 5 * cap }
 
 -- cap slots are enough: for the two lists and every id that is a parent, repeats counted; and u has them all
 pub record Ample (w : World) (cap : ℕ) (u waiting hidden : List Id) : Type 0 where

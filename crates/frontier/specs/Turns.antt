@@ -2,12 +2,12 @@
 use Prim.Native.Nat.{ℕ, _-_}
 use mathlib.Core.Path.{_≡_}
 use mathlib.Core.Bool.{Bool, true, false, cond}
-use mathlib.Core.List.{List, _∷_, List·Memᴰ}
+use mathlib.Core.List.{List, _∷_, _++_, List·Memᴰ}
 use lib.ListN.{take}
 use lib.Dec.{ltb}
 use Rattle.hash.specs.Bytes.{Id}
 use Rattle.commit.specs.declared.Cache.{Cache}
-use Rattle.revwalk.specs.Pending.{staleAt, slotsIn, fresh as anyFresh}
+use Rattle.revwalk.specs.Pending.{staleAt, olderIn, youngerIn, fresh as anyFresh}
 use Rattle.revwalk.specs.declared.pending.Pending.{Pending}
 use Rattle.walk.specs.Lookup.{World, Pair, read, parentsOf}
 use Rattle.walk.specs.Painting.{Paint, Painting, going, pass, passed, withPending, fresh, turn, turns}
@@ -42,9 +42,13 @@ TurnTakenAfter c g s cap m m′ NoRoom r = (m′ ≡ m) × (r ≡ NoRoom)
 pub record TakesTurnAfter (c : Cache) (g s : List ℕ) (cap : ℕ) (m m′ : Lent) (past r : Marked) : Type 0 where
   pub does : TurnTakenAfter c g s cap m m′ past r
 
--- another turn is due after an answer: some are left, painting goes on, and "a queued commit lacks STALE"
+-- "a queued commit lacks STALE": one of the younger or of the older slots that wait
+abbrev pub anyLacking : List ℕ → List ℕ → Pending → Bool
+anyLacking marks line p = anyFresh (staleAt marks) (youngerIn p line ++ olderIn p line)
+
+-- another turn is due after an answer: some are left, painting goes on, and a queued commit lacks STALE
 abbrev pub dueAfter : List ℕ → List ℕ → ℕ → Marked → Bool
-dueAfter marks line left (Going p) = cond (ltb 0 left) (anyFresh (staleAt marks) (slotsIn p line)) false
+dueAfter marks line left (Going p) = cond (ltb 0 left) (anyLacking marks line p) false
 dueAfter marks line left (Stop n) = false
 dueAfter marks line left NoRoom = false
 

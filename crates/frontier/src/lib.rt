@@ -28,6 +28,8 @@ fn lowered(past: Marked, base: usize) -> Marked
     match past {
         Marked::Going(p) => Marked::Going(Pending {
             base,
+            low: p.low,
+            high: p.high,
             start: p.start,
             end: p.end,
         }),
@@ -57,8 +59,11 @@ fn paint_from(
     let from = 2 * cap;
     let end = 5 * cap;
     let most = 4 * cap;
+    let base = from + n;
     let p = Pending {
-        base: from + n,
+        base,
+        low: base,
+        high: base,
         start: end,
         end,
     };

@@ -79,8 +79,9 @@ fn queue_slot(p: Pending, line: &mut [u32], levels: &[u32], times: &[i64], slot:
     ensures { λ r. ⌜ Queues (now (levels .entry)) (now (times .entry)) slot p (now (line .entry)) (now (line .exit)) r ⌝ }
 {
     let q = pending::push(p, line, levels, times, slot);
-    if q.start < p.start {
-        Marked::Going(q)
+    let after = q.pending;
+    if q.done {
+        Marked::Going(after)
     } else {
         Marked::NoRoom
     }

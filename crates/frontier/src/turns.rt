@@ -25,7 +25,7 @@ pub fn turn(
 ) -> Marked
     ensures { λ r. ⌜ TakesTurn cache (now (graph .entry)) (now (store .entry)) cap (lent (now (names .entry)) (now (marks .entry)) (now (levels .entry)) (now (times .entry)) (now (line .entry))) (lent (now (names .exit)) (now (marks .exit)) (now (levels .exit)) (now (times .exit)) (now (line .exit))) p r ⌝ }
 {
-    let t = pending::pop(p, line);
+    let t = pending::pop(p, line, levels, times);
     if t.found {
         let slot = t.slot;
         let rest = t.pending;

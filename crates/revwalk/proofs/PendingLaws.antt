@@ -1,82 +1,82 @@
 -- For callers of painting's queue: its length and members, the empty queue, what may change elsewhere, and how it stands to a queue
--- of other things than slots. Assumes nothing.
+-- of other things than slots. Each follows from what merging two runs keeps. Assumes nothing.
 use mathlib.Core.Path.{_≡_, refl, sym, ap, _∙_, subst}
 use mathlib.Core.Logic.{_⊎_, inl, inr, ⊎-elim}
-use mathlib.Core.List.{List, [], _∷_, map}
+use mathlib.Core.List.{List, [], _∷_, _++_, map}
 use mathlib.Core.Bool.{Bool, true, false, cond, not}
-use Prim.Native.Nat.{ℕ, suc, _+_, _-_, _≤_, _<_, min}
+use Prim.Native.Nat.{ℕ, suc, _+_, _-_, _≤_, _<_}
 use native.Mathlib.Omega.{arith}
 use lib.IntN.{ℤ}
-use lib.ListN.{length, take, drop, getD, set, length-take, length-drop, length-set}
-use lib.Seq.{slice, length-slice, take-take, drop-drop, getD-take, getD-drop, getD-set-other, ext-getD}
+use lib.ListN.{length, take, drop, getD, set}
+use lib.Seq.{slice, length-slice, take-take, drop-drop, getD-take, getD-set-other}
 use Rattle.hash.specs.Bytes.{Id, ltId}
-use Rattle.hash.proofs.Tests.{clash}
+use Rattle.hashtable.specs.Table.{idOf}
 use Rattle.revwalk.specs.declared.pending.Pending.{Pending}
+use Rattle.revwalk.specs.declared.pending.Pushed.{Pushed}
 use Rattle.revwalk.specs.declared.pending.Taken.{Taken}
 use Rattle.revwalk.specs.Order.{insertBy, In}
-use Rattle.hashtable.specs.Table.{idOf}
-use Rattle.revwalk.specs.Pending.{ahead, notAbove, slotsIn, Room, Entered, Waits, Took, fresh}
-use Rattle.revwalk.proofs.QueueSorts.{in-insert, insert-in, insert-agree, length-insert}
+use Rattle.revwalk.specs.Pending.{levelOf, secondsOf, ahead, notAbove, olderIn, youngerIn, slotsIn, waiting, Right, Room, Entered, Took, fresh}
+use Rattle.revwalk.proofs.QueueSorts.{in-insert, insert-in, length-insert}
+use Rattle.revwalk.proofs.PendingOrder.{ahead-agree}
 use Rattle.revwalk.proofs.PendingInsert.{slice-none, slice-first}
+use Rattle.revwalk.proofs.PendingMerge.{merge-none, length-merge, merge-in, merge-agree, fresh-merge}
 
--- ---- length, and the empty queue
+-- ---- length, the empty queue, and where it may stand
 
-pub length-slots : (p : Pending) (line : List ℕ) → p .end ≤ length line → length (slotsIn p line) ≡ p .end - p .start
-length-slots p line h = length-slice (p .start) (p .end) line h
+module _ (levels : List ℕ) (times : List ℤ) (p : Pending) (line : List ℕ) where
+  pub length-slots : Right p line → length (slotsIn levels times p line) ≡ waiting p
+  length-slots r =
+      let a : p .high ≤ length line = omega (arith, r .apart, r .start, r .end) in
+      length-merge (ahead levels times) (olderIn p line) (youngerIn p line)
+      ∙ rw (length-slice (p .low) (p .high) line a, length-slice (p .start) (p .end) line (r .end))
 
-pub empty-slots : (p : Pending) (line : List ℕ) → p .end ≤ p .start → slotsIn p line ≡ []
-empty-slots p line h = slice-none (p .start) (p .end) line h
+  pub empty-slots : waiting p ≡ 0 → slotsIn levels times p line ≡ []
+  empty-slots e =
+      let a : p .high ≤ p .low = omega arith in
+      let b : p .end ≤ p .start = omega arith in
+      rw (slice-none (p .low) (p .high) line a, slice-none (p .start) (p .end) line b) (merge-none (ahead levels times) [])
+
+  -- fewer wait than there are places
+  pub few-room : Right p line → length (slotsIn levels times p line) < p .end - p .base → Room p line
+  few-room r l = record { right = r; free = omega (arith, length-slots r) }
+
+pub lowered-right : (b : ℕ) (p : Pending) (line : List ℕ) → b ≤ p .base → Right p line → Right (record { base = b; low = p .low; high = p .high; start = p .start; end = p .end }) line
+lowered-right b p line h r = record { base = omega (arith, r .base); low = r .low; apart = r .apart; start = r .start; end = r .end }
+
+pub empty-right : (b e : ℕ) (line : List ℕ) → b ≤ e → e ≤ length line → Right (record { base = b; low = b; high = b; start = e; end = e }) line
+empty-right b e line h k = record { base = omega arith; low = omega arith; apart = omega arith; start = omega arith; end = k }
 
 -- ---- members
 
-module _ {levels : List ℕ} {times : List ℤ} {x : ℕ} {p p′ : Pending} {line line′ : List ℕ} (e : Entered levels times x p line p′ line′) where
-  pub length-pushed : length (slotsIn p′ line′) ≡ suc (length (slotsIn p line))
-  length-pushed = ap length (e .slots) ∙ length-insert (ahead levels times) x (slotsIn p line)
+module _ {levels : List ℕ} {times : List ℤ} {x : ℕ} {p : Pending} {line : List ℕ} {r : Pushed} {line′ : List ℕ} (e : Entered levels times x p line r line′) where
+  pub length-pushed : length (slotsIn levels times (r .pending) line′) ≡ suc (length (slotsIn levels times p line))
+  length-pushed = ap length (e .slots) ∙ length-insert (ahead levels times) x (slotsIn levels times p line)
 
-  pub in-pushed : (z : ℕ) → In z (slotsIn p′ line′) → (z ≡ x) ⊎ In z (slotsIn p line)
-  in-pushed z h = in-insert (ahead levels times) x z (slotsIn p line) (subst (In z) (e .slots) h)
+  pub in-pushed : (z : ℕ) → In z (slotsIn levels times (r .pending) line′) → (z ≡ x) ⊎ In z (slotsIn levels times p line)
+  in-pushed z h = in-insert (ahead levels times) x z (slotsIn levels times p line) (subst (In z) (e .slots) h)
 
-  pub pushed-in : (z : ℕ) → (z ≡ x) ⊎ In z (slotsIn p line) → In z (slotsIn p′ line′)
-  pushed-in z h = subst (In z) (sym (e .slots)) (insert-in (ahead levels times) x z (slotsIn p line) h)
+  pub pushed-in : (z : ℕ) → (z ≡ x) ⊎ In z (slotsIn levels times p line) → In z (slotsIn levels times (r .pending) line′)
+  pushed-in z h = subst (In z) (sym (e .slots)) (insert-in (ahead levels times) x z (slotsIn levels times p line) h)
 
   -- what holds of the new slot and of all that wait holds of all that wait then
-  pub pushed-all : (P : ℕ → Type 0) → P x → ((z : ℕ) → In z (slotsIn p line) → P z) → (z : ℕ) → In z (slotsIn p′ line′) → P z
+  pub pushed-all : (P : ℕ → Type 0) → P x → ((z : ℕ) → In z (slotsIn levels times p line) → P z) → (z : ℕ) → In z (slotsIn levels times (r .pending) line′) → P z
   pushed-all P b f z h = ⊎-elim (λ q. subst P (sym q) b) (f z) (in-pushed z h)
 
-module _ {p : Pending} {line : List ℕ} {r : Taken} (e : Took p line r) where
-  pub length-taken : length (slotsIn p line) ≡ suc (length (slotsIn (r .pending) line))
+module _ {levels : List ℕ} {times : List ℤ} {p : Pending} {line : List ℕ} {r : Taken} (e : Took levels times p line r) where
+  pub length-taken : length (slotsIn levels times p line) ≡ suc (length (slotsIn levels times (r .pending) line))
   length-taken = ap length (e .slots)
 
-  pub in-taken : (z : ℕ) → In z (slotsIn p line) → (z ≡ r .slot) ⊎ In z (slotsIn (r .pending) line)
+  pub in-taken : (z : ℕ) → In z (slotsIn levels times p line) → (z ≡ r .slot) ⊎ In z (slotsIn levels times (r .pending) line)
   unfolding In
   in-taken z h = subst (In z) (e .slots) h
 
-  pub taken-in : (z : ℕ) → (z ≡ r .slot) ⊎ In z (slotsIn (r .pending) line) → In z (slotsIn p line)
+  pub taken-in : (z : ℕ) → (z ≡ r .slot) ⊎ In z (slotsIn levels times (r .pending) line) → In z (slotsIn levels times p line)
   unfolding In
   taken-in z h = subst (In z) (sym (e .slots)) h
 
   -- what holds of all that wait holds of the one that leaves, and of the rest
-  pub taken-all : (P : ℕ → Type 0) → ((z : ℕ) → In z (slotsIn p line) → P z) → P (r .slot) × ((z : ℕ) → In z (slotsIn (r .pending) line) → P z)
+  pub taken-all : (P : ℕ → Type 0) → ((z : ℕ) → In z (slotsIn levels times p line) → P z) → P (r .slot) × ((z : ℕ) → In z (slotsIn levels times (r .pending) line) → P z)
   taken-all P f = (f (r .slot) (taken-in (r .slot) (inl refl)), λ z h. f z (taken-in z (inr h)))
-
--- ---- room
-
--- fewer wait than there are places
-pub few-room : (p : Pending) (line : List ℕ) → p .start ≤ p .end → p .end ≤ length line → length (slotsIn p line) < p .end - p .base → Room p line
-few-room p line h k l = record { free = omega (arith, length-slots p line k); right = h; inside = k }
-
-pub pushed-room : {levels : List ℕ} {times : List ℤ} {x : ℕ} {p p′ : Pending} {line line′ : List ℕ} → Room p line → length line′ ≡ length line
-    → Entered levels times x p line p′ line′ → p .base + 1 < p .start → Room p′ line′
-pushed-room r l e h = record { free = omega (arith, e .base, e .start); right = omega (arith, e .start, e .end, r .right); inside = omega (arith, e .end, r .inside) }
-
--- what has entered waits
-pub pushed-waits : {levels : List ℕ} {times : List ℤ} {x : ℕ} {p p′ : Pending} {line line′ : List ℕ} → Room p line → length line′ ≡ length line
-    → Entered levels times x p line p′ line′ → Waits p′ line′
-pushed-waits r l e = record { some = omega (arith, e .start, e .end, r .right); inside = omega (arith, e .end, r .inside) }
-
--- where one has left there is room
-pub taken-room : {p : Pending} {line : List ℕ} {r : Taken} → p .base ≤ p .start → Waits p line → Took p line r → Room (r .pending) line
-taken-room h w e = record { free = omega (arith, e .base, e .start); right = omega (arith, e .start, e .end, w .some); inside = omega (arith, e .end, w .inside) }
 
 -- ---- levels, seconds and marks of slots that do not wait may change
 
@@ -84,27 +84,26 @@ taken-room h w e = record { free = omega (arith, e .base, e .start); right = ome
 pub set-agree : {A : Type 0} (list : List A) (s : ℕ) (v d : A) (l : List ℕ) → (In s l → ⊥) → (y : ℕ) → In y l → getD (set list s v) y d ≡ getD list y d
 set-agree list s v d l n y h = getD-set-other list s y v d (λ e. n (subst (λ (k : ℕ). In k l) e h))
 
+-- the order in which slots leave is told by the levels and the seconds of those that wait
+pub slots-frame : (levels levels′ : List ℕ) (times times′ : List ℤ) (p : Pending) (line : List ℕ)
+    → ((s : ℕ) → In s (slotsIn levels times p line) → (levelOf levels′ s ≡ levelOf levels s) × (secondsOf times′ s ≡ secondsOf times s))
+    → slotsIn levels′ times′ p line ≡ slotsIn levels times p line
+slots-frame levels levels′ times times′ p line same =
+    merge-agree (ahead levels′ times′) (ahead levels times) (olderIn p line) (youngerIn p line) (λ x i y j.
+    let a = same y (merge-in (ahead levels times) y (olderIn p line) (youngerIn p line) (inl j)) in
+    let b = same x (merge-in (ahead levels times) x (olderIn p line) (youngerIn p line) (inr i)) in
+    ahead-agree levels′ levels times′ times y x (a .0) (b .0) (a .1) (b .1))
+
+-- whether a slot that waits lacks a mark is told by the two runs
+pub fresh-slots : (done : ℕ → Bool) (levels : List ℕ) (times : List ℤ) (p : Pending) (line : List ℕ)
+    → fresh done (slotsIn levels times p line) ≡ fresh done (youngerIn p line ++ olderIn p line)
+fresh-slots done levels times p line = fresh-merge done (ahead levels times) (olderIn p line) (youngerIn p line)
+
 pub map-agree : {B : Type 0} (f g : ℕ → B) (l : List ℕ) → ((y : ℕ) → In y l → f y ≡ g y) → map f l ≡ map g l
 unfolding In
 map-agree f g [] same = refl
 map-agree {B} f g (y ∷ ys) same =
     ap (λ (b : B). b ∷ map f ys) (same y (inl refl)) ∙ ap (λ (t : List B). g y ∷ t) (map-agree f g ys (λ z h. same z (inr h)))
-
-pub fresh-agree : (f g : ℕ → Bool) (l : List ℕ) → ((y : ℕ) → In y l → f y ≡ g y) → fresh f l ≡ fresh g l
-unfolding In fresh
-fresh-agree f g [] same = refl
-fresh-agree f g (y ∷ ys) same =
-    ap (λ (b : Bool). cond b (fresh f ys) true) (same y (inl refl)) ∙ ap (λ (t : Bool). cond (g y) t true) (fresh-agree f g ys (λ z h. same z (inr h)))
-
--- none lacks the mark: all have it
-pub fresh-none : (done : ℕ → Bool) (l : List ℕ) → fresh done l ≡ false → (y : ℕ) → In y l → done y ≡ true
-unfolding In fresh
-fresh-none done [] e y h = absurd h
-fresh-none done (x ∷ xs) e y h = go (done x) refl (fresh-none done xs)
-  where
-    go : (t : Bool) → done x ≡ t → (fresh done xs ≡ false → (y : ℕ) → In y xs → done y ≡ true) → done y ≡ true
-    go true p rec = ⊎-elim (λ q. ap done q ∙ p) (λ m. rec (rw p at e) y m) h
-    go false p rec = clash refl (rw p at e)
 
 -- ---- the queue beside one of other things, as pairs and ids: f says what a slot stands for
 
@@ -157,7 +156,7 @@ module _ (line line′ : List ℕ) (s : ℕ) where
   getD-below e k h = sym (getD-take s line′ k 0 h) ∙ ap (λ (l : List ℕ). getD l k 0) e ∙ getD-take s line k 0 h
 
   -- of memory that is as it was from s on
-  drop-above : drop s line′ ≡ drop s line → (f : ℕ) → s ≤ f → drop f line′ ≡ drop f line
+  pub drop-above : drop s line′ ≡ drop s line → (f : ℕ) → s ≤ f → drop f line′ ≡ drop f line
   drop-above e f h =
       let q : f ≡ s + (f - s) = omega arith in
       ap (λ (n : ℕ). drop n line′) q
@@ -168,31 +167,3 @@ module _ (line line′ : List ℕ) (s : ℕ) where
 
   pub slice-above : drop s line′ ≡ drop s line → (f t : ℕ) → s ≤ f → slice f t line′ ≡ slice f t line
   slice-above e f t h = slice-first f t line′ ∙ ap (take (t - f)) (drop-above e f h) ∙ sym (slice-first f t line)
-
-  pub getD-above : drop s line′ ≡ drop s line → (k : ℕ) → s ≤ k → getD line′ k 0 ≡ getD line k 0
-  getD-above e k h =
-      let q : k ≡ s + (k - s) = omega arith in
-      ap (λ (n : ℕ). getD line′ n 0) q
-      ∙ sym (getD-drop s line′ (k - s) 0)
-      ∙ ap (λ (l : List ℕ). getD l (k - s) 0) e
-      ∙ getD-drop s line (k - s) 0
-      ∙ ap (λ (n : ℕ). getD line n 0) (sym q)
-
--- the queue is what stands in line[start .. end)
-pub slots-agree : (p : Pending) (line line′ : List ℕ) → length line′ ≡ length line → ((k : ℕ) → p .start ≤ k → k < p .end → getD line′ k 0 ≡ getD line k 0)
-    → slotsIn p line′ ≡ slotsIn p line
-slots-agree p line line′ e same =
-    ext-getD 0 (slotsIn p line′) (slotsIn p line) (long line′ ∙ ap (λ (n : ℕ). min (p .end) n - p .start) e ∙ sym (long line)) (λ i h.
-    let k : p .start + i < p .end = omega (arith, long line′) in
-    elem line′ i k ∙ same (p .start + i) (omega arith) k ∙ sym (elem line i k))
-  where
-    long : (l : List ℕ) → length (slotsIn p l) ≡ min (p .end) (length l) - p .start
-    long l = length-drop (p .start) (take (p .end) l) ∙ ap (λ (n : ℕ). n - p .start) (length-take (p .end) l)
-
-    elem : (l : List ℕ) (i : ℕ) → p .start + i < p .end → getD (slotsIn p l) i 0 ≡ getD l (p .start + i) 0
-    elem l i h = getD-drop (p .start) (take (p .end) l) i 0 ∙ getD-take (p .end) l (p .start + i) 0 h
-
-pub slots-set : (p : Pending) (line : List ℕ) (k v : ℕ) → (k < p .start) ⊎ (p .end ≤ k) → slotsIn p (set line k v) ≡ slotsIn p line
-slots-set p line k v out =
-    slots-agree p line (set line k v) (length-set line k v) (λ j a b.
-    getD-set-other line k j v 0 (λ e. ⊎-elim (λ h. omega arith) (λ h. omega arith) out))

@@ -1,6 +1,7 @@
 -- How a slot enters painting's queue. While the slots in front of its place move down, the memory is the old one with the moved part
--- one place lower and a gap behind it; the new slot fills the gap. Assumes nothing.
-use mathlib.Core.Path.{_≡_, refl, ap, _∙_}
+-- one place lower and a gap behind it; the new slot fills the gap. Then, and where the runs have been merged, one part of the memory is
+-- another of its length, and all else is as it was. Assumes nothing.
+use mathlib.Core.Path.{_≡_, refl, sym, ap, _∙_, subst}
 use mathlib.Core.List.{List, _∷_, _++_, append-assoc, append-nil}
 use mathlib.Core.Bool.{Bool, true, false}
 use Prim.Native.Nat.{ℕ, suc, _+_, _-_, _≤_, _<_}
@@ -10,10 +11,14 @@ use lib.IntN.{ℤ}
 use lib.ListN.{length, take, drop, getD, set, length-append, length-drop}
 use lib.Seq.{slice, slice-empty, length-slice, length-take-le, drop-cons, set-at, split-at, getD-append-add, getD-drop, take-at, drop-at, take-append-le, take-take}
 use Rattle.revwalk.specs.declared.pending.Pending.{Pending}
+use Rattle.revwalk.specs.declared.pending.Pushed.{Pushed}
 use Rattle.revwalk.specs.Order.{insertBy}
-use Rattle.revwalk.specs.Pending.{ahead, slotsIn, shiftedIn, Placed, Room, Pushes}
+use Rattle.revwalk.specs.Pending.{ahead, mergeBy, olderIn, youngerIn, shiftedIn, mergedIn, Placed, Right, Room, Widens, OlderOnly, Settles, Enters, Pushes}
 use Rattle.revwalk.proofs.QueueSorts.{length-insert}
-use Rattle.revwalk.proofs.PendingInsert.{slice-snoc, drop-split, Passed, passed-none, passed-more, placed-here, placed-last}
+use Rattle.revwalk.proofs.PendingOrder.{ahead-asym, ahead-level}
+use Rattle.revwalk.proofs.PendingMerge.{merge-none, merge-insert, length-merge}
+use Rattle.revwalk.proofs.PendingInsert.{slice-snoc, slice-none, drop-split, Passed, passed-none, passed-more, placed-here, placed-last}
+use Rattle.revwalk.proofs.PendingLaws.{drop-above, slice-above}
 
 -- the memory while slots move: those up to i have, and the place i - 1 holds some slot
 pub record Moving (lt : ℕ → ℕ → Bool) (old line : List ℕ) (head tail x i : ℕ) : Type 0 where
@@ -79,50 +84,138 @@ module _ (lt : ℕ → ℕ → Bool) (old : List ℕ) (head tail x : ℕ) (h0 : 
 
 -- ---- from the memory to the queue
 
-module _ (levels : List ℕ) (times : List ℤ) (x : ℕ) (p : Pending) (line : List ℕ) (r : Room p line) where
-  new : List ℕ
-  new = insertBy (ahead levels times) x (slotsIn p line)
+-- a part of the memory is replaced by another of its length
+module _ (line new : List ℕ) (s e : ℕ) (h : s ≤ e) (inside : e ≤ length line) (fits : length new ≡ e - s) (line′ : List ℕ) (is : line′ ≡ take s line ++ (new ++ drop e line)) where
+  part-low : length (take s line) ≡ s
+  part-low = length-take-le s line (omega arith)
 
-  low : List ℕ
-  low = take (p .start - 1) line
+  part-end : length (take s line ++ new) ≡ e
+  part-end = rw (length-append, part-low) (omega arith)
 
-  low-length : length low ≡ p .start - 1
-  unfolding low
-  low-length = length-take-le (p .start - 1) line (omega (arith, r .free, r .right, r .inside))
+  part-is : line′ ≡ (take s line ++ new) ++ drop e line
+  part-is = is ∙ sym (append-assoc (take s line) new (drop e line))
 
-  front-end : length (low ++ new) ≡ p .end
-  unfolding new
-  front-end =
-      rw (length-append, low-length, length-insert (ahead levels times) x (slotsIn p line), length-slice (p .start) (p .end) line (r .inside))
-      (omega (arith, r .free, r .right))
+  pub part-long : length line′ ≡ length line
+  part-long = rw (part-is, length-append, part-end, length-drop) (omega arith)
 
-  is-front : shiftedIn (ahead levels times) line (p .start) (p .end) x ≡ (low ++ new) ++ drop (p .end) line
-  unfolding shiftedIn low new
-  is-front = simp append-assoc
+  pub part-below : (b : ℕ) → b ≤ s → take b line′ ≡ take b line
+  part-below b l =
+      let k : b ≤ length (take s line) = omega (arith, part-low) in
+      rw (is, take-append-le b (take s line) (new ++ drop e line) k) (take-take b s line l)
 
-  pub pushes-room : (line′ : List ℕ) → line′ ≡ shiftedIn (ahead levels times) line (p .start) (p .end) x
-      → Pushes levels times x p line (record { base = p .base; start = p .start - 1; end = p .end }) line′
-  unfolding low new
-  pushes-room line′ e =
-      let f : line′ ≡ (low ++ new) ++ drop (p .end) line = e ∙ is-front in
-      let g : line′ ≡ low ++ (new ++ drop (p .end) line) = f ∙ append-assoc low new (drop (p .end) line) in
-      let b : p .base ≤ length low = omega (arith, low-length, r .free) in
+  pub part-above : drop e line′ ≡ drop e line
+  part-above = rw part-is (drop-at (take s line ++ new) (drop e line) e part-end)
+
+  pub part-new : slice s e line′ ≡ new
+  part-new = rw (part-is, take-at (take s line ++ new) (drop e line) e part-end) (drop-at (take s line) new s part-low)
+
+module _ (levels : List ℕ) (times : List ℤ) (p : Pending) (line : List ℕ) (r : Right p line) where
+  -- ---- into a run
+
+  module _ (x : ℕ) (line′ : List ℕ) where
+    pub enters-younger : Widens p → line′ ≡ shiftedIn (ahead levels times) line (p .low) (p .high) x
+        → Enters levels times x p line (record { done = true; pending = record { base = p .base; low = p .low - 1; high = p .high; start = p .start; end = p .end } }) line′
+    unfolding shiftedIn
+    enters-younger w e =
+        let new = insertBy (ahead levels times) x (youngerIn p line) in
+        let h : p .low - 1 ≤ p .high = omega (arith, r .low) in
+        let k : p .high ≤ length line = omega (arith, r .apart, r .start, r .end) in
+        let fits : length new ≡ p .high - (p .low - 1) = length-insert (ahead levels times) x (youngerIn p line) ∙ rw (length-slice (p .low) (p .high) line k) (omega (arith, w .free, r .low)) in
+        let long = part-long line new (p .low - 1) (p .high) h k fits line′ e in
+        let above = part-above line new (p .low - 1) (p .high) h k fits line′ e in
+        record {
+          long = long;
+          below = part-below line new (p .low - 1) (p .high) h k fits line′ e (p .base) (omega (arith, w .free));
+          above = drop-above line line′ (p .high) above (p .end) (omega (arith, r .apart, r .start));
+          entered = record {
+            done = refl;
+            base = refl;
+            end = refl;
+            right = record { base = omega (arith, w .free); low = h; apart = omega (arith, w .apart); start = r .start; end = omega (arith, r .end) };
+            slots =
+                rw (slice-above line line′ (p .high) above (p .start) (p .end) (omega (arith, r .apart)), part-new line new (p .low - 1) (p .high) h k fits line′ e)
+                (merge-insert (ahead levels times) (ahead-asym levels times) (ahead-level levels times) x (olderIn p line) (youngerIn p line));
+          };
+        }
+
+    pub enters-older : OlderOnly p → line′ ≡ shiftedIn (ahead levels times) line (p .start) (p .end) x
+        → Enters levels times x p line (record { done = true; pending = record { base = p .base; low = p .base; high = p .base; start = p .start - 1; end = p .end } }) line′
+    unfolding shiftedIn
+    enters-older w e =
+        let new = insertBy (ahead levels times) x (olderIn p line) in
+        let h : p .start - 1 ≤ p .end = omega (arith, r .start) in
+        let fits : length new ≡ p .end - (p .start - 1) = length-insert (ahead levels times) x (olderIn p line) ∙ rw (length-slice (p .start) (p .end) line (r .end)) (omega (arith, w .free, r .start)) in
+        let long = part-long line new (p .start - 1) (p .end) h (r .end) fits line′ e in
+        record {
+          long = long;
+          below = part-below line new (p .start - 1) (p .end) h (r .end) fits line′ e (p .base) (omega (arith, w .free));
+          above = part-above line new (p .start - 1) (p .end) h (r .end) fits line′ e;
+          entered = record {
+            done = refl;
+            base = refl;
+            end = refl;
+            right = record { base = omega arith; low = omega arith; apart = omega (arith, w .free); start = h; end = omega (arith, r .end) };
+            slots =
+                rw (slice-empty (p .base) line′, slice-none (p .low) (p .high) line (w .none))
+                (simp (merge-none (ahead levels times)) (part-new line new (p .start - 1) (p .end) h (r .end) fits line′ e));
+          };
+        }
+
+  -- ---- one run into the other
+
+  pub settles : Room p line → (line′ : List ℕ) → line′ ≡ mergedIn (ahead levels times) line (p .low) (p .high) (p .start) (p .end) → (place : ℕ) → p .base ≤ place → place ≤ p .start - (p .high - p .low)
+      → Settles levels times p line (record { base = p .base; low = place; high = place; start = p .start - (p .high - p .low); end = p .end }) line′
+  unfolding mergedIn
+  settles w line′ e place a b =
+      let new = mergeBy (ahead levels times) (olderIn p line) (youngerIn p line) in
+      let s = p .start - (p .high - p .low) in
+      let h : s ≤ p .end = omega (arith, r .start) in
+      let k : p .high ≤ length line = omega (arith, r .apart, r .start, r .end) in
+      let fits : length new ≡ p .end - s =
+      length-merge (ahead levels times) (olderIn p line) (youngerIn p line)
+      ∙ rw (length-slice (p .low) (p .high) line k, length-slice (p .start) (p .end) line (r .end)) (omega (arith, r .start, r .apart)) in
+      let long = part-long line new s (p .end) h (r .end) fits line′ e in
       record {
-        long = rw (f, length-append, front-end, length-drop) (omega (arith, r .inside));
-        below = rw (g, take-append-le (p .base) low (new ++ drop (p .end) line) b) (take-take (p .base) (p .start - 1) line (omega (arith, r .free)));
-        above = rw f (drop-at (low ++ new) (drop (p .end) line) (p .end) front-end);
-        entered = λ s. record {
-          base = refl;
-          start = omega (arith, r .free);
-          end = refl;
-          slots = rw (f, take-at (low ++ new) (drop (p .end) line) (p .end) front-end) (drop-at low new (p .start - 1) low-length);
-          rest = rw g (take-at low (new ++ drop (p .end) line) (p .start - 1) low-length);
-        };
-        refused = λ n. absurd (n r);
+        long = long;
+        below = part-below line new s (p .end) h (r .end) fits line′ e (p .base) (omega arith);
+        above = part-above line new s (p .end) h (r .end) fits line′ e;
+        base = refl;
+        end = refl;
+        right = record { base = a; low = omega arith; apart = omega arith; start = h; end = omega (arith, r .end) };
+        empty = record { none = omega arith; free = omega (arith, w .free, r .start, r .apart, r .base) };
+        slots = rw (slice-empty place line′) (merge-none (ahead levels times) (slice s (p .end) line′) ∙ part-new line new s (p .end) h (r .end) fits line′ e);
       }
 
--- nothing has changed
-pub pushes-refused : (levels : List ℕ) (times : List ℤ) (x : ℕ) (p : Pending) (line : List ℕ) → (Room p line → ⊥) → Pushes levels times x p line p line
+-- a slot enters once the runs are merged
+pub settled-enters : {levels : List ℕ} {times : List ℤ} {x : ℕ} {p q : Pending} {line line₁ line₂ : List ℕ} {r : Pushed} → Settles levels times p line q line₁ → Enters levels times x q line₁ r line₂
+    → Enters levels times x p line r line₂
+settled-enters {levels} {times} {x} {p} {q} {line} {line₁} {line₂} {r} s e =
+    record {
+      long = e .long ∙ s .long;
+      below = subst (λ (b : ℕ). take b line₂ ≡ take b line₁) (s .base) (e .below) ∙ s .below;
+      above = subst (λ (b : ℕ). drop b line₂ ≡ drop b line₁) (s .end) (e .above) ∙ s .above;
+      entered = record {
+        done = e .entered .done;
+        base = e .entered .base ∙ s .base;
+        end = e .entered .end ∙ s .end;
+        right = e .entered .right;
+        slots = e .entered .slots ∙ ap (insertBy (ahead levels times) x) (s .slots);
+      };
+    }
+
+-- ---- with room a slot has entered, without it nothing has changed
+
+pub pushes-room : {levels : List ℕ} {times : List ℤ} {x : ℕ} {p : Pending} {line line′ : List ℕ} {r : Pushed} → Room p line → Enters levels times x p line r line′ → Pushes levels times x p line r line′
+pushes-room w e =
+    record {
+      long = e .long;
+      below = e .below;
+      above = e .above;
+      entered = λ s. e .entered;
+      refused = λ n. absurd (n w);
+    }
+
+pub pushes-refused : (levels : List ℕ) (times : List ℤ) (x : ℕ) (p : Pending) (line : List ℕ) → (Room p line → ⊥) → Pushes levels times x p line (record { done = false; pending = p }) line
 pushes-refused levels times x p line n =
     record {
       long = refl;

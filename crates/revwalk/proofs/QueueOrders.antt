@@ -75,7 +75,7 @@ sooner-under true a b c p q = ltZ-over c b a q p
 sooner-under false a b c p q = ltZ-under a b c p q
 
 -- neither before the other, twice
-sooner-level : (w : Bool) (a b c : ℤ) → sooner w b a ≡ false → sooner w c b ≡ false → sooner w c a ≡ false
+pub sooner-level : (w : Bool) (a b c : ℤ) → sooner w b a ≡ false → sooner w c b ≡ false → sooner w c a ≡ false
 sooner-level w a b c p q = go (sooner w c a) refl
   where
     go : (t : Bool) → sooner w c a ≡ t → sooner w c a ≡ false

@@ -1,19 +1,32 @@
-// Painting's queue: the waiting slots are line[start..end), the first to leave at `start`. The greatest pair of generation and
-// seconds leaves first, among equals the first queued; a slot may wait several times. line[base..start) is free: the queue grows
-// down, and a real history inserts near the front. Beside it the waiting ids by rising id, with which painting begins.
+// Painting's queue: two runs of `line`, each in the order in which its slots leave: the older run line[start..end) and the younger
+// line[low..high). The greatest pair of generation and seconds leaves first, among equals the first queued; a slot may wait several
+// times. A slot enters the younger run. Where that has no place left, which is after about the square root of the older run's length,
+// it is merged into the older run. So an entering moves some 2 * sqrt(n) slots on average, and in a real history, which inserts near
+// the front, few. Beside it the waiting ids by rising id, with which painting begins.
 use date::Seconds;
 use hash::Order;
 ghost use mathlib.Core.Path.{_≡_};
-ghost use Prim.Native.Nat.{_+_, _<_, _≤_};
+ghost use Prim.Native.Nat.{_+_, _-_, _<_, _≤_};
+ghost use mathlib.Core.List.{_++_};
 ghost use lib.ListN.{length};
+ghost use lib.Seq.{slice};
 ghost use lib.Signed.{ltZ};
-ghost use Rattle.revwalk.specs.Pending.{levelOf, secondsOf, ahead, notAbove, staleAt, slotsIn, fresh, shiftedIn, Pushes, Pops, Placed, putIn, Sorts};
+ghost use Rattle.hashtable.specs.Table.{Decides};
+ghost use Rattle.revwalk.specs.Pending.{levelOf, secondsOf, ahead, notAbove, staleAt, youngerIn, olderIn, fresh, shiftedIn, Right, Room, Waits, Runs, Leaves, mergedIn, Settles, Widens, OlderOnly, Enters, Pushes, Pops, Placed, putIn, Sorts};
 
-// Where the queue stands in `line`.
+// Where the queue stands in `line`: line[base..end) is its own, with free places below the younger run and between the two.
 pub struct Pending {
     pub base: usize,
+    pub low: usize,
+    pub high: usize,
     pub start: usize,
     pub end: usize,
+}
+
+// Whether a slot has entered, and the queue then.
+pub struct Pushed {
+    pub done: bool,
+    pub pending: Pending,
 }
 
 // What leaves the queue, and the queue without it.
@@ -86,54 +99,261 @@ fn shift_in(line: &mut [u32], levels: &[u32], times: &[i64], head: usize, tail: 
     line[i - 1] = slot;
 }
 
-// A slot enters the queue. Without room nothing is changed.
-pub fn push(p: Pending, line: &mut [u32], levels: &[u32], times: &[i64], slot: u32) -> Pending
-    ensures { λ r. ⌜ Pushes (now (levels .entry)) (now (times .entry)) slot p (now (line .entry)) r (now (line .exit)) ⌝ }
+// Whether the queue stands in the memory as it should.
+fn is_right(p: Pending, line: &[u32]) -> bool
+    ensures { λ r. ⌜ Decides r (Right p (now (line .entry))) ⌝ }
 {
-    if p.start <= p.base {
-        return p;
+    if p.low < p.base {
+        return false;
+    }
+    if p.high < p.low {
+        return false;
+    }
+    if p.start < p.high {
+        return false;
+    }
+    if p.start - p.high < p.high - p.low {
+        return false;
     }
     if p.end < p.start {
-        return p;
+        return false;
     }
-    if line.len() < p.end {
-        return p;
+    p.end <= line.len()
+}
+
+// Whether there is room for one slot more.
+fn has_room(p: Pending, line: &[u32]) -> bool
+    ensures { λ r. ⌜ Decides r (Room p (now (line .entry))) ⌝ }
+{
+    if !is_right(p, line) {
+        return false;
     }
-    shift_in(line, levels, times, p.start, p.end, slot);
+    let young = p.high - p.low;
+    let old = p.end - p.start;
+    young + old < p.end - p.base
+}
+
+// Whether a slot waits.
+fn is_waiting(p: Pending, line: &[u32]) -> bool
+    ensures { λ r. ⌜ Decides r (Waits p (now (line .entry))) ⌝ }
+{
+    if !is_right(p, line) {
+        return false;
+    }
+    if p.low < p.high {
+        return true;
+    }
+    p.start < p.end
+}
+
+// Whether the first slot to leave is that of the older run line[a..end), not that of the younger line[b..high).
+fn is_older_first(
+    line: &[u32],
+    levels: &[u32],
+    times: &[i64],
+    a: usize,
+    end: usize,
+    b: usize,
+    high: usize,
+) -> bool
+    requires { ⌜ Runs (now line) a end b high ⌝ }
+    ensures { λ r. ⌜ Leaves (ahead (now (levels .entry)) (now (times .entry))) (now (line .entry)) a end b high r ⌝ }
+{
+    if high <= b {
+        return true;
+    }
+    if end <= a {
+        return false;
+    }
+    !is_ahead(levels, times, line[b], line[a])
+}
+
+// Merges the younger run into the older one, whose start moves down by as many places.
+fn merge(
+    line: &mut [u32],
+    levels: &[u32],
+    times: &[i64],
+    low: usize,
+    high: usize,
+    start: usize,
+    end: usize,
+)
+    requires { ⌜ (low ≤ high) × (high + (high - low) ≤ start) × (start ≤ end) × (end ≤ length (now line)) ⌝ }
+    ensures { λ r. ⌜ now (line .exit) ≡ mergedIn (ahead (now (levels .entry)) (now (times .entry))) (now (line .entry)) low high start end ⌝ }
+{
+    let mut o = start - (high - low);
+    let mut a = start;
+    let mut b = low;
+    while b < high {
+        if is_older_first(line, levels, times, a, end, b, high) {
+            line[o] = line[a];
+            a += 1;
+        } else {
+            line[o] = line[b];
+            b += 1;
+        }
+        o += 1;
+    }
+}
+
+// About three to six times the square root of n: a power of two from 16 up to 1,048,576. (To merge costs more than to move, for each
+// slot: so the younger run is that much longer than the square root, at which as many slots are merged as are moved.)
+fn about_root(n: usize) -> usize {
+    let mut c: usize = 16;
+    while c < 1048576 {
+        if n / c <= c / 8 {
+            break;
+        }
+        c = 2 * c;
+    }
+    c
+}
+
+// Where an empty younger run begins: about the square root of the older run above `base`, half of the free room at most.
+fn young_place(base: usize, start: usize, end: usize) -> usize
+    requires { ⌜ (base ≤ start) × (start ≤ end) ⌝ }
+    ensures { λ r. ⌜ (base ≤ r) × (r ≤ start) ⌝ }
+{
+    let most = (start - base) / 2;
+    let root = about_root(end - start);
+    if root < most {
+        base + root
+    } else {
+        base + most
+    }
+}
+
+// Merges the younger run into the older one, and gives the younger run an empty place.
+fn settle(p: Pending, line: &mut [u32], levels: &[u32], times: &[i64]) -> Pending
+    requires { ⌜ Room p (now line) ⌝ }
+    ensures { λ r. ⌜ Settles (now (levels .entry)) (now (times .entry)) p (now (line .entry)) r (now (line .exit)) ⌝ }
+{
+    merge(line, levels, times, p.low, p.high, p.start, p.end);
+    let start = p.start - (p.high - p.low);
+    let place = young_place(p.base, start, p.end);
     Pending {
         base: p.base,
-        start: p.start - 1,
+        low: place,
+        high: place,
+        start,
         end: p.end,
     }
 }
 
-// The first slot leaves the queue, where one waits.
-pub fn pop(p: Pending, line: &[u32]) -> Taken
-    ensures { λ r. ⌜ Pops p (now (line .entry)) r ⌝ }
+// Whether the younger run has a place for one slot more.
+fn has_place(p: Pending) -> bool
+    requires { ⌜ (p .low ≤ p .high) × (p .high ≤ p .start) ⌝ }
+    ensures { λ r. ⌜ Decides r (Widens p) ⌝ }
 {
-    if p.end <= p.start {
-        return Taken {
-            found: false,
-            slot: 0,
-            pending: p,
-        };
+    if p.low <= p.base {
+        return false;
     }
-    if line.len() < p.end {
-        return Taken {
-            found: false,
-            slot: 0,
-            pending: p,
-        };
-    }
-    let first = p.start;
-    Taken {
-        found: true,
-        slot: line[first],
+    p.high - p.low < p.start - p.high
+}
+
+// A slot enters the younger run.
+fn put_younger(p: Pending, line: &mut [u32], levels: &[u32], times: &[i64], slot: u32) -> Pushed
+    requires { ⌜ Right p (now line) × Widens p ⌝ }
+    ensures { λ r. ⌜ Enters (now (levels .entry)) (now (times .entry)) slot p (now (line .entry)) r (now (line .exit)) ⌝ }
+{
+    shift_in(line, levels, times, p.low, p.high, slot);
+    Pushed {
+        done: true,
         pending: Pending {
             base: p.base,
-            start: first + 1,
+            low: p.low - 1,
+            high: p.high,
+            start: p.start,
             end: p.end,
         },
+    }
+}
+
+// A slot enters the older run, where the younger one is empty.
+fn put_older(p: Pending, line: &mut [u32], levels: &[u32], times: &[i64], slot: u32) -> Pushed
+    requires { ⌜ Right p (now line) × OlderOnly p ⌝ }
+    ensures { λ r. ⌜ Enters (now (levels .entry)) (now (times .entry)) slot p (now (line .entry)) r (now (line .exit)) ⌝ }
+{
+    shift_in(line, levels, times, p.start, p.end, slot);
+    Pushed {
+        done: true,
+        pending: Pending {
+            base: p.base,
+            low: p.base,
+            high: p.base,
+            start: p.start - 1,
+            end: p.end,
+        },
+    }
+}
+
+// A slot enters the queue, whose younger run has no place for it.
+fn settle_and_put(p: Pending, line: &mut [u32], levels: &[u32], times: &[i64], slot: u32) -> Pushed
+    requires { ⌜ Room p (now line) ⌝ }
+    ensures { λ r. ⌜ Enters (now (levels .entry)) (now (times .entry)) slot p (now (line .entry)) r (now (line .exit)) ⌝ }
+{
+    let q = settle(p, line, levels, times);
+    if has_place(q) {
+        put_younger(q, line, levels, times, slot)
+    } else {
+        put_older(q, line, levels, times, slot)
+    }
+}
+
+// A slot enters the queue. Without room nothing is changed.
+pub fn push(p: Pending, line: &mut [u32], levels: &[u32], times: &[i64], slot: u32) -> Pushed
+    ensures { λ r. ⌜ Pushes (now (levels .entry)) (now (times .entry)) slot p (now (line .entry)) r (now (line .exit)) ⌝ }
+{
+    if !has_room(p, line) {
+        return Pushed {
+            done: false,
+            pending: p,
+        };
+    }
+    if has_place(p) {
+        put_younger(p, line, levels, times, slot)
+    } else {
+        settle_and_put(p, line, levels, times, slot)
+    }
+}
+
+// The first slot leaves the queue, where one waits.
+pub fn pop(p: Pending, line: &[u32], levels: &[u32], times: &[i64]) -> Taken
+    ensures { λ r. ⌜ Pops (now (levels .entry)) (now (times .entry)) p (now (line .entry)) r ⌝ }
+{
+    if !is_waiting(p, line) {
+        return Taken {
+            found: false,
+            slot: 0,
+            pending: p,
+        };
+    }
+    let low = p.low;
+    let start = p.start;
+    if is_older_first(line, levels, times, start, p.end, low, p.high) {
+        Taken {
+            found: true,
+            slot: line[start],
+            pending: Pending {
+                base: p.base,
+                low,
+                high: p.high,
+                start: start + 1,
+                end: p.end,
+            },
+        }
+    } else {
+        Taken {
+            found: true,
+            slot: line[low],
+            pending: Pending {
+                base: p.base,
+                low: low + 1,
+                high: p.high,
+                start,
+                end: p.end,
+            },
+        }
     }
 }
 
@@ -144,13 +364,12 @@ fn is_stale(marks: &[u8], slot: u32) -> bool
     hashtable::marks::has_stale(hash::byte_at(marks, slot as usize))
 }
 
-// Whether a waiting slot lacks STALE: from the front up to the first that does.
-pub fn any_lacking(p: Pending, line: &[u32], marks: &[u8]) -> bool
-    ensures { λ r. ⌜ r ≡ fresh (staleAt (now (marks .entry))) (slotsIn p (now (line .entry))) ⌝ }
+// Whether a slot of line[from..to) lacks STALE: from the front up to the first that does.
+fn lacking_in(line: &[u32], from: usize, to: usize, marks: &[u8]) -> bool
+    ensures { λ r. ⌜ r ≡ fresh (staleAt (now (marks .entry))) (slice from to (now (line .entry))) ⌝ }
 {
-    let end = p.end;
-    let mut i = p.start;
-    while i < end {
+    let mut i = from;
+    while i < to {
         if line.len() <= i {
             return false;
         }
@@ -160,6 +379,16 @@ pub fn any_lacking(p: Pending, line: &[u32], marks: &[u8]) -> bool
         i += 1;
     }
     false
+}
+
+// Whether a waiting slot lacks STALE.
+pub fn any_lacking(p: Pending, line: &[u32], marks: &[u8]) -> bool
+    ensures { λ r. ⌜ r ≡ fresh (staleAt (now (marks .entry))) (youngerIn p (now (line .entry)) ++ olderIn p (now (line .entry))) ⌝ }
+{
+    if lacking_in(line, p.low, p.high, marks) {
+        return true;
+    }
+    lacking_in(line, p.start, p.end, marks)
 }
 
 // Whether the id of slot a is not above that of slot b.

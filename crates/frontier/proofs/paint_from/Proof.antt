@@ -25,8 +25,8 @@ mul-most : tie.Need-mul-most
 mul-most c = search needs
 
 -- src/lib.rt:62:15
-add-t19 : tie.Need-add-t19
-add-t19 c = search needs
+add-base : tie.Need-add-base
+add-base c = search needs
 
 -- src/lib.rt:66:9
 mark-run-requires : tie.Need-mark-run-requires
@@ -66,7 +66,7 @@ same-length-5 c = c .before .before .before .before .before .before .before .bef
 
 -- src/lib.rt:42:1
 returns : tie.Need-returns
-returns c = paints-from (c .before .before .before .before .before .before .before .before .before .before .before .before .before .before .before .before .before .before .before .before .before .before .before .before .before .before .before .before .before .before .before .before .before .before .before .before .before .before .before .before .before .before .before .before .before .before .before .before .before .before .before .before .before .pre .1) (c .before .before .before .before .before .before .before .before .before .before .before .before .before .before .before .before .before .before .before .before .before .before .before .before .before .before .before .before .before .before .before .before .before .before .before .before .before .before .before .before .mark-run .ensures) (c .before .before .before .before .before .before .before .before .before .before .before .before .before .before .before .before .before .before .before .before .before .before .before .before .before .before .before .before .before .before .lowered .ensures) (c .before .before .before .before .before .before .before .before .before .before .before .before .before .before .before .before .before .before .before .before .before .before .before .before .mark-list .ensures) (c .before .before .before .before .before .before .before .before .before .turns .ensures)
+returns c = paints-from (c .before .before .before .before .before .before .before .before .before .before .before .before .before .before .before .before .before .before .before .before .before .before .before .before .before .before .before .before .before .before .before .before .before .before .before .before .before .before .before .before .before .before .before .before .before .before .before .before .before .before .before .before .before .pre .0) (c .before .before .before .before .before .before .before .before .before .before .before .before .before .before .before .before .before .before .before .before .before .before .before .before .before .before .before .before .before .before .before .before .before .before .before .before .before .before .before .before .before .before .before .before .before .before .before .before .before .before .before .before .before .pre .1) (c .before .before .before .before .before .before .before .before .before .before .before .before .before .before .before .before .before .before .before .before .before .before .before .before .before .before .before .before .before .before .before .before .before .before .before .before .before .before .before .before .mark-run .ensures) (c .before .before .before .before .before .before .before .before .before .before .before .before .before .before .before .before .before .before .before .before .before .before .before .before .before .before .before .before .before .before .lowered .ensures) (c .before .before .before .before .before .before .before .before .before .before .before .before .before .before .before .before .before .before .before .before .before .before .before .before .mark-list .ensures) (c .before .before .before .before .before .before .before .before .before .turns .ensures)
 
 pub paint-from-spec : {M : Type 1} → statement M
 paint-from-spec =
@@ -75,7 +75,7 @@ paint-from-spec =
     mul-from
     mul-end
     mul-most
-    add-t19
+    add-base
     mark-run-requires
     lowered-requires
     mark-list-requires

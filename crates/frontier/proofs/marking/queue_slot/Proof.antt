@@ -1,4 +1,4 @@
--- `marking::queue_slot` meets its contract: a queue that took the slot begins one place earlier. Assumes nothing.
+-- `marking::queue_slot` meets its contract: a queue with room says that it took the slot. Assumes nothing.
 use Rattle.frontier.proofs.MarkAnswers.{was-queued, not-queued}
 -- HEAD-END
 use borrow.Author.Needs.{needs}
@@ -18,7 +18,7 @@ same-length c = search needs
 
 -- src/marking.rt:69:1
 returns : tie.Need-returns
-returns c = was-queued (c .before .before .before .before .before .push .ensures)
+returns c = was-queued (c .before .before .before .before .push .ensures)
 
 -- src/marking.rt:69:1
 same-length-2 : tie.Need-same-length-2
@@ -26,7 +26,7 @@ same-length-2 c = search needs
 
 -- src/marking.rt:69:1
 returns-2 : tie.Need-returns-2
-returns-2 c = not-queued (c .before .before .before .before .before .push .ensures) (c .if1 .left)
+returns-2 c = not-queued (c .before .before .before .before .push .ensures) (c .if1 .left)
 
 pub queue-slot-spec : {M : Type 1} → statement M
 queue-slot-spec = tie.close (tie.spec push-requires same-length returns same-length-2 returns-2)

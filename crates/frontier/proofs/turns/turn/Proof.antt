@@ -70,6 +70,14 @@ same-length-6 : tie.Need-same-length-6
 same-length-6 c = search needs
 
 -- src/turns.rt:14:1
+same-length-7 : tie.Need-same-length-7
+same-length-7 c = search needs
+
+-- src/turns.rt:14:1
+same-length-8 : tie.Need-same-length-8
+same-length-8 c = search needs
+
+-- src/turns.rt:14:1
 returns-2 : tie.Need-returns-2
 returns-2 c = turn-none (c .before .pop .ensures) (c .if1 .left)
 
@@ -91,4 +99,6 @@ turn-spec =
     same-length-5
     returns
     same-length-6
+    same-length-7
+    same-length-8
     returns-2)

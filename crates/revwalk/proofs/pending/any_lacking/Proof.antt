@@ -1,75 +1,25 @@
--- `pending::any_lacking` meets its contract: all in front of place i have STALE, so the answer for all is the answer for the rest. Assumes nothing.
+-- `pending::any_lacking` meets its contract: a slot of the younger run lacks STALE, or one of the older run does. Assumes nothing.
 use borrow.Author.Needs.{needs}
-use mathlib.Core.Path.{_≡_, refl, sym, _∙_}
-use borrow.Author.Tests.{not-true, not-false}
-use Prim.Native.Nat.{_-_}
-use lib.Seq.{slice}
-use Rattle.revwalk.specs.Pending.{staleAt, fresh}
-use Rattle.revwalk.proofs.PendingPop.{fresh-next, fresh-here, fresh-end, fresh-past}
+use Rattle.revwalk.specs.Pending.{staleAt, youngerIn, olderIn}
+use Rattle.revwalk.proofs.PendingMerge.{fresh-left, fresh-right}
 use Rattle.revwalk.proofs.pending.any_lacking.Statement.{statement}
 use Rattle.revwalk.proofs.pending.any_lacking.Tie as tie
 
-abbrev Inv-loop : tie.InvT-loop
-Inv-loop line marks end i₀ i = fresh (staleAt marks) (slice i₀ end line) ≡ fresh (staleAt marks) (slice i end line)
+lacking-in-requires : tie.Need-lacking-in-requires
+lacking-in-requires c κs = search needs
 
-abbrev μ-loop : tie.MeasureT-loop
-μ-loop line marks end i₀ i = end - i
-
-loop-holds : tie.Need-loop-holds Inv-loop μ-loop
-loop-holds c = refl
-
-returns : tie.Need-returns Inv-loop μ-loop
+returns : tie.Need-returns
 returns c =
-    let l = c .before .before in
-    let x = l .before .before .before .args in
-    sym (l .loop .inv ∙ fresh-past (staleAt (x .marks .now)) (x .line .now) (l .loop .i) (x .p .end) (c .if1 .taken))
+    let x = c .before .before .before .before .args in
+    fresh-left (staleAt (x .marks .now)) (youngerIn (x .p) (x .line .now)) (olderIn (x .p) (x .line .now)) (c .before .lacking-in .result) (c .before .lacking-in .ensures) (c .if1 .taken)
 
-mul-is-stale : tie.Need-mul-is-stale Inv-loop μ-loop
-mul-is-stale c = search needs
+lacking-in-requires-2 : tie.Need-lacking-in-requires-2
+lacking-in-requires-2 c κs = search needs
 
-shared-slice-read-is-stale : tie.Need-shared-slice-read-is-stale Inv-loop μ-loop
-shared-slice-read-is-stale c = search needs
-
-is-stale-requires : tie.Need-is-stale-requires Inv-loop μ-loop
-is-stale-requires c κs = search needs
-
-returns-2 : tie.Need-returns-2 Inv-loop μ-loop
+returns-2 : tie.Need-returns-2
 returns-2 c =
-    let l = c .before .before .before .before .before in
-    let x = l .before .before .before .args in
-    sym (l .loop .inv ∙ fresh-here (staleAt (x .marks .now)) (x .line .now) (l .loop .i) (x .p .end) (c .before .before .before .before .loop-test .taken) (c .before .before .before .if1 .left) (sym (c .before .is-stale .ensures) ∙ not-true _ (c .if2 .taken)))
-
-add-i : tie.Need-add-i Inv-loop μ-loop
-add-i c = search needs
-
-loop-less : tie.Need-loop-less Inv-loop μ-loop
-loop-less c = search needs
-
-loop-again : tie.Need-loop-again Inv-loop μ-loop
-loop-again c =
-    let l = c .before .before .before .before .before in
-    let x = l .before .before .before .args in
-    l .loop .inv ∙ fresh-next (staleAt (x .marks .now)) (x .line .now) (l .loop .i) (x .p .end) (c .before .before .before .before .loop-test .taken) (c .before .before .before .if1 .left) (sym (c .before .is-stale .ensures) ∙ not-false _ (c .if2 .left))
-
-returns-3 : tie.Need-returns-3 Inv-loop μ-loop
-returns-3 c =
-    let l = c .before in
-    let x = l .before .before .before .args in
-    sym (l .loop .inv ∙ fresh-end (staleAt (x .marks .now)) (x .line .now) (l .loop .i) (x .p .end) (c .loop-test .left))
+    let x = c .before .before .before .before .before .args in
+    fresh-right (staleAt (x .marks .now)) (youngerIn (x .p) (x .line .now)) (olderIn (x .p) (x .line .now)) (c .before .before .lacking-in .result) (c .before .before .lacking-in .ensures) (c .lacking-in2 .result) (c .lacking-in2 .ensures) (c .before .if1 .left)
 
 pub any-lacking-spec : {M : Type 1} → statement M
-any-lacking-spec =
-    tie.close
-    (tie.spec
-    Inv-loop
-    μ-loop
-    loop-holds
-    returns
-    mul-is-stale
-    shared-slice-read-is-stale
-    is-stale-requires
-    returns-2
-    add-i
-    loop-less
-    loop-again
-    returns-3)
+any-lacking-spec = tie.close (tie.spec lacking-in-requires returns lacking-in-requires-2 returns-2)
