@@ -108,9 +108,9 @@ none-of (x ∷ l) h = absurd (omega arith)
 
 pub first-taken : {d : List ℕ} {s : BodyStep} → StepsBody d 0 s → s .taken ≡ true → EndsFirst (header d) (record { parents = 1; ends = Whole })
 first-taken {d} {s} e t = record {
-  parents = λ g. sym (one-of (header d .ids) (step-taken (header d) 0 (e .right g (omega arith)) t .0));
+  parents = λ g. sym (one-of (header d .ids) (step-taken (header d) 0 (e .right g (omega arith)) t));
   stopped = λ g h. refl;
-  ends = λ g z. absurd (omega (arith, z, step-taken (header d) 0 (e .right g (omega arith)) t .0));
+  ends = λ g z. absurd (omega (arith, z, step-taken (header d) 0 (e .right g (omega arith)) t));
 }
 
 pub first-ended : {d : List ℕ} {s : BodyStep} → StepsBody d 0 s → s .taken ≡ false → EndsFirst (header d) (record { parents = 0; ends = s .ends })
@@ -127,7 +127,7 @@ all-ended {d} {k} {s} w e t = record {
 }
 
 pub all-on : {d : List ℕ} {k : ℕ} {s : BodyStep} → (header d .tree ≡ true → k ≤ length (header d .ids)) → StepsBody d k s → s .taken ≡ true → header d .tree ≡ true → k + 1 ≤ length (header d .ids)
-all-on {d} {k} {s} w e t g = omega (arith, step-taken (header d) k (e .right g (w g)) t .0)
+all-on {d} {k} {s} w e t g = omega (arith, step-taken (header d) k (e .right g (w g)) t)
 
 pub all-past : (d : List ℕ) {k : ℕ} {a : BodyRead} → (header d .tree ≡ true → k ≤ length (header d .ids)) → 256 < k → EndsAll (header d) a
 all-past d w h = record { parents = λ g. absurd (omega (arith, h, w g, header-few d)); ends = λ g. absurd (omega (arith, h, w g, header-few d)) }
