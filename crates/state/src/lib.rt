@@ -10,7 +10,8 @@ use revwalk::queue;
 use revwalk::queue::Queue;
 ghost use mathlib.Core.Path.{_≡_};
 ghost use mathlib.Core.Bool.{cond};
-ghost use lib.ListN.{getD, set};
+ghost use Prim.Native.Nat.{_≤_};
+ghost use lib.ListN.{length, getD, set};
 ghost use lib.IntN.{pos};
 ghost use Rattle.state.specs.Shapes.{freshRecord, requeued};
 ghost use Rattle.state.specs.Steps.{Copied, Sees, Waits, Visits, Pops, Drops, Starts};
@@ -172,10 +173,27 @@ fn wide(x: u32) -> usize
     x as usize
 }
 
+// The bytes of a whole id by value.
+fn whole_id(id: &[u8]) -> ObjectId
+    requires { ⌜ 20 ≤ length (now id) ⌝ }
+    ensures { λ r. ⌜ Copied (now (id .entry)) (r .bytes) ⌝ }
+{
+    let mut bytes = [0u8; 20];
+    let mut i = 0;
+    while i < 20 {
+        bytes[i] = id[i];
+        i += 1;
+    }
+    ObjectId { bytes: bytes }
+}
+
 // The bytes of an id by value, zeros where the slice ends.
 fn object_id(id: &[u8]) -> ObjectId
     ensures { λ r. ⌜ Copied (now (id .entry)) (r .bytes) ⌝ }
 {
+    if 20 <= id.len() {
+        return whole_id(id);
+    }
     let mut bytes = [0u8; 20];
     let mut i = 0;
     while i < 20 {

@@ -1,4 +1,4 @@
--- `state::object_id` meets its contract: each byte that is stored is the id's at that place. Assumes nothing.
+-- `state::object_id` meets its contract: a whole id is copied as it is, and else each byte that is stored is the id's at that place. Assumes nothing.
 use mathlib.Core.Path.{refl}
 use Prim.Native.Nat.{_-_}
 use borrow.Author.Needs.{needs}
@@ -11,6 +11,12 @@ Inv-loop id bytes₀ i₀ bytes i = Copying id bytes i
 
 abbrev μ-loop : tie.MeasureT-loop
 μ-loop id bytes₀ i₀ bytes i = 20 - i
+
+whole-id-requires : tie.Need-whole-id-requires Inv-loop μ-loop
+whole-id-requires c κs = search needs
+
+returns : tie.Need-returns Inv-loop μ-loop
+returns c = search needs
 
 loop-holds : tie.Need-loop-holds Inv-loop μ-loop
 loop-holds c = copying-none _ _ refl
@@ -30,8 +36,8 @@ loop-less c = search needs
 loop-again : tie.Need-loop-again Inv-loop μ-loop
 loop-again c = copying-more (c .before .before .loop .inv) (search needs) (c .byte-at .ensures)
 
-returns : tie.Need-returns Inv-loop μ-loop
-returns c = copying-all (c .before .loop .inv) (search needs)
+returns-2 : tie.Need-returns-2 Inv-loop μ-loop
+returns-2 c = copying-all (c .before .loop .inv) (search needs)
 
 pub object-id-spec : {M : Type 1} → statement M
 object-id-spec =
@@ -39,10 +45,12 @@ object-id-spec =
     (tie.spec
     Inv-loop
     μ-loop
+    whole-id-requires
+    returns
     loop-holds
     byte-at-requires
     array-write-bytes
     add-i
     loop-less
     loop-again
-    returns)
+    returns-2)

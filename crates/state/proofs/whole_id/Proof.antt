@@ -1,0 +1,48 @@
+-- `state::whole_id` meets its contract: each byte that is stored is the id's at that place. Assumes nothing.
+use mathlib.Core.Path.{refl}
+use Prim.Native.Nat.{_-_}
+use borrow.Author.Needs.{needs}
+use Rattle.state.proofs.Copies.{Copying, copying-none, copying-more, copying-all}
+use Rattle.state.proofs.whole_id.Statement.{statement}
+use Rattle.state.proofs.whole_id.Tie as tie
+
+abbrev Inv-loop : tie.InvT-loop
+Inv-loop id bytes₀ i₀ bytes i = Copying id bytes i
+
+abbrev μ-loop : tie.MeasureT-loop
+μ-loop id bytes₀ i₀ bytes i = 20 - i
+
+loop-holds : tie.Need-loop-holds Inv-loop μ-loop
+loop-holds c = copying-none _ _ refl
+
+shared-slice-read-bytes : tie.Need-shared-slice-read-bytes Inv-loop μ-loop
+shared-slice-read-bytes c = search needs
+
+array-write-bytes : tie.Need-array-write-bytes Inv-loop μ-loop
+array-write-bytes c = search needs
+
+add-i : tie.Need-add-i Inv-loop μ-loop
+add-i c = search needs
+
+loop-less : tie.Need-loop-less Inv-loop μ-loop
+loop-less c = search needs
+
+loop-again : tie.Need-loop-again Inv-loop μ-loop
+loop-again c = copying-more (c .before .before .loop .inv) (search needs) refl
+
+returns : tie.Need-returns Inv-loop μ-loop
+returns c = copying-all (c .before .loop .inv) (search needs)
+
+pub whole-id-spec : {M : Type 1} → statement M
+whole-id-spec =
+    tie.close
+    (tie.spec
+    Inv-loop
+    μ-loop
+    loop-holds
+    shared-slice-read-bytes
+    array-write-bytes
+    add-i
+    loop-less
+    loop-again
+    returns)
