@@ -12,7 +12,6 @@ use lib.IntN.{ℤ, pos}
 use Rattle.hash.specs.Bytes.{Id, idBytes, ifSome}
 use Rattle.hash.proofs.Bytes.{length-at}
 use Rattle.idlist.specs.IdList.{idOf}
-use Rattle.date.specs.declared.Seconds.{Seconds}
 use Rattle.commitgraph.specs.Graph.{chunkStart, OIDL, graphOk, graphCount, graphIds, graphId, graphFind, graphSeconds, generation, graphParents, layoutOf, idIn, secondsIn, parentsIn, mostParents, Looks, positionOf, parentListOf}
 use Rattle.commitgraph.specs.declared.Layout.{Layout}
 use Rattle.commitgraph.specs.declared.Level.{Level}
@@ -26,7 +25,7 @@ use Rattle.commit.specs.declared.Cache.{Cache}
 use Rattle.commit.specs.declared.Cache.the-variants.{Graph, NoGraph}
 use Rattle.walk.specs.Lookup.{Row, no-row, corrupt, row, rowAt}
 use Rattle.reading.specs.Files.{layoutUnder, worldUnder}
-use Rattle.reading.specs.Row.{levelOf, rowReadOf, TellsRow, rowParents, ReadsRow, GivesRowParent, GivesRowParentSeconds}
+use Rattle.reading.specs.Row.{levelOf, rowReadOf, TellsRow, rowParents, ReadsRow, GivesRowParent}
 use Rattle.reading.specs.declared.row.RowRead.the-variants.{NoRow, Corrupt, Row as RowAt}
 use Rattle.reading.proofs.World.{graph-under, row-found, RowFound}
 
@@ -91,12 +90,6 @@ pub gives-parent : (g : List ℕ) (l : Layout) (p k : ℕ) {q : ℕ} {y : Id} �
     → GivesRowParent g l p k y
 gives-parent g l p k read e = record {
   right = λ own ps v t f h. e ∙ ap (λ (a : Id × ℤ). a .0) (parent-there g p ps v t f own read h);
-}
-
-pub gives-parent-seconds : (g : List ℕ) (l : Layout) (p k : ℕ) {q : ℕ} {y : Seconds} → ((qs : List ℕ) → parentsIn g l p ≡ some qs → k < length qs → q ≡ getD qs k 0) → y .0 ≡ secondsIn g l q
-    → GivesRowParentSeconds g l p k y
-gives-parent-seconds g l p k read e = record {
-  right = λ own ps v t f h. e ∙ ap (λ (a : Id × ℤ). a .1) (parent-there g p ps v t f own read h);
 }
 
 -- ---- one row

@@ -7,7 +7,6 @@ use mathlib.Core.List.{List, []}
 use lib.ListN.{length, getD}
 use lib.IntN.{ℤ, pos}
 use Rattle.hash.specs.Bytes.{Id}
-use Rattle.date.specs.declared.Seconds.{Seconds}
 use Rattle.commitgraph.specs.Graph.{graphOk, layoutOf, levelIn, mostParents}
 use Rattle.commitgraph.specs.declared.Layout.{Layout}
 use Rattle.commitgraph.specs.declared.Level.{Level}
@@ -56,7 +55,3 @@ pub record ReadsRow (c : Cache) (g : List ℕ) (x : Id) (r : RowRead) : Type 0 w
 -- parent k of the row at position p: its id
 pub record GivesRowParent (g : List ℕ) (l : Layout) (p k : ℕ) (r : Id) : Type 0 where
   pub right : l ≡ layoutOf g → (ps : List (Id × ℤ)) (v : ℕ) (t : ℤ) → rowAt g p ≡ row ps v t → k < length ps → r ≡ getD ps k ([], pos 0) .0
-
--- "Seconds of a parent come from its own graph row if the child came from the graph"
-pub record GivesRowParentSeconds (g : List ℕ) (l : Layout) (p k : ℕ) (r : Seconds) : Type 0 where
-  pub right : l ≡ layoutOf g → (ps : List (Id × ℤ)) (v : ℕ) (t : ℤ) → rowAt g p ≡ row ps v t → k < length ps → r .0 ≡ getD ps k ([], pos 0) .1

@@ -27,7 +27,6 @@ pub use row::RowRead;
 pub use row::row_at;
 pub use row::row_of;
 pub use row::row_parent;
-pub use row::row_parent_seconds;
 pub use tip::TipRead;
 pub use tip::read_tip;
 pub use tip::seconds_for;

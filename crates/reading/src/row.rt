@@ -6,10 +6,9 @@ use commitgraph::parents;
 use commitgraph::parents::ParentList;
 use commitgraph::rows;
 use commitgraph::rows::Position;
-use date::Seconds;
 ghost use mathlib.Core.Path.{_≡_};
 ghost use Rattle.commitgraph.specs.Graph.{parentsIn};
-ghost use Rattle.reading.specs.Row.{rowReadOf, levelOf, ReadsRow, GivesRowParent, GivesRowParentSeconds};
+ghost use Rattle.reading.specs.Row.{rowReadOf, levelOf, ReadsRow, GivesRowParent};
 
 // What the file has of a commit: nothing; a row with a corrupt parent list; or a row, its position, how many parents it has and its level.
 pub enum RowRead {
@@ -36,12 +35,12 @@ pub fn row_at(graph: &[u8], l: Layout, position: usize) -> RowRead
     }
 }
 
-// The row of a commit, where a file is used.
-pub fn row_of(cache: Cache, graph: &[u8], id: &[u8]) -> RowRead
+// The row of a commit, where a file is used; it may stand at position near.
+pub fn row_of(cache: Cache, graph: &[u8], id: &[u8], near: usize) -> RowRead
     ensures { λ r. ⌜ ReadsRow cache (now (graph .entry)) (now (id .entry)) r ⌝ }
 {
     match cache {
-        Cache::Graph(l) => match rows::lookup(graph, l, id) {
+        Cache::Graph(l) => match rows::lookup_near(graph, l, id, near) {
             Position::At(p) => row_at(graph, l, p),
             Position::Absent => RowRead::NoRow,
         },
@@ -55,12 +54,4 @@ pub fn row_parent<'a>(graph: &'a [u8], l: Layout, position: usize, k: usize) -> 
 {
     let parent = parents::parent(graph, l, position, k);
     rows::id_at(graph, l, parent)
-}
-
-// The seconds of that parent, from its own row.
-pub fn row_parent_seconds(graph: &[u8], l: Layout, position: usize, k: usize) -> Seconds
-    ensures { λ r. ⌜ GivesRowParentSeconds (now (graph .entry)) l position k r ⌝ }
-{
-    let parent = parents::parent(graph, l, position, k);
-    rows::seconds(graph, l, parent)
 }

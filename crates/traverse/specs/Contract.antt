@@ -45,7 +45,7 @@ inputWith f tips = record {
   settings = f .settings;
 }
 
--- the lent buffers: those that a state stands in, the levels that painting uses, and parents
+-- the lent buffers: those that a state stands in; levels, which painting uses, and calls after it for positions in the graph file; and parents
 pub record Lent : Type 0 where
   pub memory : Memory
   pub levels : List ℕ

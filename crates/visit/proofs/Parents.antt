@@ -3,6 +3,7 @@
 use mathlib.Core.Path.{_≡_, refl, sym, ap, _∙_, subst}
 use Prim.Native.Nat.{ℕ, suc, _+_, _*_, _≤_, _<_}
 use mathlib.Core.Bool.{true}
+use mathlib.Core.Option.{some}
 use mathlib.Core.List.{List, [], _∷_, _++_, map, List·Memᴰ, List·Memᴰ·head, Memᴰ·append-left, Memᴰ·append-right, append-assoc, append-nil}
 use native.Mathlib.Omega.{arith}
 use lib.ListN.{length, take, drop, getD, length-append, length-drop}
@@ -10,16 +11,14 @@ use lib.Seq.{length-take-le, take-suc, take-append-seam, drop-append-add, drop-d
 use lib.IntN.{ℤ, pos}
 use Rattle.hash.specs.Bytes.{Id, idBytes, setDown}
 use Rattle.hash.proofs.Bytes.{setDown-fits}
-use Rattle.date.specs.declared.Seconds.{Seconds}
-use Rattle.commitgraph.specs.Graph.{graphOk, layoutOf}
+use Rattle.commitgraph.specs.Graph.{graphOk, layoutOf, idIn, secondsIn, parentsIn}
 use Rattle.commitgraph.specs.declared.Layout.{Layout}
 use Rattle.walk.specs.declared.Settings.{Settings}
 use Rattle.walk.specs.Lookup.{row, rowAt}
 use Rattle.walk.specs.State.{Walk, State}
 use Rattle.walk.specs.Next.{visit, visitAll}
 use Rattle.walk.specs.Given.{joined}
-use Rattle.reading.specs.Row.{GivesRowParent, GivesRowParentSeconds}
-use Rattle.reading.proofs.Rows.{row-few, row-width}
+use Rattle.reading.proofs.Rows.{parent-there, row-few, row-width}
 use Rattle.state.specs.declared.Record.{Record}
 use Rattle.state.specs.Reads.{Memory, Shape}
 use Rattle.visit.specs.Link.{GoesBy, Ready, Went, Visits}
@@ -115,14 +114,15 @@ module _ {excluded : List ℕ} {settings : Settings} {r : Record} {m : Memory} {
 
 -- ---- the parents of a row
 
-pub row-parent : {excluded : List ℕ} {settings : Settings} {g : List ℕ} {l : Layout} {p k : ℕ} {r r′ : Record} {m m′ : Memory} {b b′ : List ℕ} {y : Id} {s : Seconds}
-    → GivesRowParent g l p k y → GivesRowParentSeconds g l p k s → SetsParent k y b b′ → Visits excluded settings r m m′ y (s .0) r′
+-- q is the position that the row lists as its k-th parent
+pub row-parent : {excluded : List ℕ} {settings : Settings} {g : List ℕ} {l : Layout} {p k q : ℕ} {r r′ : Record} {m m′ : Memory} {b b′ : List ℕ} {y : Id}
+    → ((qs : List ℕ) → parentsIn g l p ≡ some qs → k < length qs → q ≡ getD qs k 0) → y ≡ idIn g l q → SetsParent k y b b′ → Visits excluded settings r m m′ y (secondsIn g l q) r′
     → VisitsRowParent excluded settings g l p k r m m′ b b′ r′
-row-parent {excluded} {settings} {g} {l} {p} {k} {r} {r′} {m} {m′} {b} {b′} {y} {s} i t d v = record {
+row-parent {excluded} {settings} {g} {l} {p} {k} {q} {r} {r′} {m} {m′} {b} {b′} {y} read i d v = record {
   right = λ own ps u w e h.
-      let x = i .right own ps u w e h in
-      let z = t .right own ps u w e h in (
-        subst (λ (q : Id). Visits excluded settings r m m′ q (getD ps k ([], pos 0) .1) r′) x (subst (λ (q : ℤ). Visits excluded settings r m m′ y q r′) z v),
+      let z = parent-there g p ps u w e own read h in
+      let x : y ≡ getD ps k ([], pos 0) .0 = i ∙ ap (λ (a : Id × ℤ). a .0) z in (
+        subst (λ (a : Id × ℤ). Visits excluded settings r m m′ (a .0) (a .1) r′) z (subst (λ (j : Id). Visits excluded settings r m m′ j (secondsIn g l q) r′) i v),
         d .down (omega (arith, h, row-few g p ps u w e)) (omega (arith, ap length x, row-narrow g p ps u w e k h)) ∙ ap (setDown b (idBytes * k)) x,
       );
   past = d .past;

@@ -1,4 +1,6 @@
 // One link to a parent (`insert_into_seen_and_next`, `insert_into_seen_and_queue`).
+use commitgraph::Layout;
+use commitgraph::rows;
 use date::Seconds;
 use state::Record;
 use state::Seen;
@@ -7,10 +9,14 @@ use walk::Settings;
 use walk::Sorting;
 ghost use mathlib.Core.Path.{_≡_};
 ghost use mathlib.Core.Bool.{true};
+ghost use Rattle.commitgraph.specs.Graph.{secondsIn};
 ghost use Rattle.walk.specs.Settings.{onlyFirst, cutoffOf, notBefore};
 ghost use Rattle.reading.specs.Tip.{GivesSeconds};
 ghost use Rattle.state.specs.Steps.{mem};
 ghost use Rattle.visit.specs.Link.{Admits, Enters, Visits, VisitsStored};
+
+// The largest number that is noted beside a slot.
+const MOST: usize = 4294967295;
 
 // Whether a walk follows first parents alone.
 pub(crate) fn only_first(settings: Settings) -> bool
@@ -69,21 +75,52 @@ fn enter(
     r
 }
 
-// Visits a parent whose seconds are known, as those in its own graph row are.
+// The seconds of a new parent in its own graph row, where commits wait by time; else they are not asked.
+fn new_row_seconds(graph: &[u8], l: Layout, parent: usize, fresh: bool, timed: bool) -> Seconds
+    ensures { λ r. ⌜ (fresh ≡ true → timed ≡ true → r .0 ≡ secondsIn (now (graph .entry)) l parent) ⌝ }
+{
+    if fresh {
+        if timed {
+            return rows::seconds(graph, l, parent);
+        }
+    }
+    Seconds(0)
+}
+
+// Notes the position of a new parent beside its slot, where it is tried first when the parent leaves the queue. Nothing is promised of what is
+// noted: a row is looked up by its id.
+fn note(levels: &mut [u32], seen: Seen, parent: usize) {
+    let slot = seen.slot;
+    if seen.fresh {
+        if slot < levels.len() {
+            if parent <= MOST {
+                levels[slot] = parent as u32;
+            }
+        }
+    }
+}
+
+// Visits the parent at a position of the commit-graph file: its seconds are those of its own row.
 pub fn visit_cached(
     r: Record,
     names: &mut [u8],
     marks: &mut [u8],
+    levels: &mut [u32],
     times: &mut [i64],
     line: &mut [u32],
     excluded: &[u8],
     settings: Settings,
+    graph: &[u8],
+    l: Layout,
+    parent: usize,
     id: &[u8],
-    s: Seconds,
 ) -> Record
-    ensures { λ a. ⌜ Visits (now (excluded .entry)) settings r (mem (now (names .entry)) (now (marks .entry)) (now (times .entry)) (now (line .entry))) (mem (now (names .exit)) (now (marks .exit)) (now (times .exit)) (now (line .exit))) (now (id .entry)) (s .0) a ⌝ }
+    ensures { λ a. ⌜ Visits (now (excluded .entry)) settings r (mem (now (names .entry)) (now (marks .entry)) (now (times .entry)) (now (line .entry))) (mem (now (names .exit)) (now (marks .exit)) (now (times .exit)) (now (line .exit))) (now (id .entry)) (secondsIn (now (graph .entry)) l parent) a ⌝ }
 {
     let seen = state::see(r, names, marks, id);
+    let q = r.queue;
+    let s = new_row_seconds(graph, l, parent, seen.fresh, q.timed);
+    note(levels, seen, parent);
     enter(r, seen, times, line, excluded, settings, id, s)
 }
 

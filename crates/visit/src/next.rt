@@ -18,6 +18,7 @@ use walk::Outcome;
 use walk::Refusal;
 use walk::Settings;
 ghost use mathlib.Core.Path.{_≡_};
+ghost use lib.ListN.{getD};
 ghost use Rattle.walk.specs.declared.Outcome.the-variants.{Refused};
 ghost use Rattle.walk.specs.declared.MaybeLevel.the-variants.{NoGeneration};
 ghost use Rattle.walk.specs.declared.MaybeSeconds.the-variants.{NoTime};
@@ -106,6 +107,7 @@ fn take_row(
     level: Level,
     names: &mut [u8],
     marks: &mut [u8],
+    levels: &mut [u32],
     times: &mut [i64],
     line: &mut [u32],
     parents: &mut [u8],
@@ -125,6 +127,7 @@ fn take_row(
         n,
         names,
         marks,
+        levels,
         times,
         line,
         parents,
@@ -245,6 +248,20 @@ fn take_stored(
     end_walk(r)
 }
 
+fn wide(x: u32) -> usize
+    ensures { λ r. ⌜ r ≡ x ⌝ }
+{
+    x as usize
+}
+
+// The position that is noted beside a slot, 0 past the end.
+fn noted(levels: &[u32], slot: u32) -> usize
+    ensures { λ r. ⌜ r ≡ getD (now (levels .entry)) slot 0 ⌝ }
+{
+    let i = wide(slot);
+    if i < levels.len() { wide(levels[i]) } else { 0 }
+}
+
 // The next commit of the queue: it is looked up, and its parents are visited. A corrupt parent list drops the commit-graph file for good, and
 // the call goes on from the store.
 pub fn take_next(
@@ -253,6 +270,7 @@ pub fn take_next(
     store: &[u8],
     names: &mut [u8],
     marks: &mut [u8],
+    levels: &mut [u32],
     times: &mut [i64],
     line: &mut [u32],
     parents: &mut [u8],
@@ -268,7 +286,8 @@ pub fn take_next(
     let cache = reading::cache_of(graph, r.kept);
     let l = reading::layout_of(cache);
     let id = first.id;
-    match reading::row_of(cache, graph, &id.bytes) {
+    let near = noted(levels, first.slot);
+    match reading::row_of(cache, graph, &id.bytes, near) {
         RowRead::Row {
             position,
             parents: count,
@@ -284,6 +303,7 @@ pub fn take_next(
             level,
             names,
             marks,
+            levels,
             times,
             line,
             parents,

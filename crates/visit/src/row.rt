@@ -1,6 +1,8 @@
 // The parents of a commit from the commit-graph file.
 use crate::link::visit_cached;
 use commitgraph::Layout;
+use commitgraph::parents;
+use commitgraph::rows;
 use state::Record;
 use walk::Settings;
 ghost use Rattle.state.specs.Steps.{mem};
@@ -27,6 +29,7 @@ fn visit_row_parent(
     k: usize,
     names: &mut [u8],
     marks: &mut [u8],
+    levels: &mut [u32],
     times: &mut [i64],
     line: &mut [u32],
     parents: &mut [u8],
@@ -35,10 +38,23 @@ fn visit_row_parent(
 ) -> Record
     ensures { λ a. ⌜ VisitsRowParent (now (excluded .entry)) settings (now (graph .entry)) l position k r (mem (now (names .entry)) (now (marks .entry)) (now (times .entry)) (now (line .entry))) (mem (now (names .exit)) (now (marks .exit)) (now (times .exit)) (now (line .exit))) (now (parents .entry)) (now (parents .exit)) a ⌝ }
 {
-    let id = reading::row_parent(graph, l, position, k);
-    let s = reading::row_parent_seconds(graph, l, position, k);
+    let parent = parents::parent(graph, l, position, k);
+    let id = rows::id_at(graph, l, parent);
     set_parent(parents, k, id);
-    visit_cached(r, names, marks, times, line, excluded, settings, id, s)
+    visit_cached(
+        r,
+        names,
+        marks,
+        levels,
+        times,
+        line,
+        excluded,
+        settings,
+        graph,
+        l,
+        parent,
+        id,
+    )
 }
 
 // Sets down and visits the first n parents of the row at a position, whose list was found good before.
@@ -50,6 +66,7 @@ pub fn visit_row(
     n: usize,
     names: &mut [u8],
     marks: &mut [u8],
+    levels: &mut [u32],
     times: &mut [i64],
     line: &mut [u32],
     parents: &mut [u8],
@@ -69,6 +86,7 @@ pub fn visit_row(
             k,
             names,
             marks,
+            levels,
             times,
             line,
             parents,

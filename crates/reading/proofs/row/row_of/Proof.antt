@@ -1,4 +1,4 @@
--- `reading::row_of` meets its contract: the row that the lookup found is read. Assumes nothing.
+-- `reading::row_of` meets its contract: the row that the lookup found is read, wherever it looked first. Assumes nothing.
 use Rattle.reading.proofs.Rows.{reads-row, no-row-listed, no-row-used}
 use borrow.Author.Needs.{needs}
 use Rattle.reading.proofs.row.row_of.Statement.{statement}
@@ -7,8 +7,8 @@ use Rattle.reading.proofs.row.row_of.Tie as tie
 enum-known-cache : tie.Need-enum-known-cache
 enum-known-cache c = search needs
 
-lookup-requires : tie.Need-lookup-requires
-lookup-requires c κs = search needs
+lookup-near-requires : tie.Need-lookup-near-requires
+lookup-near-requires c κs = search needs
 
 enum-known-p : tie.Need-enum-known-p
 enum-known-p c = search needs
@@ -23,10 +23,10 @@ enum-told-2 : tie.Need-enum-told-2
 enum-told-2 c = search needs
 
 returns : tie.Need-returns
-returns c = rw (c .before .before .before .before .before .before .cache .given .1, c .row-at .ensures) (reads-row _ (c .before .before .before .before .lookup .ensures) (c .before .before .p .given .1))
+returns c = rw (c .before .before .before .before .before .before .cache .given .1, c .row-at .ensures) (reads-row _ (c .before .before .before .before .lookup-near .ensures) (c .before .before .p .given .1))
 
 returns-2 : tie.Need-returns-2
-returns-2 c = rw (c .before .before .before .before .cache .given .1) (no-row-listed (c .before .before .lookup .ensures) (c .enum-told .given .1))
+returns-2 c = rw (c .before .before .before .before .cache .given .1) (no-row-listed (c .before .before .lookup-near .ensures) (c .enum-told .given .1))
 
 returns-3 : tie.Need-returns-3
 returns-3 c = rw (c .enum-told2 .given .1) (no-row-used _ _)
@@ -36,7 +36,7 @@ row-of-spec =
     tie.close
     (tie.spec
     enum-known-cache
-    lookup-requires
+    lookup-near-requires
     enum-known-p
     row-at-requires
     enum-told

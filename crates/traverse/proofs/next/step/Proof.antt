@@ -1,6 +1,5 @@
 -- `next::step` meets its contract: 12 for a record or memory that is not whole, else the next commit, of a painted state or by the first call.
 -- Assumes nothing.
-use lib.ListN.{length}
 use borrow.Author.Needs.{needs}
 use borrow.Author.Tests.{not-true, not-false}
 use Rattle.traverse.specs.Contract.{lengthsOf}
@@ -65,13 +64,12 @@ same-length-12 c = search needs
 returns-2 : tie.Need-returns-2
 unfolding lengthsOf
 returns-2 c =
-    let t = c .before .before .before .before .before .before .before .before .before .before in
-    let p = t .before .before .before .before .before .before in
+    let t = c .before .before .before .before .before .before .before .before .before .before .before .before in
+    let p = t .before .before .before .before .before .before .before in
     let w = p .before .before .is-whole in
-    let x = p .before .before .before .before .before .before .before .before .before .before .before .before .before .before .before .before .before .before .args in
-    let k = t .take-next .kept in
-    goes-says (w .ensures) (not-false (w .result) (p .before .if1 .left)) (p .if2 .taken) (taken-goes _ (t .take-next .ensures .0) (t .take-next .ensures .1) (k .1 .1 .1 .1 .1 .1 .1 .0) (c .after .ensures))
-    (λ i. record { names = k .1 .1 .1 .0 i; marks = k .1 .1 .1 .1 .0 i; levels = length (x .levels .now); times = k .1 .1 .1 .1 .1 .0 i; line = k .1 .1 .1 .1 .1 .1 .0 i; parents = k .1 .1 .1 .1 .1 .1 .1 .0 i })
+    let k = t .take-next .kept .1 .1 .1 in
+    goes-says (w .ensures) (not-false (w .result) (p .before .if1 .left)) (p .if2 .taken) (taken-goes _ (t .take-next .ensures .0) (t .take-next .ensures .1) (k .1 .1 .1 .1 .1 .0) (c .after .ensures))
+    (λ i. record { names = k .0 i; marks = k .1 .0 i; levels = k .1 .1 .0 i; times = k .1 .1 .1 .0 i; line = k .1 .1 .1 .1 .0 i; parents = k .1 .1 .1 .1 .1 .0 i })
 
 first-call-requires : tie.Need-first-call-requires
 first-call-requires c κs = search needs

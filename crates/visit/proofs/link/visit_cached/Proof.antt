@@ -1,5 +1,6 @@
--- `visit::link::visit_cached` meets its contract: the parent is seen, and enters where it is new. Assumes nothing.
-use mathlib.Core.Path.{refl}
+-- `visit::link::visit_cached` meets its contract: the parent is seen, and enters where it is new; its seconds are read there, and do not count elsewhere.
+-- Assumes nothing.
+use Rattle.commitgraph.specs.Graph.{secondsIn}
 use Rattle.visit.proofs.Links.{visits}
 use borrow.Author.Needs.{needs}
 use Rattle.visit.proofs.link.visit_cached.Statement.{statement}
@@ -7,6 +8,12 @@ use Rattle.visit.proofs.link.visit_cached.Tie as tie
 
 see-requires : tie.Need-see-requires
 see-requires c κs = search needs
+
+new-row-seconds-requires : tie.Need-new-row-seconds-requires
+new-row-seconds-requires c κs = search needs
+
+note-requires : tie.Need-note-requires
+note-requires c κs = search needs
 
 enter-requires : tie.Need-enter-requires
 enter-requires c κs = search needs
@@ -23,17 +30,26 @@ same-length-3 c = search needs
 same-length-4 : tie.Need-same-length-4
 same-length-4 c = search needs
 
+same-length-5 : tie.Need-same-length-5
+same-length-5 c = search needs
+
 returns : tie.Need-returns
-returns c = let t = c .before .before .before .before .before .before .before .before .before .before .before .before .before .before .before .before .before .before .args .s .0 in visits (c .before .before .before .before .before .before .before .before .before .before .see .ensures) t t (λ h j. refl) (c .before .before .before .enter .ensures)
+returns c =
+    let x = c .before .before .before .before .before .before .before .before .before .before .before .before .before .before .before .before .before .before .before .before .before .before .before .before .before .before .args in
+    let s = c .before .before .before .before .before .before .before .before .before .before .new-row-seconds in
+    visits (c .before .before .before .before .before .before .before .before .before .before .before .before .before .before .before .before .see .ensures) (s .result .0) (secondsIn (x .graph .now) (x .l) (x .parent)) (s .ensures) (c .before .before .before .enter .ensures)
 
 pub visit-cached-spec : {M : Type 1} → statement M
 visit-cached-spec =
     tie.close
     (tie.spec
     see-requires
+    new-row-seconds-requires
+    note-requires
     enter-requires
     same-length
     same-length-2
     same-length-3
     same-length-4
+    same-length-5
     returns)

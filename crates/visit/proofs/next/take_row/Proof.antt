@@ -31,8 +31,11 @@ same-length-4 c = search needs
 same-length-5 : tie.Need-same-length-5
 same-length-5 c = search needs
 
+same-length-6 : tie.Need-same-length-6
+same-length-6 c = search needs
+
 returns : tie.Need-returns
-returns c = rw (c .give .ensures, c .before .before .before .before .before .before .before .before .before .before .before .before .before .before .before .before .before .time-given .ensures) (takes-row (c .before .before .before .before .before .before .before .before .before .before .before .before .before .before .before .before .followed-count .ensures) (c .before .before .before .before .before .before .before .before .before .before .visit-row .ensures))
+returns c = rw (c .give .ensures, c .before .before .before .before .before .before .before .before .before .before .before .before .before .before .before .before .before .before .before .before .time-given .ensures) (takes-row (c .before .before .before .before .before .before .before .before .before .before .before .before .before .before .before .before .before .before .before .followed-count .ensures) (c .before .before .before .before .before .before .before .before .before .before .before .before .visit-row .ensures))
 
 pub take-row-spec : {M : Type 1} → statement M
 take-row-spec =
@@ -47,4 +50,5 @@ take-row-spec =
     same-length-3
     same-length-4
     same-length-5
+    same-length-6
     returns)

@@ -1,14 +1,14 @@
--- `visit::row::visit_row_parent` meets its contract: the id and the seconds are those that the row lists. Assumes nothing.
+-- `visit::row::visit_row_parent` meets its contract: the id and the seconds are those at the position that the row lists. Assumes nothing.
 use Rattle.visit.proofs.Parents.{row-parent}
 use borrow.Author.Needs.{needs}
 use Rattle.visit.proofs.row.visit_row_parent.Statement.{statement}
 use Rattle.visit.proofs.row.visit_row_parent.Tie as tie
 
-row-parent-requires : tie.Need-row-parent-requires
-row-parent-requires c κs = search needs
+parent-requires : tie.Need-parent-requires
+parent-requires c κs = search needs
 
-row-parent-seconds-requires : tie.Need-row-parent-seconds-requires
-row-parent-seconds-requires c κs = search needs
+id-at-requires : tie.Need-id-at-requires
+id-at-requires c κs = search needs
 
 set-parent-requires : tie.Need-set-parent-requires
 set-parent-requires c κs = search needs
@@ -31,15 +31,18 @@ same-length-4 c = search needs
 same-length-5 : tie.Need-same-length-5
 same-length-5 c = search needs
 
+same-length-6 : tie.Need-same-length-6
+same-length-6 c = search needs
+
 returns : tie.Need-returns
-returns c = row-parent (c .before .before .before .before .before .before .before .before .before .before .before .before .before .before .before .before .before .row-parent .ensures) (c .before .before .before .before .before .before .before .before .before .before .before .before .before .before .before .before .row-parent-seconds .ensures) (c .before .before .before .before .before .before .before .before .before .before .before .before .before .before .set-parent .ensures) (c .before .before .before .before .before .before .before .visit-cached .ensures)
+returns c = row-parent (c .before .before .before .before .before .before .before .before .before .before .before .before .before .before .before .before .before .before .before .before .parent .ensures) (c .before .before .before .before .before .before .before .before .before .before .before .before .before .before .before .before .before .before .before .id-at .ensures) (c .before .before .before .before .before .before .before .before .before .before .before .before .before .before .before .before .before .set-parent .ensures) (c .before .before .before .before .before .before .before .before .before .visit-cached .ensures)
 
 pub visit-row-parent-spec : {M : Type 1} → statement M
 visit-row-parent-spec =
     tie.close
     (tie.spec
-    row-parent-requires
-    row-parent-seconds-requires
+    parent-requires
+    id-at-requires
     set-parent-requires
     visit-cached-requires
     same-length
@@ -47,4 +50,5 @@ visit-row-parent-spec =
     same-length-3
     same-length-4
     same-length-5
+    same-length-6
     returns)
