@@ -18,8 +18,8 @@ use Rattle.revwalk.proofs.PendingLaws.{getD-below}
 use Rattle.walk.specs.Lookup.{World}
 use Rattle.walk.specs.Painting.{Paint, mark, markAll}
 use Rattle.reading.specs.Files.{worldUnder}
-use Rattle.reading.specs.Ids.{padded}
-use Rattle.reading.proofs.IdBytes.{padded-id}
+use Rattle.object.specs.Ids.{padded}
+use Rattle.object.proofs.IdBytes.{padded-id}
 use Rattle.frontier.specs.declared.marking.Marked.{Marked}
 use Rattle.frontier.specs.declared.marking.Marked.the-variants.{Going}
 use Rattle.frontier.specs.Bits.{marksOf}

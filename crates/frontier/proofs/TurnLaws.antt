@@ -25,10 +25,10 @@ use Rattle.walk.specs.Lookup.{World, Pair, read, parentsOf}
 use Rattle.walk.specs.Painting.{Paint, Painting, stop, going, then, Marks, pass, passed, withPending, fresh, turn, turns}
 use Rattle.walk.specs.declared.Refusal.{Refusal}
 use Rattle.reading.specs.Files.{worldUnder}
-use Rattle.reading.specs.Ids.{padded}
+use Rattle.object.specs.Ids.{padded}
 use Rattle.reading.specs.Whole.{IsRead, ReadsCommit}
 use Rattle.reading.specs.declared.Commit.{Commit}
-use Rattle.reading.proofs.IdBytes.{padded-id}
+use Rattle.object.proofs.IdBytes.{padded-id}
 use Rattle.frontier.specs.declared.marking.Marked.{Marked}
 use Rattle.frontier.specs.declared.marking.Marked.the-variants.{Going, Stop, NoRoom}
 use Rattle.frontier.specs.Bits.{isPainted, marksOf, passedBits}

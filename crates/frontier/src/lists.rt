@@ -15,7 +15,7 @@ ghost use Rattle.hash.specs.Bytes.{idBytes};
 ghost use Rattle.walk.specs.Painting.{markAll};
 ghost use Rattle.walk.specs.Opening.{listIds};
 ghost use Rattle.hashtable.specs.Table.{idOf};
-ghost use Rattle.reading.specs.Ids.{padded};
+ghost use Rattle.object.specs.Ids.{padded};
 ghost use Rattle.reading.specs.Whole.{parentCount};
 ghost use Rattle.frontier.specs.Paint.{lent};
 ghost use Rattle.frontier.specs.Mark.{Takes, TakesAfter, passTo, LacksMark};

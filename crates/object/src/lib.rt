@@ -1,8 +1,9 @@
 // Header lines of one commit (gix_object::CommitRefIter): functions on the commit's bytes and a place, total on every input.
-use date::Seconds;
-
+mod id;
 pub mod person;
 
+use date::Seconds;
+pub use id::id_of;
 ghost use mathlib.Core.Path.{_≡_};
 ghost use mathlib.Core.Bool.{true};
 ghost use mathlib.Core.Option.{none};

@@ -1,4 +1,4 @@
-pub mod IdBytes
+pub mod IdLists
 pub mod World
 pub mod Tips
 pub mod Rows

@@ -31,14 +31,14 @@ use Rattle.walk.specs.Lookup.{World, Row as ModelRow, corrupt, row, rowAt, Pair
 use Rattle.walk.specs.declared.Refusal.{Refusal}
 use Rattle.walk.specs.declared.Refusal.the-variants.{CommitNotFound, CommitUnreadable, TooManyParents}
 use Rattle.reading.specs.Files.{layoutUnder, worldUnder}
-use Rattle.reading.specs.Ids.{padded}
+use Rattle.object.specs.Ids.{padded}
 use Rattle.reading.specs.Row.{GivesRowParent}
 use Rattle.reading.specs.Body.{GivesBodyParent}
 use Rattle.reading.specs.Whole.{pairIn, rowCommit, bodyCommit, Tells, Names, IsRead, parentCount, ReadsCommit, GivesParent}
 use Rattle.reading.specs.declared.Commit.{Commit}
 use Rattle.reading.specs.declared.Commit.the-variants.{Row, Body, Failed}
 use Rattle.walk.specs.declared.GenThenTime.{GenThenTime}
-use Rattle.reading.proofs.IdBytes.{padded-id}
+use Rattle.object.proofs.IdBytes.{padded-id}
 use Rattle.reading.proofs.World.{RowFound, found-row, found-body, found-absent}
 use Rattle.reading.proofs.Rows.{parentAt, list-good, list-broken, list-few, row-width}
 

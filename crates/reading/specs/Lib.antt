@@ -1,5 +1,4 @@
 pub mod Files
-pub mod Ids
 pub mod Tip
 pub mod Row
 pub mod Body

@@ -18,7 +18,6 @@ use commitgraph::parents;
 use commitgraph::parents::ParentList;
 use commitgraph::rows;
 pub use ids::id_by_value;
-pub use ids::id_of;
 pub use ids::is_among;
 use object::ObjectId;
 use object::Reading;
@@ -143,7 +142,12 @@ pub fn parent_of(commit: Commit, k: usize, cache: Cache, graph: &[u8], store: &[
     ensures { λ r. ⌜ GivesParent cache (now (graph .entry)) (now (store .entry)) commit k r ⌝ }
 {
     match commit {
-        Commit::Row { position, .. } => id_of(row_parent(graph, layout_of(cache), position, k)),
+        Commit::Row { position, .. } => object::id_of(row_parent(
+            graph,
+            layout_of(cache),
+            position,
+            k,
+        )),
         Commit::Body { start, end, .. } => body_parent(
             odb::body(store, Located::Body { start, end }),
             k,

@@ -1,4 +1,3 @@
-pub mod Copies
 pub mod Entries
 pub mod Shapes
 pub mod States

@@ -14,6 +14,8 @@ use Rattle.hashtable.specs.Table.{idOf}
 use Rattle.hashtable.proofs.TableIds.{width-of}
 use Rattle.date.specs.declared.Seconds.{Seconds}
 use Rattle.object.specs.declared.ObjectId.{ObjectId}
+use Rattle.object.specs.Ids.{padded}
+use Rattle.object.proofs.IdBytes.{padded-id}
 use Rattle.revwalk.specs.declared.queue.Popped.{Popped}
 use Rattle.revwalk.specs.Order.{In}
 use Rattle.revwalk.specs.Queue as queue
@@ -22,8 +24,7 @@ use Rattle.walk.specs.State.{State, withQueue}
 use Rattle.state.specs.declared.Record.{Record}
 use Rattle.state.specs.Reads.{Shape, entryOf, waiting, Reads}
 use Rattle.state.specs.Shapes.{requeued}
-use Rattle.state.specs.Steps.{mem, NotWaiting, LineKept, Copied, Taken, Pops}
-use Rattle.state.proofs.Copies.{copied-id}
+use Rattle.state.specs.Steps.{mem, NotWaiting, LineKept, Taken, Pops}
 use Rattle.state.proofs.Entries.{Split, split, none-left}
 use Rattle.state.proofs.States.{not-failed}
 use Rattle.state.proofs.Queueing.{requeue}
@@ -83,11 +84,11 @@ module _ {r : Record} {names : List ℕ} {times : List ℤ} {line line′ : List
         apart = pop-gone o (g .good) (took .found);
       }
 
-      pub taken : {b : ObjectId} {v : Seconds} → Copied (idOf names (p .slot)) (b .bytes) → v .0 ≡ getD times (p .slot) (pos 0)
+      pub taken : {b : ObjectId} {v : Seconds} → b .bytes ≡ padded (idOf names (p .slot)) → v .0 ≡ getD times (p .slot) (pos 0)
           → Taken names marks times line′ sh st x t l (record { found = true; slot = p .slot; id = b; seconds = v; rest = requeued r (p .queue) (r .kept) (r .admitted) })
       taken c v = record {
         found = refl;
-        id = copied-id c (width-of (p .slot) (g .table .sized) (slot .low)) ∙ slot .holds;
+        id = c ∙ padded-id (idOf names (p .slot)) (width-of (p .slot) (g .table .sized) (slot .low)) ∙ slot .holds;
         seconds = λ h. v ∙ (ap (λ (b : Bool). cond b (getD times (p .slot) (pos 0)) (pos 0)) (sym h) ∙ ap (λ (y : Id × ℤ). y .1) entry);
         failed = failed;
         reads = left;
@@ -95,7 +96,7 @@ module _ {r : Record} {names : List ℕ} {times : List ℤ} {line line′ : List
         entry = entry;
       }
 
-  pub pops-some : {b : ObjectId} {v : Seconds} → not (p .found) ≡ false → Copied (idOf names (p .slot)) (b .bytes) → v .0 ≡ getD times (p .slot) (pos 0)
+  pub pops-some : {b : ObjectId} {v : Seconds} → not (p .found) ≡ false → b .bytes ≡ padded (idOf names (p .slot)) → v .0 ≡ getD times (p .slot) (pos 0)
       → Pops r names times line line′ (record { found = true; slot = p .slot; id = b; seconds = v; rest = requeued r (p .queue) (r .kept) (r .admitted) })
   pops-some f c v = record {
     for-line = pops-line o;

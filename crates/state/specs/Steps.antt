@@ -74,11 +74,6 @@ pub record Visits (r : Record) (names marks names′ marks′ : List ℕ) (times
 
 -- ---- pop
 
--- the bytes b are those of the id x, zeros past its end
-pub record Copied (x b : List ℕ) : Type 0 where
-  pub width : length b ≡ idBytes
-  pub is : (k : ℕ) → k < idBytes → getD b k 0 ≡ getD x k 0
-
 -- x, queued with t seconds, has left the queue, which is l now
 pub record Taken (names marks : List ℕ) (times : List ℤ) (line : List ℕ) (sh : Shape) (st : State) (x : Id) (t : ℤ) (l : List (Id × ℤ)) (n : Next) : Type 0 where
   pub found : n .found ≡ true

@@ -10,11 +10,10 @@ use revwalk::queue;
 use revwalk::queue::Queue;
 ghost use mathlib.Core.Path.{_≡_};
 ghost use mathlib.Core.Bool.{cond};
-ghost use Prim.Native.Nat.{_≤_};
-ghost use lib.ListN.{length, getD, set};
+ghost use lib.ListN.{getD, set};
 ghost use lib.IntN.{pos};
 ghost use Rattle.state.specs.Shapes.{freshRecord, requeued};
-ghost use Rattle.state.specs.Steps.{Copied, Sees, Waits, Visits, Pops, Drops, Starts};
+ghost use Rattle.state.specs.Steps.{Sees, Waits, Visits, Pops, Drops, Starts};
 
 // What a call takes and gives back (document 01: one small record of counters).
 pub struct Record {
@@ -173,36 +172,6 @@ fn wide(x: u32) -> usize
     x as usize
 }
 
-// The bytes of a whole id by value.
-fn whole_id(id: &[u8]) -> ObjectId
-    requires { ⌜ 20 ≤ length (now id) ⌝ }
-    ensures { λ r. ⌜ Copied (now (id .entry)) (r .bytes) ⌝ }
-{
-    let mut bytes = [0u8; 20];
-    let mut i = 0;
-    while i < 20 {
-        bytes[i] = id[i];
-        i += 1;
-    }
-    ObjectId { bytes: bytes }
-}
-
-// The bytes of an id by value, zeros where the slice ends.
-fn object_id(id: &[u8]) -> ObjectId
-    ensures { λ r. ⌜ Copied (now (id .entry)) (r .bytes) ⌝ }
-{
-    if 20 <= id.len() {
-        return whole_id(id);
-    }
-    let mut bytes = [0u8; 20];
-    let mut i = 0;
-    while i < 20 {
-        bytes[i] = hash::byte_at(id, i);
-        i += 1;
-    }
-    ObjectId { bytes: bytes }
-}
-
 // The seconds of a slot, 0 past the end.
 fn time_of(times: &[i64], slot: usize) -> i64
     ensures { λ r. ⌜ r ≡ getD (now (times .entry)) slot (pos 0) ⌝ }
@@ -231,7 +200,7 @@ pub fn pop(r: Record, names: &[u8], times: &[i64], line: &mut [u32]) -> Next
         };
     }
     let slot = wide(p.slot);
-    let id = object_id(table::id_of(names, slot));
+    let id = object::id_of(table::id_of(names, slot));
     let seconds = seconds_of(times, slot);
     let rest = with_queue(r, p.queue, r.kept, r.admitted);
     Next {

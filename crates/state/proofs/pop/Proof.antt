@@ -1,11 +1,10 @@
 -- `state::pop` meets its contract: the slot that the queue hands out, with its id and seconds. Assumes nothing.
-use mathlib.Core.Path.{_∙_, ap, subst}
+use mathlib.Core.Path.{_∙_, ap}
 use Prim.Native.Nat.{ℕ}
-use mathlib.Core.List.{List}
 use lib.ListN.{getD}
 use lib.IntN.{pos}
 use Rattle.hashtable.specs.Table.{idOf}
-use Rattle.state.specs.Steps.{Copied}
+use Rattle.object.specs.Ids.{padded}
 use Rattle.state.proofs.Popping.{pops-none, pops-some}
 use borrow.Author.Needs.{needs}
 use Rattle.state.proofs.pop.Statement.{statement}
@@ -26,8 +25,8 @@ wide-requires c κs = search needs
 id-of-requires : tie.Need-id-of-requires
 id-of-requires c κs = search needs
 
-object-id-requires : tie.Need-object-id-requires
-object-id-requires c κs = search needs
+id-of-requires-2 : tie.Need-id-of-requires-2
+id-of-requires-2 c κs = search needs
 
 seconds-of-requires : tie.Need-seconds-of-requires
 seconds-of-requires c κs = search needs
@@ -46,7 +45,7 @@ returns-2 c =
     let x = p .before .before .before .before .args in
     rw (c .with-queue .ensures)
     (pops-some (p .pop .ensures) (w .before .if1 .left)
-    (subst (λ (s : List ℕ). Copied s (c .before .before .object-id .result .bytes)) (i .id-of .ensures ∙ ap (idOf (x .names .now)) (w .wide .ensures)) (c .before .before .object-id .ensures))
+    (c .before .before .id-of2 .ensures ∙ ap padded (i .id-of .ensures ∙ ap (idOf (x .names .now)) (w .wide .ensures)))
     (c .before .seconds-of .ensures ∙ ap (λ (k : ℕ). getD (x .times .now) k (pos 0)) (w .wide .ensures)))
 
 pub pop-spec : {M : Type 1} → statement M
@@ -58,7 +57,7 @@ pop-spec =
     returns
     wide-requires
     id-of-requires
-    object-id-requires
+    id-of-requires-2
     seconds-of-requires
     with-queue-requires
     same-length-2

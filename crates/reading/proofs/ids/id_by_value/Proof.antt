@@ -1,6 +1,6 @@
 -- `reading::id_by_value` meets its contract: it is the id that the part at the place begins with. Assumes nothing.
 use mathlib.Core.Path.{_∙_, ap}
-use Rattle.reading.specs.Ids.{padded}
+use Rattle.object.specs.Ids.{padded}
 use borrow.Author.Needs.{needs}
 use Rattle.reading.proofs.ids.id_by_value.Statement.{statement}
 use Rattle.reading.proofs.ids.id_by_value.Tie as tie

@@ -5,7 +5,7 @@ use Prim.Native.Nat.{_-_, _/_, _≤_}
 use lib.ListN.{length}
 use Rattle.hash.specs.Bytes.{eqId, among}
 use Rattle.walk.specs.Opening.{listIds}
-use Rattle.reading.proofs.IdBytes.{fromId, among-start, among-here, among-later, among-none}
+use Rattle.reading.proofs.IdLists.{fromId, among-start, among-here, among-later, among-none}
 use Rattle.reading.proofs.ids.is_among.Statement.{statement}
 use Rattle.reading.proofs.ids.is_among.Tie as tie
 

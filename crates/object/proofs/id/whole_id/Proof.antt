@@ -1,19 +1,19 @@
--- `state::whole_id` meets its contract: each byte that is stored is the id's at that place. Assumes nothing.
+-- `object::whole_id` meets its contract: each byte that is stored is the slice's at that place. Assumes nothing.
 use mathlib.Core.Path.{refl}
 use Prim.Native.Nat.{_-_}
 use borrow.Author.Needs.{needs}
-use Rattle.state.proofs.Copies.{Copying, copying-none, copying-more, copying-all}
-use Rattle.state.proofs.whole_id.Statement.{statement}
-use Rattle.state.proofs.whole_id.Tie as tie
+use Rattle.object.proofs.IdBytes.{Copying, copying-none, copying-more, copying-all}
+use Rattle.object.proofs.id.whole_id.Statement.{statement}
+use Rattle.object.proofs.id.whole_id.Tie as tie
 
 abbrev Inv-loop : tie.InvT-loop
-Inv-loop id bytes₀ i₀ bytes i = Copying id bytes i
+Inv-loop x bytes₀ i₀ bytes i = Copying x bytes i
 
 abbrev μ-loop : tie.MeasureT-loop
-μ-loop id bytes₀ i₀ bytes i = 20 - i
+μ-loop x bytes₀ i₀ bytes i = 20 - i
 
 loop-holds : tie.Need-loop-holds Inv-loop μ-loop
-loop-holds c = copying-none _ _ refl
+loop-holds c = copying-none _
 
 shared-slice-read-bytes : tie.Need-shared-slice-read-bytes Inv-loop μ-loop
 shared-slice-read-bytes c = search needs

@@ -1,0 +1,39 @@
+-- Laws of lists of ids: a list looked through id by id. Assumes nothing.
+use mathlib.Core.Path.{_≡_, _∙_, ap}
+use Prim.Native.Nat.{ℕ, suc, _+_, _*_, _-_, _/_, _≤_, _<_}
+use mathlib.Core.Bool.{Bool, true, false, cond}
+use mathlib.Core.List.{List, _∷_}
+use native.Mathlib.Omega.{arith}
+use lib.ListN.{length, take, drop}
+use lib.Seq.{drop-drop}
+use Rattle.hash.specs.Bytes.{Id, idBytes, at, eqId, among, idsOf}
+use Rattle.walk.specs.Opening.{listIds}
+
+-- n ids, of which k were passed
+abbrev pub fromId : List ℕ → ℕ → ℕ → List Id
+fromId b n k = idsOf (n - k) (drop (20 * k) b)
+
+pub among-start : (x : Id) (b : List ℕ) → among x (listIds b) ≡ among x (fromId b (length b / 20) 0)
+unfolding listIds
+among-start x b = let m : length b / 20 ≡ length b / 20 - 0 = omega arith in ap (λ (j : ℕ). among x (idsOf j b)) m
+
+module _ (x : Id) (b : List ℕ) (n k : ℕ) (h : k < n) where
+  next-id : fromId b n k ≡ at b (20 * k) idBytes ∷ fromId b n (k + 1)
+  unfolding idsOf at
+  next-id =
+      let m : n - k ≡ suc (n - (k + 1)) = omega arith in
+      let d : 20 * k + 20 ≡ 20 * (k + 1) = omega arith in
+      ap (λ (j : ℕ). idsOf j (drop (20 * k) b)) m
+      ∙ ap (λ (c : List ℕ). take idBytes (drop (20 * k) b) ∷ idsOf (n - (k + 1)) c) (drop-drop idBytes (20 * k) b ∙ ap (λ (j : ℕ). drop j b) d)
+
+  pub among-here : eqId x (at b (20 * k) idBytes) ≡ true → among x (fromId b n k) ≡ true
+  unfolding among
+  among-here e = ap (among x) next-id ∙ ap (λ (t : Bool). cond t true (among x (fromId b n (k + 1)))) e
+
+  pub among-later : eqId x (at b (20 * k) idBytes) ≡ false → among x (fromId b n k) ≡ among x (fromId b n (k + 1))
+  unfolding among
+  among-later e = ap (among x) next-id ∙ ap (λ (t : Bool). cond t true (among x (fromId b n (k + 1)))) e
+
+pub among-none : (x : Id) (b : List ℕ) (n k : ℕ) → n ≤ k → among x (fromId b n k) ≡ false
+unfolding among idsOf
+among-none x b n k h = let m : n - k ≡ 0 = omega arith in ap (λ (j : ℕ). among x (idsOf j (drop (20 * k) b))) m
