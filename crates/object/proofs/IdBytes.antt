@@ -38,6 +38,17 @@ filled (x ∷ xs) [] i h k = absurd (not-suc-le-zero k)
 filled (x ∷ xs) (y ∷ ys) zero h k = refl
 filled (x ∷ xs) (y ∷ ys) (suc i) h k = ap (λ (l : List ℕ). x ∷ l) (filled xs ys i (le-of-suc-le-suc h) (le-of-suc-le-suc k))
 
+zeros-taken : (m j : ℕ) → m ≤ j → replicate {A = ℕ} m 0 ≡ take m (replicate j 0)
+zeros-taken zero j h = refl
+zeros-taken (suc m) zero h = absurd (not-suc-le-zero h)
+zeros-taken (suc m) (suc j) h = ap (λ (l : List ℕ). 0 ∷ l) (zeros-taken m j (le-of-suc-le-suc h))
+
+-- a list that is copied whole over zeros
+ended : (x : List ℕ) (m j : ℕ) → length x ≤ m → m ≤ j → take (length x) (take m (x ++ replicate j 0)) ++ drop (length x) (replicate m 0) ≡ take m (x ++ replicate j 0)
+ended [] m j h k = zeros-taken m j k
+ended (y ∷ ys) zero j h k = absurd (not-suc-le-zero h)
+ended (y ∷ ys) (suc m) j h k = ap (λ (l : List ℕ). y ∷ l) (ended ys m j (le-of-suc-le-suc h) (omega arith))
+
 -- the first i bytes of the value are copied over zeros
 pub record Copying (x b : List ℕ) (i : ℕ) : Type 0 where
   pub few : i ≤ idBytes
@@ -60,3 +71,8 @@ pub copying-all : {x b : List ℕ} {i : ℕ} → Copying x b i → idBytes ≤ i
 copying-all {x} {b} {i} c h =
     let e : i ≡ idBytes = omega (arith, c .few) in
     (rw e at (c .is)) ∙ append-nil (take idBytes (padded x)) ∙ take-all idBytes (padded x) (omega (arith, padded-length x))
+
+-- zeros are left where the slice ended
+pub copying-ended : {x b : List ℕ} {i : ℕ} → Copying x b i → i ≡ length x → b ≡ padded x
+unfolding padded
+copying-ended {x} {b} {i} c e = (rw e at (c .is)) ∙ ended x idBytes idBytes (omega (arith, c .few, e)) (omega arith)

@@ -19,15 +19,16 @@ fn whole_id(x: &[u8]) -> ObjectId
     ObjectId { bytes }
 }
 
-// The bytes of a slice that may end before an id does.
+// The bytes of a slice that is no longer than an id, and zeros after them.
 fn short_id(x: &[u8]) -> ObjectId
+    requires { ⌜ length (now x) ≤ 20 ⌝ }
     ensures { λ r. ⌜ r .bytes ≡ padded (now (x .entry)) ⌝ }
 {
     let mut bytes = [0u8; 20];
-    let mut k = 0;
-    while k < 20 {
-        bytes[k] = hash::byte_at(x, k);
-        k += 1;
+    let mut i = 0;
+    while i < x.len() {
+        bytes[i] = x[i];
+        i += 1;
     }
     ObjectId { bytes }
 }
