@@ -114,7 +114,7 @@ pub fn find_slot(names: &[u8], marks: &[u8], cap: usize, painted: bool, id: &[u8
             return Slot::Vacant(first_of(cap, spare, k));
         }
         if is_live(painted, m) {
-            if hash::same(id_of(names, k), id) {
+            if hash::same_id(id_of(names, k), id) {
                 return Slot::Found(k);
             }
         } else {

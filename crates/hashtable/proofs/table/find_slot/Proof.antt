@@ -8,6 +8,7 @@ use Prim.Native.Nat.{_-_}
 use borrow.Author.Tests.{not-true, not-false}
 use Rattle.hash.proofs.Ids.{eqId-eq, eqId-same}
 use Rattle.hash.proofs.Tests.{clash}
+use Rattle.hash.proofs.Words.{of-width}
 use Rattle.hashtable.proofs.MarksBits.{not-0-live}
 use Rattle.hashtable.proofs.TableProbe.{Searching, told, untried, passed, remembered, at-found, at-empty, at-spare, at-full, wrong-sizes}
 use Rattle.hashtable.proofs.table.find_slot.Statement.{statement}
@@ -52,15 +53,15 @@ is-live-requires c κs = search needs
 id-of-requires : tie.Need-id-of-requires Inv-loop μ-loop
 id-of-requires c κs = search needs
 
-same-requires : tie.Need-same-requires Inv-loop μ-loop
-same-requires c κs = search needs
+same-id-requires : tie.Need-same-id-requires Inv-loop μ-loop
+same-id-requires c κs = search needs
 
 returns-3 : tie.Need-returns-3 Inv-loop μ-loop
 returns-3 c =
     let m = c .before .before .before .before in
     let a = m .before .before .before in
     let v = a .before .before .loop .inv in
-    at-found (a .before .before .loop .i) (v .tried) (v .sizes) (a .around .result) (a .around .ensures .1) (sym (m .is-live .ensures) ∙ c .before .before .before .if3 .taken) (sym (c .before .before .id-of .ensures) ∙ eqId-eq _ _ (sym (c .before .same .ensures) ∙ c .if4 .taken))
+    at-found (a .before .before .loop .i) (v .tried) (v .sizes) (a .around .result) (a .around .ensures .1) (sym (m .is-live .ensures) ∙ c .before .before .before .if3 .taken) (sym (c .before .before .id-of .ensures) ∙ eqId-eq _ _ (sym (c .before .same-id .ensures ∙ of-width _ _ (v .sizes .width)) ∙ c .if4 .taken))
 
 first-of-requires-2 : tie.Need-first-of-requires-2 Inv-loop μ-loop
 first-of-requires-2 c κs = search needs
@@ -83,7 +84,7 @@ loop-again c =
       sizes = v .sizes;
       home = v .home;
       tried = ⊎-elim
-          (λ w. rw (w .4) (passed (l .loop .i) (v .tried) (a .around .result) k (sym (m .is-live .ensures) ∙ w .0 .taken) (λ e. clash (eqId-same _ _ (w .1 .ensures ∙ e)) (sym (w .2 .ensures) ∙ w .3 .left))))
+          (λ w. rw (w .4) (passed (l .loop .i) (v .tried) (a .around .result) k (sym (m .is-live .ensures) ∙ w .0 .taken) (λ e. clash (eqId-same _ _ (w .1 .ensures ∙ e)) (sym (w .2 .ensures ∙ of-width _ _ (v .sizes .width)) ∙ w .3 .left))))
           (λ w. rw (w .2 ∙ w .1 .ensures) (remembered (l .loop .i) (v .tried) (a .around .result) k (search needs) (not-0-live _ (m .before .if2 .left)) (sym (m .is-live .ensures) ∙ w .0 .left)))
           (c .if3 .came);
     }
@@ -110,7 +111,7 @@ find-slot-spec =
     returns-2
     is-live-requires
     id-of-requires
-    same-requires
+    same-id-requires
     returns-3
     first-of-requires-2
     add-i
