@@ -170,17 +170,19 @@ fn spin(history: &History, files: &simple::Files, walk: &Walk, peer: &str) {
     let mut memory = ours::Memory::new(history, walk);
     let (start, mut runs) = (Instant::now(), 0);
     let (mut opening, mut walking, mut commits) = (Duration::ZERO, Duration::ZERO, 0);
+    let mut least = f64::MAX;
     while start.elapsed() < Duration::from_secs(2) {
         let sample = if peer == "ours" { memory.sample(history, walk, 1) } else { files.sample(history, walk, 1) };
         opening += sample.opening;
         walking += sample.walking;
+        least = least.min(sample.walking.as_nanos() as f64 / sample.listed.commits as f64);
         commits += sample.listed.commits;
         runs += 1;
     }
     let [opening, walking] = [opening, walking].map(|time| time.as_nanos() as f64 / commits as f64);
     let graph = if walk.graph { "with" } else { "without" };
     println!(
-        "{peer}, {} {} {} {graph} graph: {runs} runs, opening {opening:.0}, walk {walking:.0}",
+        "{peer}, {} {} {} {graph} graph: {runs} runs, opening {opening:.0}, walk {walking:.0}, least {least:.0}",
         history.name, history.commits, walk.name
     );
 }
