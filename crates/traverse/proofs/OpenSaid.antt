@@ -106,13 +106,13 @@ refused-says i m o e a =
     }
 
 module _ (i : Input) (m m′ : Lent) (o : Opened) {r : Record} (e : Fine ≡ checkedBy (openWalk i (roomFor i (lengthsOf m)))) (f : Fills i (m .memory) (m′ .memory) r) (a : Accepts r o)
-    (l : m′ .levels ≡ m .levels) (p : m′ .parents ≡ m .parents) where
+    (l : length (m′ .levels) ≡ length (m .levels)) (p : m′ .parents ≡ m .parents) where
   same : lengthsOf m′ ≡ lengthsOf m
   unfolding lengthsOf
   same = λ k. record {
     names = f .long .names k;
     marks = f .long .marks k;
-    levels = length (l k);
+    levels = l k;
     times = f .long .times k;
     line = f .long .line k;
     parents = length (p k);

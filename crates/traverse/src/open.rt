@@ -259,6 +259,16 @@ fn accepted_open(r: Record) -> Opened
     }
 }
 
+// Sets each position that a call may look for beside a slot to 0, so that no call reads memory that nobody has written to. (Any number would do:
+// nothing is promised of levels.)
+fn clear_notes(levels: &mut [u32]) {
+    let mut slot = 0;
+    while slot < levels.len() {
+        levels[slot] = 0;
+        slot += 1;
+    }
+}
+
 // Opens a walk: a refused opening alters no lent byte.
 pub fn open(
     store: &[u8],
@@ -291,17 +301,20 @@ pub fn open(
         parents.len(),
     ) {
         Checked::Refused(r) => refused_open(r),
-        Checked::Fine => accepted_open(fill(
-            store,
-            graph,
-            tips,
-            hidden,
-            excluded,
-            settings,
-            names,
-            marks,
-            times,
-            line,
-        )),
+        Checked::Fine => {
+            clear_notes(levels);
+            accepted_open(fill(
+                store,
+                graph,
+                tips,
+                hidden,
+                excluded,
+                settings,
+                names,
+                marks,
+                times,
+                line,
+            ))
+        }
     }
 }

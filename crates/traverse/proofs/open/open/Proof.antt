@@ -1,4 +1,4 @@
--- `open::open` meets its contract: refused by a test, or the tips are let in. Assumes nothing.
+-- `open::open` meets its contract: refused by a test, or the positions noted are cleared and the tips let in. Assumes nothing.
 use mathlib.Core.Path.{refl, sym, _∙_}
 use Rattle.opening.specs.Checks.{inputOf}
 use Rattle.traverse.specs.Contract.{lengthsOf}
@@ -19,6 +19,9 @@ refused-open-requires c κs = search needs
 
 enum-told : tie.Need-enum-told
 enum-told c = search needs
+
+clear-notes-requires : tie.Need-clear-notes-requires
+clear-notes-requires c κs = search needs
 
 fill-requires : tie.Need-fill-requires
 fill-requires c κs = search needs
@@ -45,12 +48,16 @@ same-length-3 c = search needs
 same-length-4 : tie.Need-same-length-4
 same-length-4 c = search needs
 
+same-length-5 : tie.Need-same-length-5
+same-length-5 c = search needs
+
 returns-2 : tie.Need-returns-2
 unfolding lengthsOf
 returns-2 c =
-    let x = c .before .before .before .before .before .before .before .before .before .before .before .before .before .before .before .before .before .before .before .before .before .before .before .before .before .before .args in
+    let n = c .before .before .before .before .before .before .before .before .before .before .before .before .before .before .before in
+    let x = n .before .before .before .before .before .before .before .before .before .before .before .before .before .before .before .args in
     accepted-says (inputOf (x .store .now) (x .graph .now) (x .tips .now) (x .hidden .now) (x .excluded .now) (x .settings)) (lentOf (x .names .now) (x .marks .now) (x .levels .now) (x .times .now) (x .line .now) (x .parents .now)) _ _
-    (sym (c .before .before .before .before .before .before .before .before .before .before .before .before .before .enum-told .given .1) ∙ c .before .before .before .before .before .before .before .before .before .before .before .before .before .before .before .check .ensures) (c .before .before .before .before .before .before .before .before .fill .ensures) (c .accepted-open .ensures) refl refl
+    (sym (n .before .before .enum-told .given .1) ∙ n .before .before .before .before .check .ensures) (c .before .before .before .before .before .before .before .before .fill .ensures) (c .accepted-open .ensures) (n .clear-notes .kept .0) refl
 
 pub open-spec : {M : Type 1} → statement M
 open-spec =
@@ -60,6 +67,7 @@ open-spec =
     enum-known-r
     refused-open-requires
     enum-told
+    clear-notes-requires
     fill-requires
     accepted-open-requires
     returns
@@ -67,4 +75,5 @@ open-spec =
     same-length-2
     same-length-3
     same-length-4
+    same-length-5
     returns-2)
