@@ -63,8 +63,8 @@ static uint32_t spoil_answer(uint32_t result)
         numbers[LINENHATCH_PARENT_IDS] = 257;
     if (fault == 19 && result == CLOSED) /* a closed record is at its end */
         return END;
-    if (fault == 20 && result == 0 && lent[LEVELS].bytes) /* an answer that depends on what stood in levels */
-        lent[IDENT].at[19] ^= lent[LEVELS].at[0];
+    if (fault == 20 && result == 0 && lent[PARENTS].bytes) /* an answer that depends on what stood in parents, behind the ids of an answer */
+        lent[IDENT].at[19] ^= lent[PARENTS].at[lent[PARENTS].bytes - 1];
     if (fault == 21 && result == 0) /* a count from nowhere */
         numbers[LINENHATCH_WAITING]++;
     return result;
