@@ -1,8 +1,8 @@
 // Painting's queue: two runs of `line`, each in the order in which its slots leave: the older run line[start..end) and the younger
 // line[low..high). The greatest pair of generation and seconds leaves first, among equals the first queued; a slot may wait several
-// times. A slot enters the younger run. Where that has no place left, which is after about the square root of the older run's length,
-// it is merged into the older run. So an entering moves some 2 * sqrt(n) slots on average, and in a real history, which inserts near
-// the front, few. Beside it the waiting ids by rising id, with which painting begins.
+// times. A slot enters the younger run. Where that has no place left, which is after a few times the square root of the older run's
+// length, it is merged into the older run. So an entering moves a few times sqrt(n) slots on average, and in a real history, which inserts
+// near the front, few. Beside it the waiting ids by rising id, with which painting begins.
 use date::Seconds;
 use hash::Order;
 ghost use mathlib.Core.Path.{_≡_};
