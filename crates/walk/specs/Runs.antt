@@ -3,8 +3,9 @@
 use mathlib.Core.Path.{_≡_, refl}
 use Prim.Native.Nat.{ℕ, _+_, _/_, _%_}
 use mathlib.Core.Bool.{cond}
+use mathlib.Core.Option.{none, some}
 use mathlib.Core.List.{List, [], _∷_, _++_}
-use lib.ListN.{length, getD, replicate}
+use lib.ListN.{length, replicate}
 use lib.Dec.{ltb}
 use lib.IntN.{pos}
 use Rattle.hash.specs.Bytes.{Id, bytesAll}
@@ -17,7 +18,7 @@ use Rattle.walk.specs.declared.Sorting.{Sorting}
 use Rattle.walk.specs.declared.Sorting.the-variants.{BreadthFirst, ByCommitTime, ByCommitTimeCutoff}
 use Rattle.walk.specs.declared.CommitTimeOrder.the-variants.{NewestFirst, OldestFirst}
 use Rattle.walk.specs.declared.Parents.the-variants.{All, First}
-use Rattle.walk.specs.Refusals.{numberOf}
+use Rattle.walk.specs.declared.Refusal.the-variants.{CommitNotFound}
 use Rattle.walk.specs.Opening.{Input}
 use Rattle.walk.specs.Next.{Kind, end, refused, handed, Answer}
 use Rattle.walk.specs.Calls.{answers, walkAll}
@@ -98,21 +99,23 @@ unfolding names
 input store tips hidden excluded s =
     record { store = store; graph = []; tips = names tips; hidden = names hidden; excluded = names excluded; settings = s }
 
--- what an answer says: the number of the commit handed out, 0 for end, 100 and the number of a refusal
-unfoldable pub said : Kind → ℕ
-said end = 0
-said (refused r) = 100 + numberOf r
-said (handed x g t) = getD x 0 0
+-- the kinds of answers: what was handed out, refused, or that the walk is at its end
+unfoldable pub kinds : List Answer → List Kind
+kinds [] = []
+kinds (a ∷ rest) = a .kind ∷ kinds rest
 
-unfoldable pub saidAll : List Answer → List ℕ
-unfolding said
-saidAll [] = []
-saidAll (a ∷ rest) = said (a .kind) ∷ saidAll rest
+-- what k calls say on a store with tips, hidden tips and excluded ids
+unfoldable pub says : List ℕ → List ℕ → List ℕ → List ℕ → Settings → ℕ → List Kind
+unfolding kinds input
+says store tips hidden excluded s k = kinds (answers (input store tips hidden excluded s) k)
 
--- k calls on a store with tips, hidden tips and excluded ids
-unfoldable pub says : List ℕ → List ℕ → List ℕ → List ℕ → Settings → ℕ → List ℕ
-unfolding saidAll input
-says store tips hidden excluded s k = saidAll (answers (input store tips hidden excluded s) k)
+-- commit n is handed out: with no level, as it comes from the store, and without seconds (breadth order, First)
+abbrev pub out : ℕ → Kind
+out n = handed (idFor n) none none
+
+-- commit n is handed out under a time order: with the seconds t that it was queued with
+abbrev pub outAt : ℕ → ℕ → Kind
+outAt n t = handed (idFor n) none (some (pos t))
 
 unfoldable pub all : Sorting → Settings
 all s = record { sorting = s; parents = All }
@@ -139,17 +142,21 @@ sample = storeOf (
     ∷ record { name = 4; time = 4; from = 2 ∷ [] } ∷ record { name = 5; time = 5; from = 3 ∷ [] } ∷ record { name = 6; time = 6; from = 5 ∷ [] }
     ∷ record { name = 7; time = 7; from = 4 ∷ [] } ∷ record { name = 8; time = 8; from = 6 ∷ 7 ∷ [] } ∷ [])
 
+-- in it each number is the seconds too
+abbrev pub dated : ℕ → Kind
+dated n = outAt n n
+
 -- "*breadth 8 6 7 5 4 3 2 1; *newest 8 7 6 5 4 3 2 1; *oldest 8 6 5 3 1 7 4 2; *cutoff 4 newest 8 7 6 5 4; *First 8 6 5 3 1; *hide 5,
 -- breadth 8 6 7 4 2; *bar 6, breadth 8 7 4 2 1; *tips 7, 6, 7: 7 6 4 5 2 3 1." Each is followed by end, and end again
 pub record Runs : Type 0 where
-  pub breadth-run : says sample (8 ∷ []) [] [] (all BreadthFirst) 10 ≡ 8 ∷ 6 ∷ 7 ∷ 5 ∷ 4 ∷ 3 ∷ 2 ∷ 1 ∷ 0 ∷ 0 ∷ []
-  pub newest-run : says sample (8 ∷ []) [] [] (all newest) 10 ≡ 8 ∷ 7 ∷ 6 ∷ 5 ∷ 4 ∷ 3 ∷ 2 ∷ 1 ∷ 0 ∷ 0 ∷ []
-  pub oldest-run : says sample (8 ∷ []) [] [] (all oldest) 10 ≡ 8 ∷ 6 ∷ 5 ∷ 3 ∷ 1 ∷ 7 ∷ 4 ∷ 2 ∷ 0 ∷ 0 ∷ []
-  pub cutoff-run : says sample (8 ∷ []) [] [] (all (newestFrom 4)) 7 ≡ 8 ∷ 7 ∷ 6 ∷ 5 ∷ 4 ∷ 0 ∷ 0 ∷ []
-  pub first-run : says sample (8 ∷ []) [] [] (firstOnly BreadthFirst) 7 ≡ 8 ∷ 6 ∷ 5 ∷ 3 ∷ 1 ∷ 0 ∷ 0 ∷ []
-  pub hide-run : says sample (8 ∷ []) (5 ∷ []) [] (all BreadthFirst) 7 ≡ 8 ∷ 6 ∷ 7 ∷ 4 ∷ 2 ∷ 0 ∷ 0 ∷ []
-  pub exclude-run : says sample (8 ∷ []) [] (6 ∷ []) (all BreadthFirst) 7 ≡ 8 ∷ 7 ∷ 4 ∷ 2 ∷ 1 ∷ 0 ∷ 0 ∷ []
-  pub tips-run : says sample (7 ∷ 6 ∷ 7 ∷ []) [] [] (all BreadthFirst) 9 ≡ 7 ∷ 6 ∷ 4 ∷ 5 ∷ 2 ∷ 3 ∷ 1 ∷ 0 ∷ 0 ∷ []
+  pub breadth-run : says sample (8 ∷ []) [] [] (all BreadthFirst) 10 ≡ out 8 ∷ out 6 ∷ out 7 ∷ out 5 ∷ out 4 ∷ out 3 ∷ out 2 ∷ out 1 ∷ end ∷ end ∷ []
+  pub newest-run : says sample (8 ∷ []) [] [] (all newest) 10 ≡ dated 8 ∷ dated 7 ∷ dated 6 ∷ dated 5 ∷ dated 4 ∷ dated 3 ∷ dated 2 ∷ dated 1 ∷ end ∷ end ∷ []
+  pub oldest-run : says sample (8 ∷ []) [] [] (all oldest) 10 ≡ dated 8 ∷ dated 6 ∷ dated 5 ∷ dated 3 ∷ dated 1 ∷ dated 7 ∷ dated 4 ∷ dated 2 ∷ end ∷ end ∷ []
+  pub cutoff-run : says sample (8 ∷ []) [] [] (all (newestFrom 4)) 7 ≡ dated 8 ∷ dated 7 ∷ dated 6 ∷ dated 5 ∷ dated 4 ∷ end ∷ end ∷ []
+  pub first-run : says sample (8 ∷ []) [] [] (firstOnly BreadthFirst) 7 ≡ out 8 ∷ out 6 ∷ out 5 ∷ out 3 ∷ out 1 ∷ end ∷ end ∷ []
+  pub hide-run : says sample (8 ∷ []) (5 ∷ []) [] (all BreadthFirst) 7 ≡ out 8 ∷ out 6 ∷ out 7 ∷ out 4 ∷ out 2 ∷ end ∷ end ∷ []
+  pub exclude-run : says sample (8 ∷ []) [] (6 ∷ []) (all BreadthFirst) 7 ≡ out 8 ∷ out 7 ∷ out 4 ∷ out 2 ∷ out 1 ∷ end ∷ end ∷ []
+  pub tips-run : says sample (7 ∷ 6 ∷ 7 ∷ []) [] [] (all BreadthFirst) 9 ≡ out 7 ∷ out 6 ∷ out 4 ∷ out 5 ∷ out 2 ∷ out 3 ∷ out 1 ∷ end ∷ end ∷ []
 
 pub runs : Runs
 unfolding says all firstOnly sample bytesAll idListAll headerAll storeAll graphAll walkAll
@@ -180,13 +187,13 @@ lost = storeOf (record { name = 1; time = 5; from = 9 ∷ [] } ∷ [])
 
 pub record Further : Type 0 where
   -- "Hide 8, or no tips: end."
-  pub hide-tip : says sample (8 ∷ []) (8 ∷ []) [] (all BreadthFirst) 2 ≡ 0 ∷ 0 ∷ []
-  pub no-tips : says sample [] [] [] (all BreadthFirst) 2 ≡ 0 ∷ 0 ∷ []
+  pub hide-tip : says sample (8 ∷ []) (8 ∷ []) [] (all BreadthFirst) 2 ≡ end ∷ end ∷ []
+  pub no-tips : says sample [] [] [] (all BreadthFirst) 2 ≡ end ∷ end ∷ []
   -- "Tip a, hide h: a, c come out though h reaches c."
-  pub skewed-run : says skewed (1 ∷ []) (2 ∷ []) [] (all BreadthFirst) 4 ≡ 1 ∷ 3 ∷ 0 ∷ 0 ∷ []
+  pub skewed-run : says skewed (1 ∷ []) (2 ∷ []) [] (all BreadthFirst) 4 ≡ out 1 ∷ out 3 ∷ end ∷ end ∷ []
   -- "newest, cutoff 0: the tip, then refusal 9; cutoff 1: silently dropped"
-  pub lost-run : says lost (1 ∷ []) [] [] (all (newestFrom 0)) 3 ≡ 1 ∷ 109 ∷ 0 ∷ []
-  pub dropped-run : says lost (1 ∷ []) [] [] (all (newestFrom 1)) 3 ≡ 1 ∷ 0 ∷ 0 ∷ []
+  pub lost-run : says lost (1 ∷ []) [] [] (all (newestFrom 0)) 3 ≡ outAt 1 5 ∷ refused CommitNotFound ∷ end ∷ []
+  pub dropped-run : says lost (1 ∷ []) [] [] (all (newestFrom 1)) 3 ≡ outAt 1 5 ∷ end ∷ end ∷ []
 
 pub further : Further
 unfolding says all sample skewed lost bytesAll idListAll headerAll storeAll graphAll walkAll

@@ -19,7 +19,7 @@ use Rattle.walk.specs.Opening.{Input}
 use Rattle.walk.specs.declared.Refusal.the-variants.{CommitNotFound, Closed}
 use Rattle.walk.specs.Next.{Kind, end, refused, handed, Answer}
 use Rattle.walk.specs.Calls.{answers, walkAll}
-use Rattle.walk.specs.Runs.{idFor, u32, storeOf, names, saidAll, says, all, firstOnly, newest, newestFrom, sample, lost}
+use Rattle.walk.specs.Runs.{idFor, u32, storeOf, names, kinds, says, out, outAt, all, firstOnly, newest, newestFrom, sample, lost}
 
 -- ---- a commit-graph file from rows
 
@@ -72,10 +72,16 @@ graphOf rs es =
     ∷ (chunkRow OIDF 68 ++ (chunkRow OIDL 1092 ++ (chunkRow CDAT (1092 + 20 * n) ++ (chunkRow EDGE (1092 + 56 * n) ++ (chunkRow 0 (1092 + 56 * n + 4 * length es)
     ++ (fanFrom 256 0 rs ++ (idBytesOf rs ++ (rowBytesOf rs ++ (edgeBytesOf es ++ replicate 20 0)))))))))
 
-unfoldable pub saysWith : List ℕ → List ℕ → List ℕ → Settings → ℕ → List ℕ
-unfolding saidAll names
-saysWith store graph tips s k =
-    saidAll (answers (record { store = store; graph = graph; tips = names tips; hidden = []; excluded = []; settings = s }) k)
+-- a store with a graph file
+unfoldable pub inputWith : List ℕ → List ℕ → List ℕ → List ℕ → Settings → Input
+unfolding names
+inputWith store graph tips hidden s =
+    record { store = store; graph = graph; tips = names tips; hidden = names hidden; excluded = []; settings = s }
+
+-- what k calls say on them
+unfoldable pub saysWith : List ℕ → List ℕ → List ℕ → List ℕ → Settings → ℕ → List Kind
+unfolding kinds inputWith
+saysWith store graph tips hidden s k = kinds (answers (inputWith store graph tips hidden s) k)
 
 abbrev noneThere : ℕ
 noneThere = 0x70000000
@@ -134,18 +140,19 @@ cut = graphOf (
 
 pub record Slips : Type 0 where
   -- a commit taken with both marks does not get STALE itself: 4 has its second turn, 5 comes before it and passes HIDDEN on to 3
-  pub not-itself : says twoTurns (1 ∷ []) (2 ∷ []) [] (all BreadthFirst) 3 ≡ 1 ∷ 0 ∷ 0 ∷ []
+  pub not-itself : says twoTurns (1 ∷ []) (2 ∷ []) [] (all BreadthFirst) 3 ≡ out 1 ∷ end ∷ end ∷ []
   -- under First painting goes through all parents of a hidden tip: 8 hides 7, its second parent
-  pub hides-all : says sample (7 ∷ []) (8 ∷ []) [] (firstOnly BreadthFirst) 2 ≡ 0 ∷ 0 ∷ []
+  pub hides-all : says sample (7 ∷ []) (8 ∷ []) [] (firstOnly BreadthFirst) 2 ≡ end ∷ end ∷ []
   -- a hidden tip lent twice is queued twice
-  pub once : says lentTwice (1 ∷ []) (5 ∷ []) [] (all BreadthFirst) 4 ≡ 1 ∷ 2 ∷ 0 ∷ 0 ∷ []
-  pub twice : says lentTwice (1 ∷ []) (5 ∷ 5 ∷ []) [] (all BreadthFirst) 3 ≡ 1 ∷ 0 ∷ 0 ∷ []
+  pub once : says lentTwice (1 ∷ []) (5 ∷ []) [] (all BreadthFirst) 4 ≡ out 1 ∷ out 2 ∷ end ∷ end ∷ []
+  pub twice : says lentTwice (1 ∷ []) (5 ∷ 5 ∷ []) [] (all BreadthFirst) 3 ≡ out 1 ∷ end ∷ end ∷ []
   -- among equals the first queued: 3 before 4
-  pub equals : says fork (1 ∷ []) [] [] (all newest) 6 ≡ 1 ∷ 3 ∷ 4 ∷ 2 ∷ 0 ∷ 0 ∷ []
+  pub equals : says fork (1 ∷ []) [] [] (all newest) 6 ≡ outAt 1 9 ∷ outAt 3 6 ∷ outAt 4 6 ∷ outAt 2 5 ∷ end ∷ end ∷ []
   -- under First the cutoff does not act after the tips, but a tip that it turned away is seen: 8 does not lead to 6
-  pub turned-away : says sample (8 ∷ 6 ∷ []) [] [] (firstOnly (newestFrom 7)) 3 ≡ 8 ∷ 0 ∷ 0 ∷ []
-  -- 1 comes from the store, so its parents' seconds do too, and 2 is the oldest
-  pub store-child : saysWith fork stale (1 ∷ []) (all newest) 6 ≡ 1 ∷ 3 ∷ 4 ∷ 2 ∷ 0 ∷ 0 ∷ []
+  pub turned-away : says sample (8 ∷ 6 ∷ []) [] [] (firstOnly (newestFrom 7)) 3 ≡ out 8 ∷ end ∷ end ∷ []
+  -- 1 comes from the store, so its parents' seconds do too, and 2 is the oldest; its parents come from their rows
+  pub store-child : saysWith fork stale (1 ∷ []) [] (all newest) 6
+      ≡ outAt 1 9 ∷ handed (idFor 3) (some 1) (some (pos 6)) ∷ handed (idFor 4) (some 1) (some (pos 6)) ∷ handed (idFor 2) (some 1) (some (pos 5)) ∷ end ∷ end ∷ []
 
 pub slips : Slips
 unfolding says saysWith all firstOnly sample twoTurns lentTwice fork stale bytesAll idListAll headerAll storeAll graphAll walkAll
@@ -169,11 +176,6 @@ idsFor (n ∷ ns) = idFor n ∷ idsFor ns
 -- a kind, parents, and the numbers of commits admitted, struck and waiting
 abbrev pub whole : Kind → List ℕ → ℕ → ℕ → ℕ → Answer
 whole k ps a s w = record { kind = k; parents = idsFor ps; admitted = a; struck = s; waiting = w }
-
-unfoldable pub inputWith : List ℕ → List ℕ → List ℕ → List ℕ → Settings → Input
-unfolding names
-inputWith store graph tips hidden s =
-    record { store = store; graph = graph; tips = names tips; hidden = names hidden; excluded = []; settings = s }
 
 pub record Fields : Type 0 where
   -- tips 8 and 5, hide 5: 5 waited and is struck
