@@ -136,6 +136,20 @@ cut = graphOf (
     ∷ record { name = 3; first = noneThere; second = noneThere; level = 1; time = 6 } ∷ record { name = 4; first = noneThere; second = noneThere; level = 1; time = 6 } ∷ [])
     (2 ∷ [])
 
+-- 1 at 9 from 3 and 5; 2 at 8 from 3; 3 at 3 from 4; 4 at 2 from 5; 5 at 1
+unfoldable pub grown : List ℕ
+unfolding storeOf
+grown = storeOf (
+    record { name = 1; time = 9; from = 3 ∷ 5 ∷ [] } ∷ record { name = 2; time = 8; from = 3 ∷ [] } ∷ record { name = 3; time = 3; from = 4 ∷ [] }
+    ∷ record { name = 4; time = 2; from = 5 ∷ [] } ∷ record { name = 5; time = 1; from = [] } ∷ [])
+
+-- a graph file from before 2 was made; its levels are the greatest that a row can hold
+unfoldable pub earlier : List ℕ
+unfolding graphOf
+earlier = graphOf (
+    record { name = 1; first = 1; second = 3; level = 0x3FFFFFFF; time = 9 } ∷ record { name = 3; first = 2; second = noneThere; level = 0x3FFFFFFE; time = 3 }
+    ∷ record { name = 4; first = 3; second = noneThere; level = 0x3FFFFFFD; time = 2 } ∷ record { name = 5; first = noneThere; second = noneThere; level = 0x3FFFFFFC; time = 1 } ∷ []) []
+
 -- ---- what tells them apart
 
 pub record Slips : Type 0 where
@@ -153,9 +167,12 @@ pub record Slips : Type 0 where
   -- 1 comes from the store, so its parents' seconds do too, and 2 is the oldest; its parents come from their rows
   pub store-child : saysWith fork stale (1 ∷ []) [] (all newest) 6
       ≡ outAt 1 9 ∷ handed (idFor 3) (some 1) (some (pos 6)) ∷ handed (idFor 4) (some 1) (some (pos 6)) ∷ handed (idFor 2) (some 1) (some (pos 5)) ∷ end ∷ end ∷ []
+  -- a commit without a row comes before all that have one: 2 is taken first and hides 3, so 4 and 5 are met with both marks. Were it taken
+  -- last, 5 would have passed as visible only, and would be handed out
+  pub no-row-first : saysWith grown earlier (1 ∷ []) (2 ∷ []) (all BreadthFirst) 3 ≡ handed (idFor 1) (some 0x3FFFFFFF) none ∷ end ∷ end ∷ []
 
 pub slips : Slips
-unfolding says saysWith all firstOnly sample twoTurns lentTwice fork stale bytesAll idListAll headerAll storeAll graphAll walkAll
+unfolding says saysWith all firstOnly sample twoTurns lentTwice fork stale grown earlier bytesAll idListAll headerAll storeAll graphAll walkAll
 slips = record {
   not-itself = refl;
   hides-all = refl;
@@ -164,6 +181,7 @@ slips = record {
   equals = refl;
   turned-away = refl;
   store-child = refl;
+  no-row-first = refl;
 }
 
 -- ---- answers in all their fields
