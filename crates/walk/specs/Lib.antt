@@ -13,3 +13,4 @@ pub mod Sums
 pub mod AnyInput
 pub mod Runs
 pub mod Slips
+pub mod Instances
