@@ -30,3 +30,4 @@ pub mod Few
 pub mod Numbers
 pub mod Refused
 pub mod Instance
+pub mod Own

@@ -107,6 +107,13 @@ first-paint v st p e k =
     ap (λ (b : Bool). cond b (takeNext v (paintedWith st (st .queue) nobody)) (afterPaint v st (paint (v .world) (v .fuel) (ids (st .queue)) (v .hidden)))) e
     ∙ ap (afterPaint v st) k
 
+pub first-stop : (v : Walk) (st : State) (n : Refusal) → (isEmpty (v .hidden) || isEmpty (st .queue)) ≡ false
+    → paint (v .world) (v .fuel) (ids (st .queue)) (v .hidden) ≡ stop n → firstCall v st ≡ step (refused n) [] (paintedWith st [] nobody)
+unfolding firstCall afterPaint
+first-stop v st n e k =
+    ap (λ (b : Bool). cond b (takeNext v (paintedWith st (st .queue) nobody)) (afterPaint v st (paint (v .world) (v .fuel) (ids (st .queue)) (v .hidden)))) e
+    ∙ ap (afterPaint v st) k
+
 pub same-calls : (v : Walk) (a b : State) → next v a ≡ next v b → (k : ℕ) → calls v k a ≡ calls v k b
 unfolding calls
 same-calls v a b e zero = refl

@@ -44,9 +44,9 @@ abbrev pub Tally : ℕ → State → Type 0
 Tally n st = st .admitted ≡ n + st .struck + length (st .queue)
 
 -- what an answer and the state after it have to meet
-record Adds (n : ℕ) (r : Step) : Type 0 where
-  sums : r .answer .admitted ≡ n + uses (r .answer) + r .answer .struck + r .answer .waiting
-  then-tally : Tally (n + uses (r .answer)) (r .state)
+pub record Adds (n : ℕ) (r : Step) : Type 0 where
+  pub sums : r .answer .admitted ≡ n + uses (r .answer) + r .answer .struck + r .answer .waiting
+  pub then-tally : Tally (n + uses (r .answer)) (r .state)
 
 end-adds : (n : ℕ) (st : State) → Tally n st → Adds n (step end [] st)
 unfolding uses usesKind step
@@ -59,6 +59,13 @@ stop-adds n st m z t =
     let le : st .admitted ≤ st .struck + (length (st .queue) - 0) = omega arith in
     let e : ltb (st .struck + (length (st .queue) - 0)) (st .admitted) ≡ false = le-ltb _ _ le in
     record { sums = rw e (omega arith); then-tally = rw e (omega arith) }
+
+pub stop-uses : (st : State) (m : Refusal) → Tally 0 st → uses (step (refused m) [] (paintedWith st [] nobody) .answer) ≡ 0
+unfolding uses usesKind step paintedWith
+stop-uses st m t =
+    let le : st .admitted ≤ st .struck + (length (st .queue) - 0) = omega arith in
+    let e : ltb (st .struck + (length (st .queue) - 0)) (st .admitted) ≡ false = le-ltb _ _ le in
+    rw e
 
 -- a commit is used up where it is handed out or refused
 Used : Kind → Type 0
@@ -78,13 +85,19 @@ uses-one (refused n) b u e = rw e
 uses-one (handed x l t) b u e = refl
 
 module _ (v : Walk) where
-  -- from a state that the commit is out of
+  -- from a state that the commit is out of: it is not struck, so fewer are struck than admitted
+  used-one : (n : ℕ) (k : Kind) → Used k → (f : List Id) (ps : List (Id × ℤ)) (st : State) → st .admitted ≡ suc (n + st .struck + length (st .queue)) → uses (step k f (visitAll v st ps) .answer) ≡ 1
+  unfolding uses step
+  used-one n k u f ps st t =
+      let b = visitAll-sum v ps st in
+      let lt : visitAll v st ps .struck < visitAll v st ps .admitted = omega (arith, b .0, b .1) in
+      uses-one k _ u (lt-ltb _ _ lt)
+
   used-adds : (n : ℕ) (k : Kind) → Used k → (f : List Id) (ps : List (Id × ℤ)) (st : State) → st .admitted ≡ suc (n + st .struck + length (st .queue)) → Adds n (step k f (visitAll v st ps))
   unfolding uses step
   used-adds n k u f ps st t =
       let b = visitAll-sum v ps st in
-      let lt : visitAll v st ps .struck < visitAll v st ps .admitted = omega (arith, b .0, b .1) in
-      let one : usesKind k (ltb (visitAll v st ps .struck) (visitAll v st ps .admitted)) ≡ 1 = uses-one k _ u (lt-ltb _ _ lt) in
+      let one : usesKind k (ltb (visitAll v st ps .struck) (visitAll v st ps .admitted)) ≡ 1 = used-one n k u f ps st t in
       record { sums = omega (arith, one, b .0, b .1); then-tally = omega (arith, one, b .0, b .1) }
 
   takes-adds : (n : ℕ) {st : State} {r : Step} → Takes v st r → Tally n st → Adds n r
@@ -98,7 +111,19 @@ module _ (v : Walk) where
       used-adds n (handed (x .0) (some l) (queuedSeconds v (x .1))) tt (map (λ p. p .0) (followed (v .settings) ps)) (followed (v .settings) ps) (withQueue q st) (omega (arith, ap length e))
   takes-adds n {st} (drops x q e t) s = takes-adds n t (omega (arith, ap length e, length-back v x q))
 
-  moves-adds : (n : ℕ) {st : State} {r : Step} → (st .painted ≡ false → n ≡ 0) → Moves v st r → Tally n st → Adds n r
+  -- whatever is taken and refused counts
+  pub takes-uses : (n : ℕ) {st : State} {r : Step} → Takes v st r → Tally n st → (m : Refusal) → r .answer .kind ≡ refused m → uses (r .answer) ≡ 1
+  unfolding step withQueue dropped visitAll Used
+  takes-uses n {st} (nothing e) t m k = let z : _≡_ {A = ℕ} 0 1 = cc in absurd (omega arith)
+  takes-uses n {st} (absent x q e b) t m k = used-one n (refused CommitNotFound) tt [] [] (withQueue q st) (omega (arith, ap length e))
+  takes-uses n {st} (from-store x q h e b) t m k =
+      used-one n (kindOf (ending (v .settings) h) (handed (x .0) none (queuedSeconds v (x .1)))) (used-kind (ending (v .settings) h) (x .0) none (queuedSeconds v (x .1)))
+      (followed (v .settings) (h .ids)) (withSeconds v (followed (v .settings) (h .ids))) (withQueue q st) (omega (arith, ap length e))
+  takes-uses n {st} (from-row x q ps l s e b) t m k =
+      used-one n (handed (x .0) (some l) (queuedSeconds v (x .1))) tt (map (λ p. p .0) (followed (v .settings) ps)) (followed (v .settings) ps) (withQueue q st) (omega (arith, ap length e))
+  takes-uses n {st} (drops x q e d) t m k = takes-uses n d (omega (arith, ap length e, length-back v x q)) m k
+
+  pub moves-adds : (n : ℕ) {st : State} {r : Step} → (st .painted ≡ false → n ≡ 0) → Moves v st r → Tally n st → Adds n r
   unfolding paintedWith
   moves-adds n z (later u m) t = takes-adds n m t
   moves-adds n z (unhidden u m) t = takes-adds n m (omega arith)
