@@ -23,7 +23,8 @@ use Rattle.walk.proofs.Calls.{answers-at}
 use Rattle.walk.proofs.Whole.{end-law}
 use Rattle.walk.proofs.Once.{once}
 use Rattle.walk.proofs.Named.{fits}
-use Rattle.walk.proofs.Universe.{Tells, universe, universe-length, all-told}
+use Rattle.walk.specs.Universe.{universe}
+use Rattle.walk.proofs.Universe.{Tells, universe-length, all-told}
 use Rattle.walk.proofs.Width.{universe-wide}
 use Rattle.walk.proofs.Tips.{open-accepted}
 use Rattle.traverse.proofs.Numbered.{ends-at}

@@ -26,7 +26,8 @@ use Rattle.walk.specs.AnyInput.{OfCall, RefusedByCall}
 use Rattle.walk.proofs.Moves.{next-first, first-plain, first-paint}
 use Rattle.walk.proofs.Named.{paint-within}
 use Rattle.walk.proofs.Refused.{refused-by-call}
-use Rattle.walk.proofs.Universe.{universe, universe-length, open-named, hidden-in, kid-in}
+use Rattle.walk.specs.Universe.{universe}
+use Rattle.walk.proofs.Universe.{universe-length, open-named, hidden-in, kid-in}
 use Rattle.walk.proofs.Tips.{open-accepted}
 use Rattle.walk.proofs.Whole.{length-list, open-fresh}
 use Rattle.reading.specs.Files.{cacheOf, worldUnder}

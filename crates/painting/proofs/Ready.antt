@@ -20,11 +20,12 @@ use Rattle.walk.specs.Lookup.{World}
 use Rattle.walk.specs.State.{State, ids, isEmpty}
 use Rattle.walk.specs.Opening.{Input, P, walkOf, listIds, refusal}
 use Rattle.walk.proofs.Tips.{open-accepted}
-use Rattle.walk.proofs.Whole.{open-fresh, names, accepted}
+use Rattle.walk.proofs.Whole.{open-fresh, accepted}
 use Rattle.walk.proofs.Enough.{kids-named}
 use Rattle.walk.proofs.Outside.{length-ids}
 use Rattle.walk.proofs.Room.{open-roomy, roomy-fits}
-use Rattle.walk.proofs.Universe.{universe, universe-length, open-named, hidden-in, kid-in}
+use Rattle.walk.specs.Universe.{names, universe}
+use Rattle.walk.proofs.Universe.{universe-length, open-named, hidden-in, kid-in}
 use Rattle.reading.specs.Files.{cacheOf, worldUnder}
 use Rattle.reading.proofs.World.{good-cache, kept-world}
 use Rattle.opening.proofs.Input.{places-few}

@@ -9,7 +9,7 @@ use Rattle.walk.specs.State.{State}
 use Rattle.walk.specs.Opening.{Input, P, walkOf, openWalk, opened}
 use Rattle.walk.specs.Next.{refused, step, takeNext, firstCall}
 use Rattle.walk.specs.AnyInput.{OfCall}
-use Rattle.walk.proofs.Universe.{universe}
+use Rattle.walk.specs.Universe.{universe}
 use Rattle.state.specs.declared.Record.{Record}
 use Rattle.state.specs.Reads.{Memory, Reads, Universe}
 use Rattle.state.specs.Shapes.{shapeFor}

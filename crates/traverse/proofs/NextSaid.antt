@@ -17,7 +17,7 @@ use Rattle.walk.specs.Next.{refused, step, takeNext, next, firstCall}
 use Rattle.walk.specs.Calls.{stateAfter}
 use Rattle.walk.specs.Given.{Given, noId, given, joined, parentsGiven}
 use Rattle.walk.proofs.FirstCall.{only-first}
-use Rattle.walk.proofs.Universe.{universe}
+use Rattle.walk.specs.Universe.{universe}
 use Rattle.opening.proofs.Input.{places-few}
 use Rattle.state.specs.declared.Record.{Record}
 use Rattle.state.specs.Reads.{Memory, Shape, Reads}

@@ -20,7 +20,8 @@ use Rattle.walk.specs.Next.{Answer, Step, takeNext, firstCall, next}
 use Rattle.walk.specs.Calls.{stateOf, stateAfter, answerOn, answerAt}
 use Rattle.walk.specs.AnyInput.{AllFit}
 use Rattle.walk.specs.Given.{given, parentsGiven}
-use Rattle.walk.proofs.Universe.{universe, universe-length, all-named, row-in, body-in}
+use Rattle.walk.specs.Universe.{universe}
+use Rattle.walk.proofs.Universe.{universe-length, all-named, row-in, body-in}
 use Rattle.walk.proofs.Room.{all-fit}
 use Rattle.opening.specs.Checks.{checkedBy}
 use Rattle.opening.proofs.Input.{passes, places-few, Room, room}

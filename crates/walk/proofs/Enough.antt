@@ -17,13 +17,14 @@ use Rattle.walk.specs.Lookup.{World, Row, no-row, corrupt, row, fail, go
 use Rattle.walk.specs.State.{ids, State}
 use Rattle.walk.specs.Opening.{Input, walkOf, P, openWalk, opened}
 use Rattle.walk.specs.Painting.{Paint, Painting, stop, going, then, turn, turns, fresh, paint, markAll, sorted, unpainted, VISIBLE, HIDDEN}
+use Rattle.walk.specs.Universe.{storeParents, rowIds, names}
 use Rattle.walk.specs.Reach.{Mem}
 use Rattle.hash.proofs.Tests.{byCases, clash}
 use Rattle.walk.proofs.Painting.{kids}
 use Rattle.walk.proofs.Fuel.{fresh-none, weight, turn-weight, total-bound, markAll-length, length-sorted}
-use Rattle.walk.proofs.Files.{storeParents, storeParents-length}
-use Rattle.walk.proofs.Rows.{rowIds, rowIds-length}
-use Rattle.walk.proofs.Whole.{accepted, open-fresh, names, names-rows, names-store, length-list}
+use Rattle.walk.proofs.Files.{storeParents-length}
+use Rattle.walk.proofs.Rows.{rowIds-length}
+use Rattle.walk.proofs.Whole.{accepted, open-fresh, names-rows, names-store, length-list}
 use Rattle.walk.proofs.Outside.{length-ids}
 use Rattle.walk.proofs.Tips.{open-accepted}
 

@@ -5,7 +5,7 @@ use mathlib.Core.Logic.{⊎-elim}
 use Prim.Native.Nat.{ℕ, zero, suc, _*_, _/_, _≤_, _<_}
 use mathlib.Core.Bool.{true}
 use mathlib.Core.Option.{some}
-use mathlib.Core.List.{List, [], _++_, Memᴰ·append-left, Memᴰ·append-right}
+use mathlib.Core.List.{List, Memᴰ·append-left, Memᴰ·append-right}
 use native.Mathlib.Omega.{arith}
 use native.Mathlib.Nat.{eq-or-lt-of-le}
 use lib.ListN.{length, length-append}
@@ -14,17 +14,9 @@ use Rattle.object.specs.Header.{header}
 use Rattle.odb.specs.Store.{entries, body, storeOk, storeFind}
 use Rattle.odb.proofs.Bodies.{sumBodies, sum-within, start-within}
 use Rattle.odb.proofs.Entries.{entry-hit, found-body}
+use Rattle.walk.specs.Universe.{parentsUpTo, storeParents}
 use Rattle.walk.specs.Reach.{Mem}
 use Rattle.object.proofs.Headers.{header-length}
-
--- the ids in the parent lines of the first k bodies
-unfoldable pub parentsUpTo : List ℕ → ℕ → List Id
-parentsUpTo b zero = []
-parentsUpTo b (suc k) = parentsUpTo b k ++ header (body b k) .ids
-
--- of all bodies
-unfoldable pub storeParents : List ℕ → List Id
-storeParents b = parentsUpTo b (entries b)
 
 abbrev textOf : List ℕ → ℕ
 textOf x = 48 * length (header x .ids)

@@ -14,6 +14,7 @@ use Rattle.walk.specs.Lookup.{World, Read, fail, good, read, Pair}
 use Rattle.walk.specs.State.{ids, State}
 use Rattle.walk.specs.Opening.{Input, walkOf, P, openWalk, opened}
 use Rattle.walk.specs.Painting.{Paint, Painting, stop, going, Marks, then, markRead, mark, markAll, lacks, pass, passed, withPending, turn, turns, fresh, also, addPending, sorted, unpainted, VISIBLE, HIDDEN, paint}
+use Rattle.walk.specs.Universe.{storeParents, rowIds, names, universe}
 use Rattle.walk.specs.Reach.{Mem}
 use Rattle.walk.proofs.Comes.{Phase, showing, hiding, turning, passing, due, Comes, at-first, shows, all-shown, hides, all-hidden, takes, skips, gives, all-passed, PaintingOf, Touched, is-seen, is-visible, is-hidden, is-stale, is-queued, is-due, PaintingFits}
 use Rattle.hash.proofs.Tests.{byCases, clash}
@@ -21,13 +22,13 @@ use Rattle.walk.proofs.Laws.{also-keeps, also-self, also-cases, addPend
 use Rattle.walk.proofs.Painting.{kids}
 use Rattle.walk.proofs.Fuel.{turn-weight, missing, total, weight, total-bound, pass-weight, total-pending, length-addPending, length-sorted}
 use Rattle.walk.proofs.Painted.{sorted-out}
-use Rattle.walk.proofs.Rows.{mem-of-map, rowIds, rowIds-length}
+use Rattle.walk.proofs.Rows.{mem-of-map, rowIds-length}
 use Rattle.walk.proofs.Named.{fits}
-use Rattle.walk.proofs.Files.{storeParents, storeParents-length}
-use Rattle.walk.proofs.Whole.{accepted, open-fresh, names, length-list}
+use Rattle.walk.proofs.Files.{storeParents-length}
+use Rattle.walk.proofs.Whole.{accepted, open-fresh, length-list}
 use Rattle.walk.proofs.Enough.{kids-named}
 use Rattle.walk.proofs.Fuel.{fresh-none}
-use Rattle.walk.proofs.Universe.{Named, universe, universe-length, hidden-in, kid-in, open-named}
+use Rattle.walk.proofs.Universe.{Named, universe-length, hidden-in, kid-in, open-named}
 use Rattle.walk.proofs.Outside.{length-ids}
 use Rattle.walk.proofs.Tips.{open-accepted}
 

@@ -19,6 +19,7 @@ use Rattle.walk.specs.State.{Walk, State, ids, withQueue, waits, sees}
 use Rattle.walk.specs.Opening.{Input, walkOf, listIds, P, refusal, distinct, Opening, opened, openWalk}
 use Rattle.walk.specs.Next.{Step, step, admits, visit, visitAll, dropped, back, withSeconds, paintedWith, next}
 use Rattle.walk.specs.Calls.{stateOf, stateAfter}
+use Rattle.walk.specs.Universe.{storeParents, rowIds, names, universe}
 use Rattle.walk.specs.Reach.{Mem, NoDup}
 use Rattle.walk.specs.AnyInput.{handedBy, Fits, AllFit}
 use Rattle.hash.proofs.Tests.{byCases}
@@ -26,13 +27,13 @@ use Rattle.walk.proofs.Laws.{or-neither}
 use Rattle.walk.proofs.Take.{followed-sub, followed-map, mem-map, with-seconds}
 use Rattle.walk.proofs.Open.{distinct-length}
 use Rattle.walk.proofs.Named.{fits}
-use Rattle.walk.proofs.Files.{storeParents, storeParents-length}
-use Rattle.walk.proofs.Rows.{rowIds, rowIds-length}
-use Rattle.walk.proofs.Whole.{accepted, length-list, names, names-rows, names-store}
+use Rattle.walk.proofs.Files.{storeParents-length}
+use Rattle.walk.proofs.Rows.{rowIds-length}
+use Rattle.walk.proofs.Whole.{accepted, length-list, names-rows, names-store}
 use Rattle.walk.proofs.Moves.{Takes, nothing, absent, from-store, from-row, drops, Moves, later, unhidden, strikes, stops, moves}
 use Rattle.walk.proofs.Tips.{open-keep}
 use Rattle.walk.proofs.Once.{HeldBy, at-queue, visit-held, out-held, back-held, part-held, next-held, open-held}
-use Rattle.walk.proofs.Universe.{Named, rest-named, dropped-named, painted-named, visit-named, next-named, universe, universe-length, name-in, row-in, body-in, hidden-in, kid-in, open-named}
+use Rattle.walk.proofs.Universe.{Named, rest-named, dropped-named, painted-named, visit-named, next-named, universe-length, name-in, row-in, body-in, hidden-in, kid-in, open-named}
 use Rattle.walk.proofs.Visits.{unseen, unseen-le, unseen-lt, unseen-bound}
 use Rattle.walk.proofs.Outside.{length-ids}
 use Rattle.walk.proofs.Tips.{open-accepted}

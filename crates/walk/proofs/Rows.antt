@@ -16,6 +16,7 @@ use Rattle.idlist.specs.IdList.{findIn}
 use Rattle.idlist.proofs.Answer.{find-at}
 use Rattle.commitgraph.specs.Graph.{graphCount, graphIds, graphId, graphFind, graphParents, graphSeconds, generation, graphOk}
 use Rattle.walk.specs.Lookup.{no-row, corrupt, row, rowAt, worldOf}
+use Rattle.walk.specs.Universe.{rowIds}
 use Rattle.walk.specs.Reach.{Mem}
 use Rattle.walk.proofs.Laws.{Coherent}
 use Rattle.commitgraph.proofs.LayoutRight.{right}
@@ -77,11 +78,6 @@ find-nil y = refl
 pub no-rows : (b : List ℕ) → Coherent (worldOf b [])
 unfolding Coherent
 no-rows b x ps l s e t m = no-some (sym (find-nil x) ∙ is-row b [] x ps l s e .found)
-
--- the ids of k rows
-unfoldable pub rowIds : List ℕ → ℕ → List Id
-rowIds g zero = []
-rowIds g (suc k) = graphId g k ∷ rowIds g k
 
 rowIds-in : (g : List ℕ) (k q : ℕ) → q < k → Mem (graphId g q) (rowIds g k)
 unfolding rowIds

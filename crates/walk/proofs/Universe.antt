@@ -21,6 +21,7 @@ use Rattle.walk.specs.Opening.{Input, walkOf, listIds, P, refusal, Openi
 use Rattle.walk.specs.Painting.{Paint, going, paint, bothMarks}
 use Rattle.walk.specs.Next.{handed, Answer, Step, step, admits, visit, visitAll, dropped, back, withSeconds, queuedSeconds, ending, kindOf, outside, paintedWith, next}
 use Rattle.walk.specs.Calls.{calls, answers, stateOf, stateAfter}
+use Rattle.walk.specs.Universe.{storeParents, rowIds, names, universe}
 use Rattle.walk.specs.Reach.{Mem}
 use Rattle.walk.specs.AnyInput.{handedBy}
 use Rattle.hash.proofs.Tests.{byCases, clash, and-first}
@@ -30,9 +31,9 @@ use Rattle.walk.proofs.Take.{followed-sub, followed-map, mem-map, with-
 use Rattle.walk.proofs.Painting.{kids}
 use Rattle.walk.proofs.Named.{paint-within}
 use Rattle.walk.proofs.Open.{distinct-out}
-use Rattle.walk.proofs.Files.{storeParents, storeParents-length}
-use Rattle.walk.proofs.Rows.{rowIds, rowIds-length}
-use Rattle.walk.proofs.Whole.{accepted, length-list, names, names-rows, names-store, answers-calls}
+use Rattle.walk.proofs.Files.{storeParents-length}
+use Rattle.walk.proofs.Rows.{rowIds-length}
+use Rattle.walk.proofs.Whole.{accepted, length-list, names-rows, names-store, answers-calls}
 use Rattle.walk.proofs.Enough.{kids-named}
 use Rattle.walk.proofs.Moves.{Takes, nothing, absent, from-store, from-row, drops, Moves, later, unhidden, strikes, stops, moves}
 use Rattle.walk.proofs.Tips.{open-keep}
@@ -165,10 +166,6 @@ module _ (v : Walk) (us : List Id) where
           ⊎-elim (λ e. subst (Tells us) (sym e) (s .tells)) (calls-tell k (next v st .state) (s .after-it) a) (List·Memᴰ·cases-cons m)
 
 -- ---- of an input
-
--- the tips, the hidden tips, the store's parent lines and the graph's rows
-unfoldable pub universe : Input → List Id
-universe i = listIds (i .tips) ++ (listIds (i .hidden) ++ names i)
 
 pub universe-length : (i : Input) → refusal i ≡ none → length (universe i) ≤ P i
 unfolding universe P

@@ -6,7 +6,7 @@ use mathlib.Core.Logic.{_⊎_, inl, inr}
 use Prim.Native.Nat.{ℕ, zero, suc, _+_, _*_, _/_, _≤_}
 use mathlib.Core.Bool.{Bool, true, false, cond, _||_}
 use mathlib.Core.Option.{Option, none, some}
-use mathlib.Core.List.{List, [], _∷_, _++_, map, Memᴰ·append-left, Memᴰ·append-right}
+use mathlib.Core.List.{List, [], _∷_, map, Memᴰ·append-left, Memᴰ·append-right}
 use native.Mathlib.Omega.{arith}
 use lib.ListN.{length, length-append}
 use lib.IntN.{ℤ, pos}
@@ -24,6 +24,7 @@ use Rattle.walk.specs.State.{waits, sees, Walk, State, isEmpty, emptySta
 use Rattle.walk.specs.Opening.{sizesOk, wholeIds, Input, walkOf, listIds, P, refusal, openWalk, openOr, openTips, opened, tipsIn, distinct}
 use Rattle.walk.specs.Next.{Answer}
 use Rattle.walk.specs.Calls.{answers, answersFrom, calls}
+use Rattle.walk.specs.Universe.{storeParents, rowIds, names}
 use Rattle.walk.specs.Reach.{Mem}
 use Rattle.walk.specs.Demand.{Third, Hands}
 use Rattle.walk.specs.Sums.{Sums, EndsBy, SumLaw, EndLaw}
@@ -34,8 +35,8 @@ use Rattle.walk.proofs.Third.{third-model}
 use Rattle.walk.proofs.Visits.{unseen-bound, left}
 use Rattle.walk.proofs.Tips.{open-accepted, open-keep}
 use Rattle.walk.proofs.Tally.{calls-sum, calls-end}
-use Rattle.walk.proofs.Files.{storeParents, find-parents, storeParents-length}
-use Rattle.walk.proofs.Rows.{coherent-world, no-rows, rows-in, rowIds, rowIds-length}
+use Rattle.walk.proofs.Files.{find-parents, storeParents-length}
+use Rattle.walk.proofs.Rows.{coherent-world, no-rows, rows-in, rowIds-length}
 
 -- ---- what an accepted opening shows
 
@@ -160,10 +161,6 @@ open-fresh i st e =
     (λ x ys s h. (h .0, h .1, omega (arith, h .2)))
     (refl, refl, omega arith) st e in
     record { not-painted = f .0; tallied = f .1; short = omega (arith, f .2, distinct-length (walkOf i .excluded) [] (listIds (i .tips))) }
-
--- all that a visit can meet
-abbrev pub names : Input → List Id
-names i = storeParents (i .store) ++ rowIds (i .graph) (graphCount (i .graph))
 
 pub names-rows : (i : Input) (x p : Id) (ps : List (Id × ℤ)) (l : ℕ) (s : ℤ) → walkOf i .world .graph x ≡ row ps l s → Mem p (map (λ q. q .0) ps) → Mem p (names i)
 unfolding walkOf

@@ -20,12 +20,11 @@ use Rattle.commitgraph.proofs.LayoutRight.{right}
 use Rattle.walk.specs.State.{State, ids, isEmpty}
 use Rattle.walk.specs.Opening.{Input, listIds, refusal, openWalk, opened}
 use Rattle.walk.specs.Calls.{stateAfter}
+use Rattle.walk.specs.Universe.{parentsUpTo, storeParents, rowIds, names, universe}
 use Rattle.walk.specs.Reach.{Mem}
-use Rattle.walk.proofs.Files.{parentsUpTo, storeParents}
-use Rattle.walk.proofs.Rows.{rowIds}
 use Rattle.walk.proofs.Tips.{open-accepted}
-use Rattle.walk.proofs.Whole.{accepted, names}
-use Rattle.walk.proofs.Universe.{universe, all-named}
+use Rattle.walk.proofs.Whole.{accepted}
+use Rattle.walk.proofs.Universe.{all-named}
 
 abbrev Wide : List Id → Type 0
 Wide l = (x : Id) → Mem x l → length x ≡ idBytes

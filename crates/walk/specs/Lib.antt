@@ -6,6 +6,7 @@ pub mod Opening
 pub mod Painting
 pub mod Next
 pub mod Calls
+pub mod Universe
 pub mod Given
 pub mod Reach
 pub mod Demand
