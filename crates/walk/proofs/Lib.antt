@@ -1,3 +1,4 @@
+pub mod Refusals
 pub mod Laws
 pub mod Painting
 pub mod Fuel

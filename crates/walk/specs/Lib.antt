@@ -14,4 +14,5 @@ pub mod Sums
 pub mod AnyInput
 pub mod Runs
 pub mod Slips
+pub mod Openings
 pub mod Instances

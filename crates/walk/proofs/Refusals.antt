@@ -1,0 +1,34 @@
+-- No two refusals have one number: the refusal is given back by its number. Assumes nothing.
+use mathlib.Core.Path.{_≡_, refl, sym, _∙_, ap}
+use Prim.Native.Nat.{ℕ}
+use mathlib.Core.Option.{Option, none, some}
+use mathlib.Core.List.{List, [], _∷_}
+use lib.ListN.{getD}
+use Rattle.hash.proofs.Tests.{some-in}
+use Rattle.walk.specs.declared.Refusal.{Refusal}
+use Rattle.walk.specs.declared.Refusal.the-variants.{BufferTooSmall, InputTooLarge, PartialId, CorruptStore, UnknownGraph, CorruptGraph, TipNotFound, TipUnreadable, CommitNotFound, CommitUnreadable, TooManyParents, Closed}
+use Rattle.walk.specs.Refusals.{numberOf}
+
+-- by rising number, from 0
+inOrder : List (Option Refusal)
+inOrder =
+    none ∷ some BufferTooSmall ∷ some InputTooLarge ∷ some PartialId ∷ some CorruptStore ∷ some UnknownGraph ∷ some CorruptGraph ∷ some TipNotFound
+    ∷ some TipUnreadable ∷ some CommitNotFound ∷ some CommitUnreadable ∷ some TooManyParents ∷ some Closed ∷ []
+
+number-back : (r : Refusal) → getD inOrder (numberOf r) none ≡ some r
+unfolding inOrder
+number-back BufferTooSmall = refl
+number-back InputTooLarge = refl
+number-back PartialId = refl
+number-back CorruptStore = refl
+number-back UnknownGraph = refl
+number-back CorruptGraph = refl
+number-back TipNotFound = refl
+number-back TipUnreadable = refl
+number-back CommitNotFound = refl
+number-back CommitUnreadable = refl
+number-back TooManyParents = refl
+number-back Closed = refl
+
+pub number-once : (r s : Refusal) → numberOf r ≡ numberOf s → r ≡ s
+number-once r s e = some-in (sym (number-back r) ∙ ap (λ (n : ℕ). getD inOrder n none) e ∙ number-back s)
