@@ -18,6 +18,7 @@ pub mod Calls
 pub mod Files
 pub mod Rows
 pub mod Tips
+pub mod Kept
 pub mod Whole
 pub mod Enough
 pub mod Named

@@ -1,16 +1,16 @@
 -- An opening under the premises: each tip that is met first and is not excluded is readable, so it is seen, and it waits unless the cutoff
 -- turns it away.
 -- Assumes nothing.
-use mathlib.Core.Path.{_≡_, refl, _∙_}
+use mathlib.Core.Path.{_≡_, refl, _∙_, ap, subst}
 use mathlib.Core.Logic.{_⊎_, inl, inr, ⊎-elim}
 use Prim.Native.Nat.{_+_, _≤_}
-use mathlib.Core.Bool.{true, false, cond, _||_}
+use mathlib.Core.Bool.{Bool, true, false, cond, _||_}
 use mathlib.Core.List.{List, [], _∷_, List·Memᴰ, List·Memᴰ·head, List·Memᴰ·tail, List·Memᴰ·cases-cons, List·Memᴰ·not-nil}
 use native.Mathlib.Omega.{arith}
 use lib.ListN.{length}
 use lib.IntN.{ℤ, pos}
 use Rattle.hash.specs.Bytes.{Id, eqId, among}
-use Rattle.hash.proofs.Tests.{byCases, clash, or-cases}
+use Rattle.hash.proofs.Tests.{byCases, clash, not-yes, or-cases}
 use Rattle.hash.proofs.Ids.{eqId-eq, eqId-refl}
 use Rattle.walk.proofs.Laws.{Coherent}
 use Rattle.walk.specs.Settings.{goesBefore, byTime, notBefore, cutoffOf, timed}
@@ -24,6 +24,9 @@ use Rattle.walk.proofs.Queue.{queued-in, queued-out, queued-nodup, leng
 use Rattle.walk.proofs.Take.{header-at}
 
 -- ---- lists without repeats
+
+neither : (a b : Bool) → a ≡ false → b ≡ false → (a || b) ≡ false
+neither a b e f = rw (e, f)
 
 pub among-mem : (x : Id) (l : List Id) → among x l ≡ true → Mem x l
 unfolding among
@@ -87,6 +90,23 @@ module _ (excluded : List Id) where
       byCases (among y had || among y excluded)
       (λ h. rw h (omega (arith, distinct-length had ys)))
       (λ h. rw h (omega (arith, distinct-length (y ∷ had) ys)))
+
+  -- a list that has no repeats and nothing to lose stays as it is
+  pub distinct-same : (had l : List Id) → NoDup l → ((x : Id) → Mem x l → (among x had || among x excluded) ≡ false) → distinct had excluded l ≡ l
+  unfolding distinct
+  distinct-same had [] n f = refl
+  distinct-same had (y ∷ ys) (more m n) f =
+      let h = f y (List·Memᴰ·head refl) in
+      let r = distinct-same (y ∷ had) ys n (λ x k. still had y ys m f x k) in
+      rw h (ap (λ (l : List Id). y ∷ l) r)
+    where
+      still : (had : List Id) (y : Id) (ys : List Id) → (Mem y ys → ⊥) → ((x : Id) → Mem x (y ∷ ys) → (among x had || among x excluded) ≡ false)
+          → (x : Id) → Mem x ys → (among x (y ∷ had) || among x excluded) ≡ false
+      still had y ys m f x k =
+          let o = or-neither (among x had) (among x excluded) (f x (List·Memᴰ·tail k)) in
+          let d : eqId x y ≡ false = not-yes (λ e. m (subst (λ (z : Id). Mem z ys) (eqId-eq x y e) k)) in
+          let a : among x (y ∷ had) ≡ false = cons-among x y had d (o .0) in
+          neither (among x (y ∷ had)) (among x excluded) a (o .1)
 
 -- ---- the tips enter
 

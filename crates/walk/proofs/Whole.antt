@@ -10,7 +10,7 @@ use mathlib.Core.List.{List, [], _∷_, map, Memᴰ·append-left, Memᴰ·append
 use native.Mathlib.Omega.{arith}
 use lib.ListN.{length, length-append}
 use lib.IntN.{ℤ, pos}
-use Rattle.hash.specs.Bytes.{Id, idsOf}
+use Rattle.hash.specs.Bytes.{Id, among, idsOf}
 use Rattle.walk.specs.declared.Refusal.{Refusal}
 use Rattle.object.specs.Header.{Header, header}
 use Rattle.odb.specs.Store.{storeOk, storeFind}
@@ -26,11 +26,12 @@ use Rattle.walk.specs.Next.{Answer}
 use Rattle.walk.specs.Calls.{answers, answersFrom, calls}
 use Rattle.walk.specs.Universe.{storeParents, rowIds, names}
 use Rattle.walk.specs.Reach.{Mem}
-use Rattle.walk.specs.Demand.{Third, Hands}
+use Rattle.walk.specs.Demand.{Third, ThirdOfKept, Hands}
 use Rattle.walk.specs.Sums.{Sums, EndsBy, SumLaw, EndLaw}
 use Rattle.walk.proofs.Queue.{length-queued}
 use Rattle.walk.proofs.Take.{header-at}
-use Rattle.walk.proofs.Open.{distinct-length}
+use Rattle.walk.proofs.Open.{distinct-out, distinct-once, distinct-length, distinct-same}
+use Rattle.walk.proofs.Kept.{kept, kept-listed, kept-premises}
 use Rattle.walk.proofs.Third.{third-model}
 use Rattle.walk.proofs.Visits.{unseen-bound, left}
 use Rattle.walk.proofs.Tips.{open-accepted, open-keep}
@@ -120,25 +121,45 @@ pub answers-calls : (i : Input) (st : State) → openWalk i true ≡ opened st �
 unfolding answers answersFrom
 answers-calls i st e k = ap (answersFrom (walkOf i) k) e
 
-pub third : (i : Input) → Third i
-unfolding Third
-third i e pre =
+-- the tips that are left; they lose nothing more
+abbrev left-tips : Input → List Id
+left-tips i = kept (walkOf i) (listIds (i .tips))
+
+left-same : (i : Input) → distinct [] (walkOf i .excluded) (left-tips i) ≡ left-tips i
+unfolding among
+left-same i =
+    distinct-same (walkOf i .excluded) [] (left-tips i) (distinct-once (walkOf i .excluded) [] (listIds (i .tips)))
+    (λ x m. distinct-out (walkOf i .excluded) [] (listIds (i .tips)) x m .1)
+
+left-few : (i : Input) → length (left-tips i) ≤ length (listIds (i .tips))
+left-few i = distinct-length (walkOf i .excluded) [] (listIds (i .tips))
+
+pub third-of-kept : (i : Input) → ThirdOfKept i
+unfolding ThirdOfKept
+third-of-kept i e pre =
     let a = accepted i e in
     let co : Coherent (walkOf i .world) = world-coherent i a in
-    let r = third-model (walkOf i) (listIds (i .tips)) pre co (storeParents (i .store))
-    (λ x p d m. let h = header-at (walkOf i) (listIds (i .tips)) pre co x d in
+    let r = third-model (walkOf i) (left-tips i) pre co (storeParents (i .store))
+    (λ x p d m. let h = header-at (walkOf i) (left-tips i) pre co x d in
     store-names′ i x p (h .0) (h .1) (subst (λ (l : List Id). Mem p l) (sym (h .2 .ids-are)) m))
-    (turns-enough i a) in
-    let o : openWalk i true ≡ opened (r .state) = opened-as i e (r .state) (r .accepted) in
+    (omega (arith, turns-enough i a, left-few i)) in
+    let t : tipsIn (walkOf i) (left-tips i) emptyState ≡ opened (r .state) =
+    subst (λ (l : List Id). tipsIn (walkOf i) l emptyState ≡ opened (r .state)) (left-same i) (r .accepted) in
+    let o : openWalk i true ≡ opened (r .state) = opened-as i e (r .state) t in
+    let listed = kept-listed (walkOf i) (listIds (i .tips)) in
     record {
       state = r .state;
       accepted = o;
       list = r .list;
       different = r .different;
-      exactly = r .exactly;
-      within = omega (arith, r .short, room i a);
+      exactly = λ x. (λ m. listed x .0 (r .exactly x .0 m), λ l. r .exactly x .1 (listed x .1 l));
+      within = omega (arith, r .short, room i a, left-few i);
       handed-out = λ k. subst (λ (c : List Answer). Hands (r .list) c) (sym (answers-calls i (r .state) o k)) (r .in-order k);
     }
+
+pub third : (i : Input) → Third i
+unfolding Third ThirdOfKept
+third i e pre = third-of-kept i e (kept-premises (walkOf i) (listIds (i .tips)) pre)
 
 -- ---- the sum and the end, with no premises
 
