@@ -13,11 +13,11 @@ use lib.Seq.{slice}
 use Rattle.hash.specs.Bytes.{Id}
 use Rattle.hashtable.specs.Table.{idOf, wrap}
 use Rattle.revwalk.specs.Order.{at, insertBy, In}
-use Rattle.revwalk.specs.Pending.{notAbove, Sorts}
+use Rattle.pending.specs.Pending.{notAbove, Sorts}
 use Rattle.revwalk.specs.Queue.{ringAt, GoodQueue, placeOf, turnOf, slotsOf, ReadsSlot}
 use Rattle.revwalk.specs.declared.queue.Queue.{Queue}
-use Rattle.revwalk.proofs.PendingInsert.{slice-none}
-use Rattle.revwalk.proofs.PendingLaws.{insert-ids}
+use Rattle.pending.proofs.Inserts.{slice-none}
+use Rattle.pending.proofs.Laws.{insert-ids}
 use Rattle.revwalk.proofs.QueueSorts.{Place, in-insert}
 use Rattle.revwalk.proofs.QueueGood.{either, place-timed, place-ring, slots-in, good-size, good-room}
 use Rattle.revwalk.proofs.QueueRing.{wrap-in}

@@ -10,9 +10,9 @@ use Rattle.hash.specs.Bytes.{Id}
 use Rattle.hash.proofs.Tests.{clash}
 use Rattle.commit.specs.declared.Cache.{Cache}
 use Rattle.hashtable.specs.Table.{Table}
-use Rattle.revwalk.specs.Pending.{Room, Pushes}
-use Rattle.revwalk.specs.declared.pending.Pending.{Pending}
-use Rattle.revwalk.specs.declared.pending.Pushed.{Pushed}
+use Rattle.pending.specs.Pending.{Room, Pushes}
+use Rattle.pending.specs.declared.Pending.{Pending}
+use Rattle.pending.specs.declared.Pushed.{Pushed}
 use Rattle.walk.specs.Lookup.{World, Read, fail, read, pairOf}
 use Rattle.walk.specs.Painting.{Paint, mark}
 use Rattle.walk.specs.declared.GenThenTime.{GenThenTime}

@@ -21,10 +21,10 @@ use Rattle.hashtable.proofs.TableIds.{same?}
 use Rattle.hashtable.proofs.TableView.{mark-held}
 use Rattle.hashtable.proofs.TableRoom.{within, room}
 use Rattle.revwalk.specs.Order.{insertBy, In}
-use Rattle.revwalk.specs.Pending.{levelOf, secondsOf, ahead, slotsIn, Room, Entered}
-use Rattle.revwalk.specs.declared.pending.Pending.{Pending}
-use Rattle.revwalk.specs.declared.pending.Pushed.{Pushed}
-use Rattle.revwalk.proofs.PendingLaws.{few-room, map-agree, insert-map, pushed-all, slots-frame}
+use Rattle.pending.specs.Pending.{levelOf, secondsOf, ahead, slotsIn, Room, Entered}
+use Rattle.pending.specs.declared.Pending.{Pending}
+use Rattle.pending.specs.declared.Pushed.{Pushed}
+use Rattle.pending.proofs.Laws.{few-room, map-agree, insert-map, pushed-all, slots-frame}
 use Rattle.walk.specs.Lookup.{World, Pair, ltPair, Read, fail, good, read}
 use Rattle.walk.specs.Painting.{Paint, Painting, stop, going, addPending, also, mark, markRead}
 use Rattle.walk.specs.State.{add}

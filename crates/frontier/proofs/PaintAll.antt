@@ -15,10 +15,10 @@ use Rattle.hashtable.specs.Marks.{visible, hidden, stale, seen}
 use Rattle.hashtable.specs.Table.{idOf, markFor}
 use Rattle.hashtable.proofs.MarksBits.{seen-live}
 use Rattle.revwalk.specs.Order.{In}
-use Rattle.revwalk.specs.Pending.{slotsIn, Right}
-use Rattle.revwalk.specs.declared.pending.Pending.{Pending}
+use Rattle.pending.specs.Pending.{slotsIn, Right}
+use Rattle.pending.specs.declared.Pending.{Pending}
 use Rattle.revwalk.specs.declared.queue.Queue.{Queue}
-use Rattle.revwalk.proofs.PendingLaws.{empty-slots, empty-right, lowered-right}
+use Rattle.pending.proofs.Laws.{empty-slots, empty-right, lowered-right}
 use Rattle.revwalk.proofs.QueueGood.{good-size}
 use Rattle.revwalk.proofs.QueueSlots.{slots-low}
 use Rattle.walk.specs.Lookup.{World}

@@ -13,8 +13,8 @@ use Rattle.commit.specs.declared.Cache.{Cache}
 use Rattle.hashtable.specs.Table.{idOf, Table}
 use Rattle.hashtable.proofs.TableIds.{width-of}
 use Rattle.revwalk.specs.Order.{In}
-use Rattle.revwalk.specs.declared.pending.Pending.{Pending}
-use Rattle.revwalk.proofs.PendingLaws.{getD-below}
+use Rattle.pending.specs.declared.Pending.{Pending}
+use Rattle.pending.proofs.Laws.{getD-below}
 use Rattle.walk.specs.Lookup.{World}
 use Rattle.walk.specs.Painting.{Paint, mark, markAll}
 use Rattle.reading.specs.Files.{worldUnder}

@@ -16,7 +16,7 @@ use Rattle.hashtable.specs.Table.{Table, markFor, Finds}
 use Rattle.hashtable.specs.declared.table.Slot.{Slot}
 use Rattle.hashtable.specs.declared.table.Slot.the-variants.{Found, Vacant, Full as TableFull}
 use Rattle.hashtable.proofs.TableView.{found-mark, vacant-mark, mark-absent, full-absent}
-use Rattle.revwalk.specs.declared.pending.Pending.{Pending}
+use Rattle.pending.specs.declared.Pending.{Pending}
 use Rattle.walk.specs.Lookup.{World, Read, fail, good, read, parentsOf}
 use Rattle.walk.specs.Opening.{listIds}
 use Rattle.walk.specs.Painting.{Paint, Painting, stop, going, then, Marks, mark, markAll, lacks, pass}

@@ -17,10 +17,10 @@ use Rattle.hashtable.specs.Marks.{visible, hidden, stale}
 use Rattle.hashtable.specs.Table.{idOf, markFor}
 use Rattle.hashtable.proofs.TableIds.{less?, width-of}
 use Rattle.hashtable.proofs.TableView.{mark-held}
-use Rattle.revwalk.specs.Pending.{slotsIn, waiting, Took, Pops, staleAt}
-use Rattle.revwalk.specs.declared.pending.Pending.{Pending}
-use Rattle.revwalk.specs.declared.pending.Taken.{Taken}
-use Rattle.revwalk.proofs.PendingLaws.{empty-slots, fresh-map, fresh-slots, taken-in}
+use Rattle.pending.specs.Pending.{slotsIn, waiting, Took, Pops, staleAt}
+use Rattle.pending.specs.declared.Pending.{Pending}
+use Rattle.pending.specs.declared.Taken.{Taken}
+use Rattle.pending.proofs.Laws.{empty-slots, fresh-map, fresh-slots, taken-in}
 use Rattle.walk.specs.Lookup.{World, Pair, read, parentsOf}
 use Rattle.walk.specs.Painting.{Paint, Painting, stop, going, then, Marks, pass, passed, withPending, fresh, turn, turns}
 use Rattle.walk.specs.declared.Refusal.{Refusal}

@@ -9,7 +9,7 @@ use Rattle.hash.specs.Bytes.{Id}
 use Rattle.commit.specs.declared.Cache.{Cache}
 use Rattle.hashtable.specs.Table.{idOf, liveAt}
 use Rattle.revwalk.specs.Order.{In}
-use Rattle.revwalk.specs.declared.pending.Pending.{Pending}
+use Rattle.pending.specs.declared.Pending.{Pending}
 use Rattle.walk.specs.Lookup.{World, read, parentsOf}
 use Rattle.walk.specs.Painting.{Paint, Painting, Marks, markAll, pass}
 use Rattle.reading.specs.Files.{worldUnder}

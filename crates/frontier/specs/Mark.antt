@@ -10,9 +10,9 @@ use Rattle.hash.specs.Bytes.{Id, idBytes}
 use Rattle.commit.specs.declared.Cache.{Cache}
 use Rattle.hashtable.specs.Table.{Table, markFor, Finds}
 use Rattle.hashtable.specs.declared.table.Slot.the-variants.{Full as TableFull}
-use Rattle.revwalk.specs.Pending.{Room, Entered}
-use Rattle.revwalk.specs.declared.pending.Pending.{Pending}
-use Rattle.revwalk.specs.declared.pending.Pushed.{Pushed}
+use Rattle.pending.specs.Pending.{Room, Entered}
+use Rattle.pending.specs.declared.Pending.{Pending}
+use Rattle.pending.specs.declared.Pushed.{Pushed}
 use Rattle.walk.specs.Lookup.{World, Pair, fail, good, read}
 use Rattle.walk.specs.Painting.{Paint, Painting, going, Marks, mark, lacks}
 use Rattle.reading.specs.Files.{worldUnder}

@@ -13,8 +13,8 @@ use Rattle.commit.specs.declared.Cache.{Cache}
 use Rattle.hashtable.specs.Marks.{visible, hidden, stale, seen}
 use Rattle.hashtable.specs.Table.{idOf, liveAt, Table, markFor, has}
 use Rattle.revwalk.specs.Order.{In}
-use Rattle.revwalk.specs.Pending.{levelOf, secondsOf, slotsIn, Right}
-use Rattle.revwalk.specs.declared.pending.Pending.{Pending}
+use Rattle.pending.specs.Pending.{levelOf, secondsOf, slotsIn, Right}
+use Rattle.pending.specs.declared.Pending.{Pending}
 use Rattle.walk.specs.Lookup.{World, Pair, good, read}
 use Rattle.walk.specs.Painting.{Paint, Painting, stop, going}
 use Rattle.walk.specs.declared.Refusal.{Refusal}

@@ -11,7 +11,7 @@ use Rattle.hashtable.specs.Marks.{seen}
 use Rattle.hashtable.specs.Table.{idOf, liveAt, Table}
 use Rattle.revwalk.specs.Order.{In}
 use Rattle.revwalk.specs.Queue.{GoodQueue, slotsOf}
-use Rattle.revwalk.specs.declared.pending.Pending.{Pending}
+use Rattle.pending.specs.declared.Pending.{Pending}
 use Rattle.revwalk.specs.declared.queue.Queue.{Queue}
 use Rattle.walk.specs.Lookup.{World, read, parentsOf}
 use Rattle.walk.specs.Painting.{unpainted, sorted, paint}

@@ -7,8 +7,8 @@ use lib.ListN.{take}
 use lib.Dec.{ltb}
 use Rattle.hash.specs.Bytes.{Id}
 use Rattle.commit.specs.declared.Cache.{Cache}
-use Rattle.revwalk.specs.Pending.{staleAt, olderIn, youngerIn, fresh as anyFresh}
-use Rattle.revwalk.specs.declared.pending.Pending.{Pending}
+use Rattle.pending.specs.Pending.{staleAt, olderIn, youngerIn, fresh as anyFresh}
+use Rattle.pending.specs.declared.Pending.{Pending}
 use Rattle.walk.specs.Lookup.{World, Pair, read, parentsOf}
 use Rattle.walk.specs.Painting.{Paint, Painting, going, pass, passed, withPending, fresh, turn, turns}
 use Rattle.reading.specs.Files.{worldUnder}

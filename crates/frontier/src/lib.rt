@@ -12,7 +12,7 @@ use commit::Cache;
 use hashtable::marks::HIDDEN;
 use hashtable::marks::VISIBLE;
 pub use marking::Marked;
-use revwalk::pending::Pending;
+use pending::Pending;
 use revwalk::queue::Queue;
 ghost use mathlib.Core.Path.{_≡_};
 ghost use Prim.Native.Nat.{_*_, _≤_};

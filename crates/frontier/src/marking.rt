@@ -2,9 +2,8 @@
 use crate::slots;
 use crate::slots::Added;
 use commit::Cache;
+use pending::Pending;
 use reading::Commit;
-use revwalk::pending;
-use revwalk::pending::Pending;
 use walk::Refusal;
 ghost use mathlib.Core.Path.{_≡_};
 ghost use Rattle.frontier.specs.Paint.{lent};

@@ -1,5 +1,4 @@
 // What painting begins with: marks without any of its own, and the waiting commits by rising id.
-use revwalk::pending;
 use revwalk::queue;
 use revwalk::queue::Queue;
 ghost use mathlib.Core.Path.{_≡_};

@@ -13,7 +13,7 @@ use Rattle.hash.proofs.Tests.{and-first, clash, or-left, or-right}
 use Rattle.hashtable.specs.Marks.{frontier}
 use Rattle.hashtable.specs.Table.{markFor}
 use Rattle.commit.specs.declared.Cache.{Cache}
-use Rattle.revwalk.specs.declared.pending.Pending.{Pending}
+use Rattle.pending.specs.declared.Pending.{Pending}
 use Rattle.walk.specs.declared.Refusal.{Refusal}
 use Rattle.walk.specs.Lookup.{World}
 use Rattle.walk.specs.State.{Walk, State, nobody, ids, isEmpty}

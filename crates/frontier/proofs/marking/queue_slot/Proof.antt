@@ -6,7 +6,7 @@ use Rattle.frontier.proofs.marking.queue_slot.Statement.{statement}
 use Rattle.frontier.proofs.marking.queue_slot.Tie as tie
 use Rattle.frontier.proofs.marking.queue_slot.Reads as reads
 use Rattle.frontier.proofs.marking.queue_slot.Lts as lts
-use Rattle.revwalk.proofs.pending.push.Reads as push-reads
+use Rattle.pending.proofs.push.Reads as push-reads
 
 -- src/marking.rt:72:9
 push-requires : tie.Need-push-requires

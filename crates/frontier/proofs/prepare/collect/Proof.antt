@@ -9,7 +9,7 @@ use Rattle.frontier.proofs.prepare.collect.Statement.{statement}
 use Rattle.frontier.proofs.prepare.collect.Tie as tie
 use Rattle.frontier.proofs.prepare.collect.Reads as reads
 use Rattle.frontier.proofs.prepare.collect.Lts as lts
-use Rattle.revwalk.proofs.pending.insert_by_id.Reads as insert-by-id-reads
+use Rattle.pending.proofs.insert_by_id.Reads as insert-by-id-reads
 use Rattle.revwalk.proofs.queue.slot_at.Reads as slot-at-reads
 
 abbrev Inv-loop : tie.InvT-loop

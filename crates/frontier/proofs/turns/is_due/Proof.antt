@@ -7,7 +7,7 @@ use Rattle.frontier.proofs.turns.is_due.Statement.{statement}
 use Rattle.frontier.proofs.turns.is_due.Tie as tie
 use Rattle.frontier.proofs.turns.is_due.Reads as reads
 use Rattle.frontier.proofs.turns.is_due.Lts as lts
-use Rattle.revwalk.proofs.pending.any_lacking.Reads as any-lacking-reads
+use Rattle.pending.proofs.any_lacking.Reads as any-lacking-reads
 
 -- src/turns.rt:68:23
 enum-known-past : tie.Need-enum-known-past

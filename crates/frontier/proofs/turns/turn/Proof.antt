@@ -11,7 +11,7 @@ use Rattle.frontier.proofs.lists.id_in.Reads as id-in-reads
 use Rattle.frontier.proofs.lists.pass_to_parents.Reads as pass-to-parents-reads
 use Rattle.hashtable.proofs.table.mark_of.Reads as mark-of-reads
 use Rattle.reading.proofs.read_commit.Reads as read-commit-reads
-use Rattle.revwalk.proofs.pending.pop.Reads as pop-reads
+use Rattle.pending.proofs.pop.Reads as pop-reads
 
 -- src/turns.rt:28:9
 pop-requires : tie.Need-pop-requires
