@@ -10,10 +10,7 @@ use lib.Dec.{T, ltb, ltb→lt, le→leb}
 use borrow.Author.Tests.{lt-ltb, le-ltb, ltb-true, ltb-false}
 use lib.IntN.{ℤ, pos, negsuc}
 use lib.Signed.{ltZ, leZ, ltZ-yes, ltZ-no, <ℤ-≤ℤ-trans, clashℤ, _<ℤ_, _≤ℤ_}
-use mir.Syntax.{w64}
-use mir.Val.{SFits, toZ, ofZ}
-use mir.Facts.{toZ-ofZ}
-use Rattle.revwalk.specs.Order.{at, timeOf, seqOf, sooner, ahead, goes}
+use Rattle.revwalk.specs.Order.{at, secondsOf, seqOf, sooner, ahead, goes}
 use Rattle.revwalk.specs.Sift.{Total}
 use Rattle.revwalk.proofs.QueueSorts.{no-both}
 
@@ -107,7 +104,7 @@ module _ (w : Bool) (times : List ℤ) (line : List ℕ) (cap : ℕ) where
 
   pub goes-no : (a b : ℕ) → ahead w times b a ≡ true → goes w times cap line a b ≡ false
   unfolding goes
-  goes-no a b e = let p = sooner-asym w (timeOf times b) (timeOf times a) e in rw (p, e)
+  goes-no a b e = let p = sooner-asym w (secondsOf times b) (secondsOf times a) e in rw (p, e)
 
   pub goes-seq : (a b p q : ℕ) → ahead w times a b ≡ false → ahead w times b a ≡ false → p ≡ seqOf line cap a → q ≡ seqOf line cap b → ltb p q ≡ goes w times cap line a b
   unfolding goes
@@ -138,13 +135,13 @@ module _ (w : Bool) (times : List ℤ) (line : List ℕ) (cap : ℕ) where
       (told a b e)
     where
       ta : ℤ
-      ta = timeOf times a
+      ta = secondsOf times a
 
       tb : ℤ
-      tb = timeOf times b
+      tb = secondsOf times b
 
       tc : ℤ
-      tc = timeOf times c
+      tc = secondsOf times c
 
   pub goes-turned : (a b : ℕ) → (seqOf line cap a ≡ seqOf line cap b → ⊥) → goes w times cap line a b ≡ false → goes w times cap line b a ≡ true
   unfolding goes
@@ -171,7 +168,3 @@ module _ (w : Bool) (times : List ℤ) (line : List ℕ) (cap : ℕ) where
 pub goes-same : (w : Bool) (times : List ℤ) (line line′ : List ℕ) (cap a b : ℕ) → at line (cap + a) ≡ at line′ (cap + a) → at line (cap + b) ≡ at line′ (cap + b) → goes w times cap line a b ≡ goes w times cap line′ a b
 unfolding goes
 goes-same w times line line′ cap a b p q = rw (p, q)
-
--- signed numbers that were held in locals come back as their bits are read
-pub told-times : (w r : Bool) (u v u′ v′ : ℤ) → SFits w64 u → SFits w64 v → r ≡ sooner w (toZ w64 (ofZ w64 u)) (toZ w64 (ofZ w64 v)) → u ≡ u′ → v ≡ v′ → r ≡ sooner w u′ v′
-told-times w r u v u′ v′ fu fv e p q = rw (toZ-ofZ fu ∙ p, toZ-ofZ fv ∙ q) at e

@@ -10,7 +10,7 @@ use lib.Seq.{getD-set-other, getD-take, getD-drop, ext-getD}
 use lib.IntN.{ℤ, pos}
 use Rattle.revwalk.specs.declared.queue.Queue.{Queue}
 use Rattle.revwalk.specs.declared.queue.Popped.{Popped}
-use Rattle.revwalk.specs.Order.{at, timeOf, seqOf, goes, sortAt, never, listed, In, Once}
+use Rattle.revwalk.specs.Order.{at, secondsOf, seqOf, goes, sortAt, never, listed, In, Once}
 use Rattle.revwalk.specs.Sift.{par}
 use Rattle.hashtable.specs.Table.{wrap}
 use Rattle.revwalk.specs.Queue.{Heap, Ring, GoodQueue, Joins, Pushes, PutsBack, Pops, queued, ringAt, placeOf, turnOf, slotsOf}
@@ -60,7 +60,7 @@ unfolding slotsOf
 rearranged q times line = perm-sort (turnOf q times line) (placeOf q line) (q .count)
 
 -- ---- seconds of slots that do not wait may change
-module _ (newest : Bool) (times times′ : List ℤ) (line : List ℕ) (cap n : ℕ) (same : (k : ℕ) → k < n → timeOf times (at line k) ≡ timeOf times′ (at line k)) where
+module _ (newest : Bool) (times times′ : List ℤ) (line : List ℕ) (cap n : ℕ) (same : (k : ℕ) → k < n → secondsOf times (at line k) ≡ secondsOf times′ (at line k)) where
   goes-times : (i j : ℕ) → i < n → j < n → goes newest times cap line (at line i) (at line j) ≡ goes newest times′ cap line (at line i) (at line j)
   unfolding goes
   goes-times i j hi hj = let p = same i hi in let q = same j hj in rw (p, q)
@@ -80,8 +80,8 @@ module _ (newest : Bool) (times times′ : List ℤ) (line : List ℕ) (cap n : 
   unfolding queued
   times-queued = sort-agree (goes newest times cap line) (goes newest times′ cap line) (at line) (at line) n (λ k h. refl) goes-times
 
-module _ (q : Queue) (times times′ : List ℤ) (line : List ℕ) (same : (z : ℕ) → In z (slotsOf q times line) → timeOf times z ≡ timeOf times′ z) where
-  same-at : q .timed ≡ true → (k : ℕ) → k < q .count → timeOf times (at line k) ≡ timeOf times′ (at line k)
+module _ (q : Queue) (times times′ : List ℤ) (line : List ℕ) (same : (z : ℕ) → In z (slotsOf q times line) → secondsOf times z ≡ secondsOf times′ z) where
+  same-at : q .timed ≡ true → (k : ℕ) → k < q .count → secondsOf times (at line k) ≡ secondsOf times′ (at line k)
   same-at e k h = same (at line k) (slots-in q times line (at line k) k h (ap (λ (p : ℕ → ℕ). p k) (place-timed q line e)))
 
   pub times-good : GoodQueue q times line → GoodQueue q times′ line
@@ -95,7 +95,7 @@ module _ (q : Queue) (times times′ : List ℤ) (line : List ℕ) (same : (z : 
       (either (q .timed))
 
 -- the seconds of one slot that does not wait
-pub times-set : (q : Queue) (times : List ℤ) (line : List ℕ) (s : ℕ) (v : ℤ) → (In s (slotsOf q times line) → ⊥) → (z : ℕ) → In z (slotsOf q times line) → timeOf times z ≡ timeOf (set times s v) z
+pub times-set : (q : Queue) (times : List ℤ) (line : List ℕ) (s : ℕ) (v : ℤ) → (In s (slotsOf q times line) → ⊥) → (z : ℕ) → In z (slotsOf q times line) → secondsOf times z ≡ secondsOf (set times s v) z
 times-set q times line s v fresh z h =
     sym (getD-set-other times s z v (pos 0) (λ e. fresh (subst (λ (x : ℕ). In x (slotsOf q times line)) e h)))
 

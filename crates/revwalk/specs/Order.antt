@@ -14,8 +14,8 @@ abbrev pub at : List ℕ → ℕ → ℕ
 at line k = getD line k 0
 
 -- the seconds of a slot, 0 where there is no such slot
-abbrev pub timeOf : List ℤ → ℕ → ℤ
-timeOf times s = getD times s (pos 0)
+abbrev pub secondsOf : List ℤ → ℕ → ℤ
+secondsOf times s = getD times s (pos 0)
 
 -- the number that a slot was given when it was queued
 abbrev pub seqOf : List ℕ → ℕ → ℕ → ℕ
@@ -27,7 +27,7 @@ sooner newest u v = cond newest (ltZ v u) (ltZ u v)
 
 -- whether slot a is handed out strictly before slot b by its seconds alone
 abbrev pub ahead : Bool → List ℤ → ℕ → ℕ → Bool
-ahead newest times a b = sooner newest (timeOf times a) (timeOf times b)
+ahead newest times a b = sooner newest (secondsOf times a) (secondsOf times b)
 
 -- whether slot a is handed out before slot b: by its seconds, and among equal seconds by who was queued first
 unfoldable pub goes : Bool → List ℤ → ℕ → List ℕ → ℕ → ℕ → Bool

@@ -3,19 +3,13 @@ ghost use mathlib.Core.Path.{_≡_};
 ghost use mathlib.Core.Bool.{true};
 ghost use Prim.Native.Nat.{_<_, _≤_};
 ghost use lib.ListN.{length};
-ghost use Rattle.revwalk.specs.Order.{at, timeOf, seqOf, sooner, ahead, goes};
+ghost use Rattle.revwalk.specs.Order.{at, seqOf, sooner, ahead, goes};
 ghost use Rattle.revwalk.specs.Sift.{Rose, Chosen, Sank};
 ghost use Rattle.revwalk.specs.Queue.{Unrooted, Pushes, Pops};
+use crate::seconds_of;
+use date::Seconds;
 use super::Popped;
 use super::Queue;
-
-// The seconds of a slot, or 0 where there is no such slot.
-fn time_of(times: &[i64], slot: u32) -> i64
-    ensures { λ r. ⌜ r ≡ timeOf (now (times .entry)) slot ⌝ }
-{
-    let i = slot as usize;
-    if i < times.len() { times[i] } else { 0 }
-}
 
 // The number that a slot was given when it was queued, or 0 where there is no such slot.
 fn seq_of(line: &[u32], cap: usize, slot: u32) -> u32
@@ -33,18 +27,36 @@ fn seq_of(line: &[u32], cap: usize, slot: u32) -> u32
     }
 }
 
-// Whether seconds u are handed out strictly before seconds v.
-fn is_sooner(newest: bool, u: i64, v: i64) -> bool
-    ensures { λ r. ⌜ r ≡ sooner newest u v ⌝ }
+// What slots are handed out by (gix_traverse's QueueKey): seconds, the newest first or the oldest.
+struct QueueKey {
+    seconds: Seconds,
+    newest: bool,
+}
+
+fn to_queue_key(seconds: Seconds, newest: bool) -> QueueKey
+    ensures { λ r. ⌜ r ≡ record { seconds = seconds; newest = newest } ⌝ }
 {
-    if newest { v < u } else { u < v }
+    QueueKey { seconds, newest }
+}
+
+// Whether a slot with key a is handed out strictly before one with key b, of two keys of one order.
+fn is_sooner(a: QueueKey, b: QueueKey) -> bool
+    ensures { λ r. ⌜ r ≡ sooner (a .newest) (a .seconds .0) (b .seconds .0) ⌝ }
+{
+    if a.newest {
+        date::before(b.seconds, a.seconds)
+    } else {
+        date::before(a.seconds, b.seconds)
+    }
 }
 
 // Whether slot a is handed out strictly before slot b by its seconds alone.
 fn is_ahead(times: &[i64], newest: bool, a: u32, b: u32) -> bool
     ensures { λ r. ⌜ r ≡ ahead newest (now (times .entry)) a b ⌝ }
 {
-    is_sooner(newest, time_of(times, a), time_of(times, b))
+    let x = to_queue_key(seconds_of(times, a), newest);
+    let y = to_queue_key(seconds_of(times, b), newest);
+    is_sooner(x, y)
 }
 
 // Whether slot a is handed out before slot b.
