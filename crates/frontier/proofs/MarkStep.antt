@@ -20,8 +20,8 @@ use Rattle.hashtable.specs.declared.table.Slot.the-variants.{Full as TableFull}
 use Rattle.hashtable.proofs.TableIds.{same?}
 use Rattle.hashtable.proofs.TableView.{mark-held}
 use Rattle.hashtable.proofs.TableRoom.{within, room}
-use Rattle.revwalk.specs.Order.{insertBy, In}
-use Rattle.pending.specs.Pending.{levelOf, secondsOf, ahead, slotsIn, Room, Entered}
+use Rattle.revwalk.specs.Order.{secondsOf, insertBy, In}
+use Rattle.pending.specs.Pending.{levelOf, pairAt, ahead, slotsIn, Room, Entered}
 use Rattle.pending.specs.declared.Pending.{Pending}
 use Rattle.pending.specs.declared.Pushed.{Pushed}
 use Rattle.pending.proofs.Laws.{few-room, map-agree, insert-map, pushed-all, slots-frame}
@@ -33,7 +33,7 @@ use Rattle.walk.proofs.Laws.{also-other}
 use Rattle.walk.proofs.Fuel.{length-addPending}
 use Rattle.frontier.specs.Bits.{isPainted, marksOf, withBits}
 use Rattle.frontier.specs.Slots.{Gained}
-use Rattle.frontier.specs.Paint.{Lent, lent, pairAt, entryAt, IsKnown, PaintReads, Spares, Named, Goes, Stops}
+use Rattle.frontier.specs.Paint.{Lent, lent, entryAt, IsKnown, PaintReads, Spares, Named, Goes, Stops}
 use Rattle.frontier.specs.Mark.{PairSet, Paired, MayStep}
 use Rattle.frontier.proofs.PaintBits.{visible-withBits, hidden-withBits, stale-withBits, seen-withBits, painted-live, painted-withBits}
 
@@ -171,16 +171,13 @@ pending-cons : (b c : Pair × Id) (l : List (Pair × Id)) → addPending (b .0) 
 unfolding addPending
 pending-cons b c l = refl
 
--- slots are set against each other as their pairs are
-ahead-pairs : (levels : List ℕ) (times : List ℤ) (a b : ℕ) → ahead levels times a b ≡ ltPair (pairAt levels times b) (pairAt levels times a)
-unfolding ahead ltPair
-ahead-pairs levels times a b = refl
-
+-- slots are set against each other as their pairs are, by definition
 insert-entries : (names levels : List ℕ) (times : List ℤ) (k : ℕ) (l : List ℕ)
     → map (entryAt names levels times) (insertBy (ahead levels times) k l) ≡ addPending (pairAt levels times k) (idOf names k) (map (entryAt names levels times) l)
+unfolding ahead
 insert-entries names levels times k l =
     insert-map (entryAt names levels times) (ahead levels times) (λ b c. ltPair (c .0) (b .0)) (λ b m. addPending (b .0) (b .1) m) pending-nil pending-cons k l
-    (λ y h. ahead-pairs levels times k y)
+    (λ y h. refl)
 
 -- ---- all of it
 

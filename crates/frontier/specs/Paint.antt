@@ -13,7 +13,7 @@ use Rattle.commit.specs.declared.Cache.{Cache}
 use Rattle.hashtable.specs.Marks.{visible, hidden, stale, seen}
 use Rattle.hashtable.specs.Table.{idOf, liveAt, Table, markFor, has}
 use Rattle.revwalk.specs.Order.{In}
-use Rattle.pending.specs.Pending.{levelOf, secondsOf, slotsIn, Right}
+use Rattle.pending.specs.Pending.{pairAt, slotsIn, Right}
 use Rattle.pending.specs.declared.Pending.{Pending}
 use Rattle.walk.specs.Lookup.{World, Pair, good, read}
 use Rattle.walk.specs.Painting.{Paint, Painting, stop, going}
@@ -38,10 +38,6 @@ lent names marks levels times line = record { names = names; marks = marks; leve
 pub record Files (c : Cache) (g s : List ℕ) : Type 0 where
   pub store-ok : storeOk s ≡ true
   pub graph-ok : GoodCache c g
-
--- the pair in slot s
-abbrev pub pairAt : List ℕ → List ℤ → ℕ → Pair
-pairAt levels times s = record { generation = levelOf levels s; time = secondsOf times s }
 
 -- a queued slot as an entry of painting's queue
 abbrev pub entryAt : List ℕ → List ℕ → List ℤ → ℕ → Pair × Id

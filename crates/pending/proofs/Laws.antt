@@ -14,8 +14,8 @@ use Rattle.hashtable.specs.Table.{idOf}
 use Rattle.pending.specs.declared.Pending.{Pending}
 use Rattle.pending.specs.declared.Pushed.{Pushed}
 use Rattle.pending.specs.declared.Taken.{Taken}
-use Rattle.revwalk.specs.Order.{insertBy, In}
-use Rattle.pending.specs.Pending.{levelOf, secondsOf, ahead, notAbove, olderIn, youngerIn, slotsIn, waiting, Right, Room, Entered, Took, fresh}
+use Rattle.revwalk.specs.Order.{secondsOf, insertBy, In}
+use Rattle.pending.specs.Pending.{levelOf, ahead, notAbove, olderIn, youngerIn, slotsIn, waiting, Right, Room, Entered, Took, fresh}
 use Rattle.revwalk.proofs.QueueSorts.{in-insert, insert-in, length-insert}
 use Rattle.pending.proofs.Ahead.{ahead-agree}
 use Rattle.pending.proofs.Inserts.{slice-none, slice-first}

@@ -1,39 +1,36 @@
 -- Painting's queue, two runs of the memory, as the list of the slots that wait, in the order in which they leave; and the waiting ids
 -- by rising id.
 -- Assumes nothing.
-use Prim.Native.Nat.{ℕ, _+_, _-_, _*_, _/_, _%_, _≤_, _<_}
+use Prim.Native.Nat.{ℕ, _+_, _-_, _≤_, _<_}
 use mathlib.Core.Path.{_≡_}
 use mathlib.Core.Logic.{_⊎_}
 use mathlib.Core.List.{List, [], _∷_, _++_}
 use mathlib.Core.Bool.{Bool, true, false, cond, not}
 use lib.ListN.{length, take, drop, getD}
 use lib.Seq.{slice}
-use lib.Dec.{eqb, ltb}
-use lib.IntN.{ℤ, pos}
-use lib.Signed.{ltZ}
+use lib.IntN.{ℤ}
 use Rattle.hash.specs.Bytes.{ltId}
 use Rattle.hashtable.specs.Marks.{stale}
 use Rattle.hashtable.specs.Table.{idOf}
-use Rattle.revwalk.specs.Order.{insertBy, In}
+use Rattle.revwalk.specs.Order.{secondsOf, insertBy}
+use Rattle.walk.specs.Lookup.{Pair, ltPair}
 use Rattle.pending.specs.declared.Pending.{Pending}
 use Rattle.pending.specs.declared.Pushed.{Pushed}
 use Rattle.pending.specs.declared.Taken.{Taken}
 
 -- ---- the order
 
--- the level and the seconds of a slot, 0 where there is no such slot
+-- the level of a slot, 0 where there is no such slot
 abbrev pub levelOf : List ℕ → ℕ → ℕ
 levelOf levels s = getD levels s 0
 
-abbrev pub secondsOf : List ℤ → ℕ → ℤ
-secondsOf times s = getD times s (pos 0)
+-- the pair of a slot
+abbrev pub pairAt : List ℕ → List ℤ → ℕ → Pair
+pairAt levels times s = record { generation = levelOf levels s; time = secondsOf times s }
 
--- slot a leaves strictly before slot b: its pair is the greater one. "A level and a number of seconds are never set against each
--- other: pairs compare levels, then seconds."
+-- slot a leaves strictly before slot b: its pair is the greater one
 unfoldable pub ahead : List ℕ → List ℤ → ℕ → ℕ → Bool
-ahead levels times a b =
-    let r : Bool = cond (eqb (levelOf levels b) (levelOf levels a)) (ltZ (secondsOf times b) (secondsOf times a)) false in
-    cond (ltb (levelOf levels b) (levelOf levels a)) true r
+ahead levels times a b = ltPair (pairAt levels times b) (pairAt levels times a)
 
 -- the id of slot a is not above that of slot b
 unfoldable pub notAbove : List ℕ → ℕ → ℕ → Bool

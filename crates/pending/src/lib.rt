@@ -3,16 +3,17 @@
 // times. A slot enters the younger run. Where that has no place left, which is after a few times the square root of the older run's
 // length, it is merged into the older run. So an entering moves a few times sqrt(n) slots on average, and in a real history, which inserts
 // near the front, few. Beside it the waiting ids by rising id, with which painting begins.
-use date::Seconds;
+use commitgraph::Level;
 use hash::Order;
+use walk::GenThenTime;
 ghost use mathlib.Core.Path.{_≡_};
 ghost use Prim.Native.Nat.{_+_, _-_, _<_, _≤_};
 ghost use mathlib.Core.List.{_++_};
 ghost use lib.ListN.{length};
 ghost use lib.Seq.{slice};
-ghost use lib.Signed.{ltZ};
 ghost use Rattle.hashtable.specs.Table.{Decides};
-ghost use Rattle.pending.specs.Pending.{levelOf, secondsOf, ahead, notAbove, staleAt, youngerIn, olderIn, fresh, shiftedIn, Right, Room, Waits, Runs, Leaves, mergedIn, Settles, Widens, OlderOnly, Enters, Pushes, Pops, Placed, putIn, Sorts};
+ghost use Rattle.walk.specs.Lookup.{pairOf};
+ghost use Rattle.pending.specs.Pending.{levelOf, pairAt, ahead, notAbove, staleAt, youngerIn, olderIn, fresh, shiftedIn, Right, Room, Waits, Runs, Leaves, mergedIn, Settles, Widens, OlderOnly, Enters, Pushes, Pops, Placed, putIn, Sorts};
 
 // Where the queue stands in `line`: line[base..end) is its own, with free places below the younger run and between the two.
 pub struct Pending {
@@ -36,50 +37,29 @@ pub struct Taken {
     pub pending: Pending,
 }
 
-// The generation of a slot, 0 past the end.
-fn level_of(levels: &[u32], slot: u32) -> u32
-    ensures { λ r. ⌜ r ≡ levelOf (now (levels .entry)) slot ⌝ }
+// The generation of a slot, 0 where there is no such slot.
+fn level_of(levels: &[u32], slot: u32) -> Level
+    ensures { λ r. ⌜ r .0 ≡ levelOf (now (levels .entry)) slot ⌝ }
 {
     let i = slot as usize;
-    if i < levels.len() { levels[i] } else { 0 }
+    if i < levels.len() { Level(levels[i]) } else { Level(0) }
 }
 
-fn time_of(times: &[i64], slot: u32) -> i64
-    ensures { λ r. ⌜ r ≡ secondsOf (now (times .entry)) slot ⌝ }
+// The pair of a slot.
+fn pair_of(levels: &[u32], times: &[i64], slot: u32) -> GenThenTime
+    ensures { λ r. ⌜ pairOf r ≡ pairAt (now (levels .entry)) (now (times .entry)) slot ⌝ }
 {
-    let i = slot as usize;
-    if i < times.len() { times[i] } else { 0 }
+    GenThenTime {
+        generation: level_of(levels, slot),
+        time: revwalk::seconds_of(times, slot),
+    }
 }
 
-// The seconds of a slot, 0 past the end.
-fn seconds_of(times: &[i64], slot: u32) -> Seconds
-    ensures { λ r. ⌜ r .0 ≡ secondsOf (now (times .entry)) slot ⌝ }
-{
-    Seconds(time_of(times, slot))
-}
-
-// Whether slot a has greater seconds than slot b.
-fn is_later(times: &[i64], a: u32, b: u32) -> bool
-    ensures { λ r. ⌜ r ≡ ltZ (secondsOf (now (times .entry)) b) (secondsOf (now (times .entry)) a) ⌝ }
-{
-    let x = seconds_of(times, a);
-    let y = seconds_of(times, b);
-    date::before(y, x)
-}
-
-// Whether slot a leaves strictly before slot b: generations are set against generations, then seconds against seconds.
+// Whether slot a leaves strictly before slot b: its pair is the greater one.
 fn is_ahead(levels: &[u32], times: &[i64], a: u32, b: u32) -> bool
     ensures { λ r. ⌜ r ≡ ahead (now (levels .entry)) (now (times .entry)) a b ⌝ }
 {
-    let p = level_of(levels, a);
-    let q = level_of(levels, b);
-    if q < p {
-        return true;
-    }
-    if p < q {
-        return false;
-    }
-    is_later(times, a, b)
+    walk::less(pair_of(levels, times, b), pair_of(levels, times, a))
 }
 
 // Puts a slot before the first of line[head..tail) that it goes strictly before; those in front of its place move down by one.

@@ -5,11 +5,11 @@ use borrow.Author.Needs.{needs}
 use Rattle.pending.proofs.level_of.Statement.{statement}
 use Rattle.pending.proofs.level_of.Tie as tie
 
-mul-result : tie.Need-mul-result
-mul-result c = search needs
+mul-t7 : tie.Need-mul-t7
+mul-t7 c = search needs
 
-shared-slice-read-result : tie.Need-shared-slice-read-result
-shared-slice-read-result c = search needs
+shared-slice-read-t9 : tie.Need-shared-slice-read-t9
+shared-slice-read-t9 c = search needs
 
 returns : tie.Need-returns
 returns c = search needs
@@ -18,4 +18,4 @@ returns-2 : tie.Need-returns-2
 returns-2 c = sym (List·getD-eq-default (c .before .args .levels .now) 0 (c .if1 .left))
 
 pub level-of-spec : {M : Type 1} → statement M
-level-of-spec = tie.close (tie.spec mul-result shared-slice-read-result returns returns-2)
+level-of-spec = tie.close (tie.spec mul-t7 shared-slice-read-t9 returns returns-2)
