@@ -1,4 +1,5 @@
-// Painting's queue: two runs of `line`, each in the order in which its slots leave: the older run line[start..end) and the younger
+// Painting's queue (gix_revwalk::PriorityQueue of GenThenTime), in memory that the caller lends; every function is total and safe on any
+// bytes. It is two runs of `line`, each in the order in which its slots leave: the older run line[start..end) and the younger
 // line[low..high). The greatest pair of generation and seconds leaves first, among equals the first queued; a slot may wait several
 // times. A slot enters the younger run. Where that has no place left, which is after a few times the square root of the older run's
 // length, it is merged into the older run. So an entering moves a few times sqrt(n) slots on average, and in a real history, which inserts
@@ -42,7 +43,11 @@ fn level_of(levels: &[u32], slot: u32) -> Level
     ensures { λ r. ⌜ r .0 ≡ levelOf (now (levels .entry)) slot ⌝ }
 {
     let i = slot as usize;
-    if i < levels.len() { Level(levels[i]) } else { Level(0) }
+    if i < levels.len() {
+        Level(levels[i])
+    } else {
+        Level(0)
+    }
 }
 
 // The pair of a slot.

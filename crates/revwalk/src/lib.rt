@@ -1,4 +1,4 @@
-// The queues of a walk (gix_revwalk::PriorityQueue), in memory that the caller lends. A slot is a number below `cap`. Every function is
+// The queue of a walk (gix_revwalk::PriorityQueue), in memory that the caller lends. A slot is a number below `cap`. Every function is
 // total and safe on any bytes.
 use date::Seconds;
 ghost use mathlib.Core.Path.{_≡_};
@@ -11,5 +11,9 @@ pub fn seconds_of(times: &[i64], slot: u32) -> Seconds
     ensures { λ r. ⌜ r .0 ≡ secondsOf (now (times .entry)) slot ⌝ }
 {
     let i = slot as usize;
-    if i < times.len() { Seconds(times[i]) } else { Seconds(0) }
+    if i < times.len() {
+        Seconds(times[i])
+    } else {
+        Seconds(0)
+    }
 }

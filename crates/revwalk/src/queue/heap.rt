@@ -6,10 +6,10 @@ ghost use lib.ListN.{length};
 ghost use Rattle.revwalk.specs.Order.{at, seqOf, sooner, ahead, goes};
 ghost use Rattle.revwalk.specs.Sift.{Rose, Chosen, Sank};
 ghost use Rattle.revwalk.specs.Queue.{Unrooted, Pushes, Pops};
-use crate::seconds_of;
-use date::Seconds;
 use super::Popped;
 use super::Queue;
+use crate::seconds_of;
+use date::Seconds;
 
 // The number that a slot was given when it was queued, or 0 where there is no such slot.
 fn seq_of(line: &[u32], cap: usize, slot: u32) -> u32
