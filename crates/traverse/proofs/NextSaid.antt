@@ -33,7 +33,7 @@ use Rattle.traverse.specs.declared.Out.{Out}
 use Rattle.traverse.specs.Contract.{Files, inputWith, Lent, lengthsOf, OfPaper, NextSays}
 use Rattle.traverse.specs.Next.{Whole, GivesBack, shutWith, Goes}
 use Rattle.traverse.proofs.Standing.{shapeIn, goes-by, world-is, in-rows, in-store, Stands, stands, good-store, good-graph, room-parents, room-levels, few-admitted, rests, stands-whole, says-step, next-painted, next-first, first-state, whole-room}
-use Rattle.traverse.proofs.Paper.{of-paper, plain-refused, plain-end, of-paper-shut, not-shut}
+use Rattle.traverse.proofs.Paper.{of-paper, of-paper-refused, plain-end, of-paper-shut, not-shut, call-not-shut}
 
 -- ---- a painted record
 
@@ -125,7 +125,6 @@ module _ {f : Files} {r : Record} {m : Lent} {p : painted.Painted} {m₁ : Memor
       → Goes false f r m o (record { memory = m₁; levels = levels; parents = m .parents })
   refused-goes {r₁} {o} w levels y b =
       let c = subst RefusesBy y (d .of-call) in
-      let q = plain-refused (m .parents) w r₁ c in
       record {
         opened-call = λ h tips k st e g.
             let i = inputWith f tips in
@@ -134,8 +133,8 @@ module _ {f : Files} {r : Record} {m : Lent} {p : painted.Painted} {m₁ : Memor
             says-step s (step (refused w) [] (j .after)) (paints-first s h ∙ j .is) o (record { memory = m₁; levels = levels; parents = m .parents })
             (b .answer ∙ refused-given w (j .reads)) (none-down w (j .after) (m .parents))
             (subst (λ (z : Record). Reads z m₁ (shapeIn i) (step (refused w) [] (j .after) .state)) (sym (b .after)) (refused-reads w (j .reads)));
-        not-twelve = λ e. not-shut q (ap (λ (a : Given). a .outcome) (sym (b .answer)) ∙ e);
-        of-paper = λ h. subst (λ (a : Given). OfPaper a (m .parents) (m .parents)) (sym (b .answer)) (of-paper q refl h);
+        not-twelve = λ e. call-not-shut w c (ap (λ (a : Given). a .outcome) (sym (b .answer)) ∙ e);
+        of-paper = λ h. subst (λ (a : Given). OfPaper a (m .parents) (m .parents)) (sym (b .answer)) (of-paper-refused (m .parents) w r₁ c);
       }
 
   -- the memory was seen to be touched

@@ -12,7 +12,7 @@ use lib.IntN.{ℤ}
 use Rattle.hash.specs.Bytes.{Id, idBytes, setDown, idsOf}
 use Rattle.hash.proofs.Bytes.{setDown-fits}
 use Rattle.walk.specs.declared.Refusal.{Refusal}
-use Rattle.walk.specs.declared.Refusal.the-variants.{Closed}
+use Rattle.walk.specs.declared.Refusal.the-variants.{CommitNotFound, TooManyParents, Closed}
 use Rattle.walk.specs.declared.Outcome.{Outcome}
 use Rattle.walk.specs.declared.Outcome.the-variants.{Commit, End, Refused}
 use Rattle.walk.specs.declared.MaybeLevel.{MaybeLevel}
@@ -28,7 +28,7 @@ use Rattle.walk.proofs.Whole.{length-list}
 use Rattle.walk.proofs.Width.{list-wide}
 use Rattle.state.specs.declared.Record.{Record}
 use Rattle.visit.specs.Taking.{gave}
-use Rattle.visit.specs.Plain.{ShapedBy, Plain}
+use Rattle.visit.specs.Plain.{Counted, ShapedBy, Plain}
 use Rattle.visit.proofs.Parents.{set-down-none}
 use Rattle.traverse.specs.Contract.{closedAnswer, OfPaper}
 
@@ -108,6 +108,11 @@ end-in Commit a s e = let z : _≡_ {A = ℕ} 0 1 = cc in absurd (omega arith)
 end-in End a s e = s .1
 end-in (Refused q) a s e = let z : _≡_ {A = ℕ} 0 1 = cc in absurd (omega arith)
 
+counted-in : (o : Outcome) (a : Given) → ShapedBy o a → (r : Refusal) → kindIn o a ≡ refused r → Counted r (a .parents)
+counted-in Commit a s r e = let z : _≡_ {A = ℕ} 0 1 = cc in absurd (omega arith)
+counted-in End a s r e = let z : _≡_ {A = ℕ} 0 1 = cc in absurd (omega arith)
+counted-in (Refused q) a s r e = let z : q ≡ r = cc in subst (λ (y : Refusal). Counted y (a .parents)) z (s .2)
+
 no-ids : (l : List Id) → length l ≡ 0 → l ≡ []
 no-ids [] e = refl
 no-ids (x ∷ l) e = absurd (omega (arith, e))
@@ -144,16 +149,30 @@ of-paper {b} {b′} {a} p l h =
       is = given-model a ps (p .shape) n;
       kind = λ r e. inl (of-call-in (a .outcome) a (p .shape) r e);
       bare-end = λ e. no-ids ps (sym n ∙ end-in (a .outcome) a (p .shape) e);
+      bare-lost = λ e. no-ids ps (sym n ∙ counted-in (a .outcome) a (p .shape) CommitNotFound e .lost refl);
+      crowded = λ e. inl (sym n ∙ counted-in (a .outcome) a (p .shape) TooManyParents e .crowded refl);
       few = omega (arith, n);
       wide = list-wide (take (idBytes * a .parents) b′);
       set-down = was-set-down b b′ (idBytes * a .parents) l (omega arith) (p .past)
           ∙ ap (setDown b 0) (sym (joined-list (take (idBytes * a .parents) b′) (a .parents) w));
     }
 
--- an answer that carries nothing but the running numbers, and leaves the buffer as it was
-pub plain-refused : (b : List ℕ) (n : Refusal) (r : Record) → OfCall n → Plain b b (gave (Refused n) noId 0 NoGeneration NoTime r .answer)
-plain-refused b n r c = record { shape = (record { no-id = refl; no-generation = refl; no-time = refl }, c); few = omega arith; past = λ k h. refl }
+-- an answer that carries nothing but the running numbers, and leaves the buffer as it was: painting's refusal
+pub of-paper-refused : (b : List ℕ) (n : Refusal) (r : Record) → OfCall n → OfPaper (gave (Refused n) noId 0 NoGeneration NoTime r .answer) b b
+unfolding parentsGiven joined given
+of-paper-refused b n r c = record {
+  model = record { kind = refused n; parents = []; admitted = r .admitted; struck = r .struck; waiting = r .queue .count };
+  is = refl;
+  kind = λ q e. let z : n ≡ q = cc in inl (subst (λ (y : Refusal). OfCall y) z c);
+  bare-end = λ e. refl;
+  bare-lost = λ e. refl;
+  crowded = λ e. inr refl;
+  few = omega arith;
+  wide = λ x m. absurd (List·Memᴰ·not-nil m);
+  set-down = set-down-none b;
+}
 
+-- and the end
 pub plain-end : (b : List ℕ) (r : Record) → Plain b b (gave End noId 0 NoGeneration NoTime r .answer)
 plain-end b r = record { shape = (record { no-id = refl; no-generation = refl; no-time = refl }, refl); few = omega arith; past = λ k h. refl }
 
@@ -165,6 +184,8 @@ of-paper-shut b = record {
   is = refl;
   kind = λ r e. inr refl;
   bare-end = λ e. refl;
+  bare-lost = λ e. refl;
+  crowded = λ e. inr refl;
   few = omega arith;
   wide = λ x m. absurd (List·Memᴰ·not-nil m);
   set-down = set-down-none b;
@@ -173,3 +194,6 @@ of-paper-shut b = record {
 -- no other answer is 12
 pub not-shut : {b b′ : List ℕ} {a : Given} → Plain b b′ a → a .outcome ≡ Refused Closed → ⊥
 not-shut {a = a} p e = let s = subst (λ (o : Outcome). ShapedBy o a) e (p .shape) in omega (arith, s .1 .1)
+
+pub call-not-shut : (n : Refusal) → OfCall n → Refused n ≡ Refused Closed → ⊥
+call-not-shut n c e = let z : n ≡ Closed = cc in let d : OfCall Closed = subst (λ (y : Refusal). OfCall y) z c in omega (arith, d .1)

@@ -12,7 +12,7 @@ use Rattle.walk.specs.declared.Sorting.{Sorting}
 use Rattle.walk.specs.declared.Sorting.the-variants.{BreadthFirst, ByCommitTime, ByCommitTimeCutoff}
 use Rattle.walk.specs.declared.CommitTimeOrder.the-variants.{NewestFirst, OldestFirst}
 use Rattle.walk.specs.declared.Refusal.{Refusal}
-use Rattle.walk.specs.declared.Refusal.the-variants.{Closed}
+use Rattle.walk.specs.declared.Refusal.the-variants.{CommitNotFound, TooManyParents, Closed}
 use Rattle.walk.specs.declared.Outcome.the-variants.{Refused}
 use Rattle.walk.specs.Settings.{byTime}
 use Rattle.walk.specs.State.{State}
@@ -89,13 +89,17 @@ pub record OpenSays (i : Input) (m : Lent) (o : Opened) (m′ : Lent) : Type 0 w
 abbrev pub closedAnswer : Given
 closedAnswer = given shut
 
--- "On touched memory … a call gives some answer of this paper": a commit, the end, or a refusal 9 to 12, with document 01's zeros; the ids
--- that it counts, of 20 bytes each, stand at the start of parents, and "parents past the ids given keeps its bytes"
+-- "On touched memory … a call gives some answer of this paper": a commit, the end, or a refusal 9 to 12, with document 01's zeros and as
+-- many parents as that answer can have; the ids that it counts, of 20 bytes each, stand at the start of parents, and "parents past the ids
+-- given keeps its bytes"
 pub record OfPaper (a : Given) (before after : List ℕ) : Type 0 where
   pub model : Answer
   pub is : a ≡ given model
   pub kind : (r : Refusal) → model .kind ≡ refused r → OfCall r ⊎ (model ≡ shut)
   pub bare-end : model .kind ≡ end → model .parents ≡ []
+  -- 9 comes before any line is read; 11 when 256 ids are read, or from painting, which gives none
+  pub bare-lost : model .kind ≡ refused CommitNotFound → model .parents ≡ []
+  pub crowded : model .kind ≡ refused TooManyParents → (length (model .parents) ≡ most) ⊎ (model .parents ≡ [])
   pub few : length (model .parents) ≤ most
   pub wide : (x : Id) → Mem x (model .parents) → length x ≡ idBytes
   pub set-down : after ≡ parentsGiven model before

@@ -3,6 +3,7 @@
 use mathlib.Core.Path.{_≡_, refl, sym, ap, _∙_, subst}
 use Prim.Native.Nat.{ℕ, suc, _+_, _*_, _≤_, _<_}
 use mathlib.Core.Bool.{Bool, true, false, cond, not, _&&_}
+use mathlib.Core.Option.{Option, none, some}
 use mathlib.Core.List.{List, [], _∷_}
 use native.Mathlib.Omega.{arith}
 use lib.ListN.{length, take, getD, length-map}
@@ -10,15 +11,16 @@ use lib.Seq.{length-take-le, take-suc, take-all}
 use lib.IntN.{ℤ}
 use Rattle.hash.specs.Bytes.{Id, idBytes, setDown}
 use Rattle.hash.proofs.Tests.{byCases, clash}
-use Rattle.object.specs.Header.{Header, header}
-use Rattle.object.proofs.Headers.{no-header, parent-width}
+use Rattle.object.specs.Header.{Header, header, most}
+use Rattle.object.proofs.Headers.{header-lines, no-header, parent-width}
 use Rattle.odb.specs.Store.{storeOk}
 use Rattle.walk.specs.declared.Settings.{Settings}
+use Rattle.walk.specs.declared.Refusal.the-variants.{CommitUnreadable, TooManyParents}
 use Rattle.walk.specs.Settings.{onlyFirst, followed}
 use Rattle.walk.specs.Lookup.{World, worldOf, secondsFor}
 use Rattle.walk.specs.State.{Walk, isEmpty}
 use Rattle.walk.specs.Next.{withSeconds, ending}
-use Rattle.reading.specs.Body.{refusalOf, StepsBody}
+use Rattle.reading.specs.Body.{endOf, refusalOf, StepsBody}
 use Rattle.reading.specs.declared.body.BodyEnd.the-variants.{Whole, Unreadable}
 use Rattle.reading.specs.declared.body.BodyStep.{BodyStep}
 use Rattle.reading.proofs.Lines.{step-taken, step-ended, ending-tree, ending-stopped, ending-read}
@@ -151,6 +153,36 @@ followed-take s l =
     byCases (onlyFirst s)
     (λ e. rw (followed-one s l e) (take-one l))
     (λ e. rw (followed-all s l e) (take-all (length l) l (omega arith), omega arith))
+
+crowded-end : (h : Header) → refusalOf (endOf h) ≡ some TooManyParents → h .crowded ≡ true
+unfolding endOf
+crowded-end h k = go (h .crowded) (h .author) refl refl
+  where
+    go : (c a : Bool) → h .crowded ≡ c → h .author ≡ a → h .crowded ≡ true
+    go true a c d = c
+    go false true c d = let q : refusalOf (endOf h) ≡ none = rw (c, d) in let z : _≡_ {A = ℕ} 0 1 = cc in absurd (omega arith)
+    go false false c d = let q : refusalOf (endOf h) ≡ some CommitUnreadable = rw (c, d) in let z : _≡_ {A = ℕ} 0 1 = cc in absurd (omega arith)
+
+-- a header is refused for its parents after 256 of them: under First the reading stops after one
+pub crowded-followed : (s : Settings) (d : List ℕ) → ending s (header d) ≡ some TooManyParents → length (followed s (header d .ids)) ≡ most
+unfolding isEmpty
+crowded-followed s d e = byCases (h .tree) good (λ t. let k = sym (ending-tree s h t) ∙ e in let z : _≡_ {A = ℕ} 0 1 = cc in absurd (omega arith))
+  where
+    h : Header
+    h = header d
+
+    full : h .tree ≡ true → (onlyFirst s && not (isEmpty (h .ids))) ≡ false → length (h .ids) ≡ most
+    full t f = header-lines d t .full (crowded-end h (sym (ending-read s h t f) ∙ e))
+
+    all : h .tree ≡ true → (b : Bool) → onlyFirst s ≡ b → (l : List Id) → h .ids ≡ l → (onlyFirst s && not (isEmpty (h .ids))) ≡ false → length (followed s (h .ids)) ≡ most
+    all t false o l i f = ap length (followed-all s (h .ids) o) ∙ full t f
+    all t true o [] i f = absurd (omega (arith, full t f, ap length i))
+    all t true o (x ∷ l) i f = clash (rw (o, i)) f
+
+    good : h .tree ≡ true → length (followed s (h .ids)) ≡ most
+    good t = byCases (onlyFirst s && not (isEmpty (h .ids)))
+        (λ f. let k = sym (ending-stopped s h t f) ∙ e in let z : _≡_ {A = ℕ} 0 1 = cc in absurd (omega arith))
+        (λ f. all t (onlyFirst s) refl (h .ids) refl f)
 
 pub reads-bad : (s : Settings) (d : List ℕ) → header d .tree ≡ false → ReadsBody s (header d) (record { parents = 0; ends = Unreadable })
 reads-bad s d g = record {

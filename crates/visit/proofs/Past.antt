@@ -20,6 +20,7 @@ use Rattle.commitgraph.specs.declared.Level.{Level}
 use Rattle.commit.specs.declared.Cache.{Cache}
 use Rattle.walk.specs.declared.Outcome.the-variants.{End, Refused}
 use Rattle.walk.specs.declared.Refusal.{Refusal}
+use Rattle.walk.specs.declared.Refusal.the-variants.{CommitNotFound, CommitUnreadable, TooManyParents}
 use Rattle.walk.specs.declared.MaybeLevel.the-variants.{NoGeneration}
 use Rattle.walk.specs.declared.MaybeSeconds.{MaybeSeconds}
 use Rattle.walk.specs.declared.MaybeSeconds.the-variants.{NoTime}
@@ -34,7 +35,7 @@ use Rattle.reading.specs.declared.row.RowRead.the-variants.{Row as RowAt}
 use Rattle.reading.proofs.Rows.{row-parts, parent-there}
 use Rattle.state.specs.declared.Record.{Record}
 use Rattle.visit.specs.Parents.{SetsParent}
-use Rattle.visit.specs.Plain.{Past, Plain}
+use Rattle.visit.specs.Plain.{Past, Counted, Plain}
 use Rattle.visit.specs.Taking.{gave, endGiven}
 
 -- ---- the bytes past the ids
@@ -94,11 +95,23 @@ row-counted e i = rw i at (e .few)
 pub plain-end : {b : List ℕ} (r : Record) → Plain b b (gave End noId 0 NoGeneration NoTime r .answer)
 plain-end r = record { shape = (record { no-id = refl; no-generation = refl; no-time = refl }, refl); few = omega arith; past = λ k h. refl }
 
-pub plain-bare : {b b′ : List ℕ} {w : Refusal} {n : ℕ} (r : Record) → OfCall w → n ≤ most → Past n b b′ → Plain b b′ (gave (Refused w) noId n NoGeneration NoTime r .answer)
-plain-bare r c h p = record { shape = (record { no-id = refl; no-generation = refl; no-time = refl }, c); few = h; past = p .same }
+pub plain-bare : {b b′ : List ℕ} {w : Refusal} {n : ℕ} (r : Record) → OfCall w → Counted w n → n ≤ most → Past n b b′ → Plain b b′ (gave (Refused w) noId n NoGeneration NoTime r .answer)
+plain-bare r c m h p = record { shape = (record { no-id = refl; no-generation = refl; no-time = refl }, c, m); few = h; past = p .same }
+
+-- 9
+pub counted-lost : Counted CommitNotFound 0
+counted-lost = record { lost = λ e. refl; crowded = λ e. let z : _≡_ {A = ℕ} 0 1 = cc in absurd (omega arith) }
+
+-- 10, after any number of parents
+counted-bad : {n : ℕ} → Counted CommitUnreadable n
+counted-bad = record { lost = λ e. let z : _≡_ {A = ℕ} 0 1 = cc in absurd (omega arith); crowded = λ e. let z : _≡_ {A = ℕ} 0 1 = cc in absurd (omega arith) }
+
+-- 11
+counted-many : {n : ℕ} → n ≡ most → Counted TooManyParents n
+counted-many h = record { lost = λ e. let z : _≡_ {A = ℕ} 0 1 = cc in absurd (omega arith); crowded = λ e. h }
 
 -- after a body's parents
-pub plain-ends : {b b′ : List ℕ} {n : ℕ} (e : BodyEnd) (x : Id) (t : MaybeSeconds) (r : Record) → n ≤ most → Past n b b′ → Plain b b′ (endGiven e x n t r .answer)
-plain-ends Whole x t r h p = record { shape = tt; few = h; past = p .same }
-plain-ends Unreadable x t r h p = plain-bare r (omega arith, omega arith) h p
-plain-ends Crowded x t r h p = plain-bare r (omega arith, omega arith) h p
+pub plain-ends : {b b′ : List ℕ} {n : ℕ} (e : BodyEnd) (x : Id) (t : MaybeSeconds) (r : Record) → (e ≡ Crowded → n ≡ most) → n ≤ most → Past n b b′ → Plain b b′ (endGiven e x n t r .answer)
+plain-ends Whole x t r m h p = record { shape = tt; few = h; past = p .same }
+plain-ends Unreadable x t r m h p = plain-bare r (omega arith, omega arith) counted-bad h p
+plain-ends Crowded x t r m h p = plain-bare r (omega arith, omega arith) (counted-many (m refl)) h p

@@ -57,9 +57,9 @@ use Rattle.visit.specs.Link.{GoesBy, Ready}
 use Rattle.visit.specs.Parents.{VisitsAll, VisitsRow, VisitsBody, stored}
 use Rattle.visit.specs.Taking.{gave, timeGiven, Follows, endGiven, EndsBody, Rests, Gives, InRows, InStore, TakesRow, TakesBody, TakesStored, TakesNext}
 use Rattle.visit.specs.Plain.{Plain}
-use Rattle.visit.proofs.Past.{past-none, plain-end, plain-bare, plain-ends}
+use Rattle.visit.proofs.Past.{past-none, plain-end, plain-bare, counted-lost, plain-ends}
 use Rattle.visit.proofs.Parents.{set-down-none}
-use Rattle.visit.proofs.Bodies.{followed-take, followed-one, followed-all, seconds-stored}
+use Rattle.visit.proofs.Bodies.{followed-take, followed-one, followed-all, crowded-followed, seconds-stored}
 
 -- ---- an answer as the code gives it
 
@@ -190,7 +190,8 @@ takes-body {excluded} {settings} {store} {r} {x} {s} {m} {m′} {b} {b′} {seen
   plain =
       let h : Header = header (partOf store (Body y e)) in
       let short : seen .parents ≤ most = omega (arith, w .parents, followed-take settings (h .ids) .1, header-few (partOf store (Body y e))) in
-      subst (λ (q : Taken). Plain b b′ (q .answer)) (sym (k .is)) (plain-ends (seen .ends) x (timeGiven (r .queue .timed) s) (seen .after) short (w .past));
+      let full : seen .ends ≡ Crowded → seen .parents ≡ most = λ z. w .parents ∙ crowded-followed settings (partOf store (Body y e)) (sym (w .ends) ∙ ap refusalOf z) in
+      subst (λ (q : Taken). Plain b b′ (q .answer)) (sym (k .is)) (plain-ends (seen .ends) x (timeGiven (r .queue .timed) s) (seen .after) full short (w .past));
 }
 
 pub takes-absent : {excluded : List ℕ} {settings : Settings} {store : List ℕ} {r : Record} {x : Id} {t : ℤ} {m : Memory} {b : List ℕ} {o : Located} → Locates store x o → o ≡ Absent
@@ -201,7 +202,7 @@ takes-absent {excluded} {settings} {store} {r} {x} {t} {m} {b} f i = record {
       let there : v .world .store x ≡ none = ap (λ (q : World). q .store x) own ∙ located-none g f i ok in
       subst (λ (q : Option Header). Gives sh m m b b (gave (Refused CommitNotFound) noId 0 NoGeneration NoTime r) (fromBody v st x t′ q)) (sym there)
       (gives-step (refused CommitNotFound) [] (d .reads) refl refl refl refl refl (set-down-none b) (λ k h. refl));
-  plain = plain-bare r (omega arith, omega arith) (omega arith) past-none;
+  plain = plain-bare r (omega arith, omega arith) counted-lost (omega arith) past-none;
 }
 
 -- ---- the first of the queue

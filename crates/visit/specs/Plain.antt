@@ -8,6 +8,8 @@ use Rattle.hash.specs.Bytes.{idBytes}
 use Rattle.object.specs.Header.{most}
 use Rattle.walk.specs.declared.Outcome.{Outcome}
 use Rattle.walk.specs.declared.Outcome.the-variants.{Commit, End, Refused}
+use Rattle.walk.specs.declared.Refusal.{Refusal}
+use Rattle.walk.specs.declared.Refusal.the-variants.{CommitNotFound, TooManyParents}
 use Rattle.walk.specs.declared.MaybeLevel.the-variants.{NoGeneration}
 use Rattle.walk.specs.declared.MaybeSeconds.the-variants.{NoTime}
 use Rattle.walk.specs.AnyInput.{OfCall}
@@ -23,11 +25,16 @@ pub record Bare (a : Given) : Type 0 where
   pub no-generation : a .generation ≡ NoGeneration
   pub no-time : a .time ≡ NoTime
 
--- a commit; the end, with no parents; or refusal 9, 10 or 11
+-- the parents that a refusal counts: 9 comes before any line is read; 11 at "a good 257th parent line", when 256 ids are read
+pub record Counted (r : Refusal) (n : ℕ) : Type 0 where
+  pub lost : r ≡ CommitNotFound → n ≡ 0
+  pub crowded : r ≡ TooManyParents → n ≡ most
+
+-- a commit; the end, with no parents; or refusal 9, 10 or 11, with "ids already read … counted in the answer"
 abbrev pub ShapedBy : Outcome → Given → Type 0
 ShapedBy Commit a = Unit {0}
 ShapedBy End a = Bare a × (a .parents ≡ 0)
-ShapedBy (Refused r) a = Bare a × OfCall r
+ShapedBy (Refused r) a = Bare a × OfCall r × Counted r (a .parents)
 
 -- an answer of document 01, with the buffer parents before and after it: at most 256 parents are counted, and "parents past the ids given
 -- keeps its bytes"
