@@ -19,6 +19,7 @@ use Rattle.walk.specs.declared.GenThenTime.{GenThenTime}
 use Rattle.walk.specs.declared.Refusal.{Refusal}
 use Rattle.reading.specs.Files.{worldUnder}
 use Rattle.reading.specs.Whole.{Has, Tells, ReadsCommit}
+use Rattle.reading.proofs.Whole.{commit-right}
 use Rattle.reading.specs.declared.Commit.{Commit}
 use Rattle.reading.specs.declared.Commit.the-variants.{Row, Body, Failed}
 use Rattle.frontier.specs.declared.slots.Added.{Added}
@@ -37,7 +38,7 @@ use Rattle.frontier.proofs.MarkStep.{has-slot, stops-here, has-room, go
 
 module _ {c : Cache} {g s : List ℕ} {x : Id} {d : Commit} (r : ReadsCommit c g s x d) where
   told : {e : Commit} → d ≡ e → Files c g s → Tells e (read (worldUnder c g s) x)
-  told q f = subst (λ (e : Commit). Tells e (read (worldUnder c g s) x)) q (r .right (f .store-ok) (f .graph-ok) .tells)
+  told q f = subst (λ (e : Commit). Tells e (read (worldUnder c g s) x)) q (commit-right r (f .store-ok) (f .graph-ok) .tells)
 
   module _ {levels levels′ : List ℕ} {times times′ : List ℤ} {k : ℕ} where
     learned : {n : ℕ} (q : GenThenTime) → (Files c g s → Has n q (read (worldUnder c g s) x)) → levels′ ≡ set levels k (q .generation .0) → times′ ≡ set times k (q .time .0)

@@ -25,6 +25,7 @@ use Rattle.walk.specs.declared.Refusal.{Refusal}
 use Rattle.walk.proofs.Whole.{length-list}
 use Rattle.reading.specs.Files.{worldUnder}
 use Rattle.reading.specs.Whole.{Has, Tells, IsRead, parentCount, GivesParent}
+use Rattle.reading.proofs.Whole.{commit-parent-right}
 use Rattle.reading.specs.declared.Commit.{Commit}
 use Rattle.reading.specs.declared.Commit.the-variants.{Row, Body, Failed}
 use Rattle.object.specs.declared.ObjectId.{ObjectId}
@@ -321,7 +322,7 @@ module _ {c : Cache} {g s : List ℕ} {y : Id} where
       → r .bytes ≡ getD (parentsOf (read (worldUnder c g s) y)) k []
   unfolding parentsOf
   parent-good {k = k} f i h v l =
-      v .right (f .store-ok) (f .graph-ok) y i (h .parents) _ (h .is) (omega (arith, h .count)) ∙ sym (ap (λ (o : Read). getD (parentsOf o) k []) (h .is))
+      commit-parent-right v (f .store-ok) (f .graph-ok) y i (h .parents) _ (h .is) (omega (arith, h .count)) ∙ sym (ap (λ (o : Read). getD (parentsOf o) k []) (h .is))
 
   pub parent-is : {k : ℕ} {r : ObjectId} (d : Commit) → Files c g s → IsRead c g s y d → GivesParent c g s d k r → k < parentCount d → r .bytes ≡ getD (parentsOf (read (worldUnder c g s) y)) k []
   parent-is (Row p n q) f i v l = parent-good f i (i .tells) v l

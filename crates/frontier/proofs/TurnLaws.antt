@@ -27,6 +27,7 @@ use Rattle.walk.specs.declared.Refusal.{Refusal}
 use Rattle.reading.specs.Files.{worldUnder}
 use Rattle.object.specs.Ids.{padded}
 use Rattle.reading.specs.Whole.{IsRead, ReadsCommit}
+use Rattle.reading.proofs.Whole.{commit-right}
 use Rattle.reading.specs.declared.Commit.{Commit}
 use Rattle.object.proofs.IdBytes.{padded-id}
 use Rattle.frontier.specs.declared.marking.Marked.{Marked}
@@ -143,7 +144,7 @@ module _ {c : Cache} {g s : List ℕ} {cap : ℕ} {m : Lent} {p : Pending} {t : 
         (ap
         (λ (z : Marks). pass (worldUnder c g s) z (parentsOf (read (worldUnder c g s) (idOf (m .names) (t .slot)))) (withPending (rest (h .reads) e) st)) (sym k)
         ∙ sym (turn-is (h .reads) e))
-        (o .right f (idOf (m .names) (t .slot)) (subst (λ (z : Id). IsRead c g s z d) ex (rd .right (f .store-ok) (f .graph-ok))) u (withPending (rest (h .reads) e) st)
+        (o .right f (idOf (m .names) (t .slot)) (subst (λ (z : Id). IsRead c g s z d) ex (commit-right rd (f .store-ok) (f .graph-ok))) u (withPending (rest (h .reads) e) st)
         (record {
           reads = rest-reads (h .reads) e;
           named = h .named;

@@ -1,19 +1,19 @@
--- Laws of a body that is read line by line: the parent line after k parents is the next parent, and where none stands the author line or
--- a parent line too many ends the reading, as the header says. Assumes nothing.
-use mathlib.Core.Path.{_≡_, sym, _∙_, ap}
+-- Laws of a body that is read line by line: the tests decide what stands at a place; and under a good tree line the parent line after k
+-- parents is the next parent, and where none stands the author line or a parent line too many ends the reading, as the header says. Assumes
+-- nothing.
+use mathlib.Core.Path.{_≡_, refl, sym, _∙_, ap}
 use Prim.Native.Nat.{ℕ, _+_, _*_, _≤_, _<_}
 use mathlib.Core.Bool.{Bool, true, false, not, _&&_}
 use mathlib.Core.Option.{none, some}
-use mathlib.Core.List.{List}
+use mathlib.Core.List.{List, []}
 use native.Mathlib.Omega.{arith}
-use lib.ListN.{length, drop}
+use lib.ListN.{length, drop, getD}
 use lib.Dec.{ltb}
 use borrow.Author.Tests.{lt-ltb, le-ltb, ltb-true, ltb-false}
-use Rattle.hash.specs.Bytes.{pick}
+use Rattle.hash.specs.Bytes.{Id, pick}
 use Rattle.hash.proofs.Tests.{byCases, clash}
 use Rattle.object.specs.Header.{Header, header, isSome, authorLine, most}
 use Rattle.object.specs.Read.{lineRead, parentAt}
-use Rattle.object.specs.declared.ObjectId.{ObjectId}
 use Rattle.object.specs.declared.ParentLine.{ParentLine}
 use Rattle.object.specs.declared.Line.the-variants.{Good, Bad}
 use Rattle.object.proofs.Headers.{header-lines, parent-read, parent-taken, parent-stop, parent-crowd}
@@ -23,7 +23,8 @@ use Rattle.walk.specs.declared.Refusal.the-variants.{CommitUnreadable}
 use Rattle.walk.specs.Settings.{onlyFirst}
 use Rattle.walk.specs.State.{isEmpty}
 use Rattle.walk.specs.Next.{ending}
-use Rattle.reading.specs.Body.{endAt, endOf, refusalOf, parentStep, endStep, stepOf, StepsBody, GivesBodyParent}
+use Rattle.walk.specs.Given.{noId}
+use Rattle.reading.specs.Body.{endAt, endOf, refusalOf, parentStep, endStep, parentPlace, stepAt, parentIdAt}
 use Rattle.reading.specs.declared.body.BodyEnd.{BodyEnd}
 use Rattle.reading.specs.declared.body.BodyEnd.the-variants.{Whole, Unreadable, Crowded}
 use Rattle.reading.specs.declared.body.BodyStep.{BodyStep}
@@ -38,7 +39,40 @@ pub author-unreadable : (b : List ℕ) (i : ℕ) → lineRead b (authorLine (dro
 unfolding endAt
 author-unreadable b i e = rw (author-bad b i e)
 
--- ---- the steps
+-- ---- the step at a place
+
+-- the place of a parent past the 257th stands for none
+pub step-far : (b : List ℕ) (k : ℕ) {r : BodyStep} → most < k → r ≡ endStep Crowded → r ≡ stepAt b k
+unfolding stepAt
+step-far b k h f = rw (lt-ltb most k h) f
+
+module _ (b : List ℕ) (k : ℕ) {r : Bool} (read : r ≡ parentAt b (parentPlace k) .good) (near : k ≤ most) where
+  pub step-end : {e : BodyEnd} {s : BodyStep} → r ≡ false → e ≡ endAt b (parentPlace k) → s ≡ endStep e → s ≡ stepAt b k
+  unfolding stepAt
+  step-end n e f = rw (le-ltb most k near, sym read ∙ n) (f ∙ ap endStep e)
+
+  pub step-crowd : {s : BodyStep} → r ≡ true → k ≡ most → s ≡ endStep Crowded → s ≡ stepAt b k
+  unfolding stepAt
+  step-crowd t m f = rw (le-ltb most k near, sym read ∙ t, le-ltb k most (omega (arith, m))) f
+
+  pub step-parent : r ≡ true → k < most → parentStep ≡ stepAt b k
+  unfolding stepAt
+  step-parent t h = rw (le-ltb most k near, sym read ∙ t, lt-ltb k most h) refl
+
+-- the id at a place
+pub id-near : (b : List ℕ) (k : ℕ) {r : ParentLine} → k < most → r ≡ parentAt b (parentPlace k) → r .id .bytes ≡ parentIdAt b k
+unfolding parentIdAt
+id-near b k h read = rw (lt-ltb k most h) (ap (λ (q : ParentLine). q .id .bytes) read)
+
+pub id-far : (b : List ℕ) (k : ℕ) {r : Id} → most ≤ k → r ≡ noId → r ≡ parentIdAt b k
+unfolding parentIdAt
+id-far b k h e = rw (le-ltb k most h) e
+
+-- ---- under a good tree line: what the header says
+
+-- the step after k parents
+unfoldable pub stepOf : Header → ℕ → BodyStep
+stepOf h k = pick (ltb k (length (h .ids))) parentStep (endStep (endOf h))
 
 parent-step : (h : Header) (k : ℕ) → k < length (h .ids) → stepOf h k ≡ parentStep
 unfolding stepOf
@@ -53,44 +87,35 @@ unfolding endOf
 end-crowded h e = rw e
 
 -- no parent line stands after the last: the author line decides
-end-author : (b : List ℕ) (k : ℕ) → header b .tree ≡ true → k ≡ length (header b .ids) → header b .crowded ≡ false → endOf (header b) ≡ endAt b (46 + 48 * k)
+end-author : (b : List ℕ) (k : ℕ) → header b .tree ≡ true → k ≡ length (header b .ids) → header b .crowded ≡ false → endOf (header b) ≡ endAt b (parentPlace k)
 unfolding endOf endAt
 end-author b k g m e =
     ap (λ (t : Bool). pick t Crowded (pick (header b .author) Whole Unreadable)) e
     ∙ ap (λ (t : Bool). pick t Whole Unreadable) (header-lines b g .author)
     ∙ ap (λ (j : ℕ). pick (isSome (authorLine (drop (46 + 48 * j) b))) Whole Unreadable) (sym m)
 
--- the place of a parent past the 256th stands for none
-pub steps-far : (b : List ℕ) (k : ℕ) (r : BodyStep) → most < k → StepsBody b k r
-steps-far b k r h = record { right = λ g l. absurd (omega (arith, header-lines b g .few)) }
+pub step-right : (b : List ℕ) (k : ℕ) → header b .tree ≡ true → k ≤ length (header b .ids) → stepAt b k ≡ stepOf (header b) k
+step-right b k g l = byCases (parentAt b (parentPlace k) .good) line (λ n.
+    let w = parent-stop b g k l refl n in
+    sym (step-end b k refl near n refl refl) ∙ ap endStep (sym (end-author b k g (w .0) (w .1))) ∙ sym (last-step (header b) k (w .0)))
+  where
+    near : k ≤ most
+    near = omega (arith, l, header-lines b g .few)
 
-module _ (b : List ℕ) (k : ℕ) {r : Bool} (read : r ≡ parentAt b (46 + 48 * k) .good) where
-  pub steps-end : {e : BodyEnd} {s : BodyStep} → r ≡ false → e ≡ endAt b (46 + 48 * k) → s ≡ endStep e → StepsBody b k s
-  steps-end n e f = record {
-    right = λ g l.
-        let w = parent-stop b g k l read n in
-        f ∙ ap endStep (e ∙ sym (end-author b k g (w .0) (w .1))) ∙ sym (last-step (header b) k (w .0));
-  }
+    line : parentAt b (parentPlace k) .good ≡ true → stepAt b k ≡ stepOf (header b) k
+    line t =
+        byCases (ltb k most)
+        (λ e.
+        let h = ltb-true k most e in
+        sym (step-parent b k refl near t h) ∙ sym (parent-step (header b) k (parent-taken b g k l refl h t)))
+        (λ e.
+        let m : k ≡ most = omega (arith, near, ltb-false k most e) in
+        let w = parent-crowd b g k l refl (omega (arith, m)) t in
+        sym (step-crowd b k refl near t m refl) ∙ ap endStep (sym (end-crowded (header b) (w .1))) ∙ sym (last-step (header b) k (w .0)))
 
-  pub steps-crowd : {s : BodyStep} → r ≡ true → k ≡ most → s ≡ endStep Crowded → StepsBody b k s
-  steps-crowd t m f = record {
-    right = λ g l.
-        let w = parent-crowd b g k l read (omega (arith, m)) t in
-        f ∙ ap endStep (sym (end-crowded (header b) (w .1))) ∙ sym (last-step (header b) k (w .0));
-  }
-
-  pub steps-parent : r ≡ true → k < most → StepsBody b k parentStep
-  steps-parent t h = record {
-    right = λ g l. sym (parent-step (header b) k (parent-taken b g k l read h t));
-  }
-
-pub gives-body-parent : (b : List ℕ) (k : ℕ) {r : ParentLine} → r ≡ parentAt b (46 + 48 * k) → GivesBodyParent b k (r .id)
-gives-body-parent b k read = record {
-  right = λ g l. ap (λ (q : ParentLine). q .id .bytes) (read ∙ parent-read b g k l);
-}
-
-pub gives-none : (b : List ℕ) (k : ℕ) (r : ObjectId) → most ≤ k → GivesBodyParent b k r
-gives-none b k r h = record { right = λ g l. absurd (omega (arith, header-lines b g .few)) }
+pub parent-right : (b : List ℕ) (k : ℕ) → header b .tree ≡ true → k < length (header b .ids) → parentIdAt b k ≡ getD (header b .ids) k []
+parent-right b k g l =
+    sym (id-near b k (omega (arith, l, header-lines b g .few)) refl) ∙ ap (λ (q : ParentLine). q .id .bytes) (parent-read b g k l)
 
 -- ---- what a step tells who goes by it
 

@@ -25,7 +25,8 @@ use Rattle.commit.specs.declared.Cache.{Cache}
 use Rattle.commit.specs.declared.Cache.the-variants.{Graph, NoGraph}
 use Rattle.walk.specs.Lookup.{Row, no-row, corrupt, row, rowAt}
 use Rattle.reading.specs.Files.{layoutUnder, worldUnder}
-use Rattle.reading.specs.Row.{levelOf, rowReadOf, TellsRow, rowParents, ReadsRow, GivesRowParent}
+use Rattle.reading.specs.Row.{levelOf, rowReadOf, rowFrom, RowLooked, ReadsRow, GivesRowParent}
+use Rattle.reading.specs.declared.row.RowRead.{RowRead}
 use Rattle.reading.specs.declared.row.RowRead.the-variants.{NoRow, Corrupt, Row as RowAt}
 use Rattle.reading.proofs.World.{graph-under, row-found, RowFound}
 
@@ -88,9 +89,12 @@ module _ (g : List ℕ) (p : ℕ) (ps : List (Id × ℤ)) (v : ℕ) (t : ℤ) (e
 
 pub gives-parent : (g : List ℕ) (l : Layout) (p k : ℕ) {q : ℕ} {y : Id} → ((qs : List ℕ) → parentsIn g l p ≡ some qs → k < length qs → q ≡ getD qs k 0) → y ≡ idIn g l q
     → GivesRowParent g l p k y
-gives-parent g l p k read e = record {
-  right = λ own ps v t f h. e ∙ ap (λ (a : Id × ℤ). a .0) (parent-there g p ps v t f own read h);
-}
+gives-parent g l p k {q} read e = record { position = q; listed = read; is = e }
+
+-- of a row of the walk's world
+pub row-parent-right : {g : List ℕ} {l : Layout} {p k : ℕ} {y : Id} → GivesRowParent g l p k y → l ≡ layoutOf g → (ps : List (Id × ℤ)) (v : ℕ) (t : ℤ) → rowAt g p ≡ row ps v t → k < length ps
+    → y ≡ getD ps k ([], pos 0) .0
+row-parent-right {g} {l} {p} e own ps v t f h = e .is ∙ ap (λ (a : Id × ℤ). a .0) (parent-there g p ps v t f own (e .listed) h)
 
 -- ---- one row
 
@@ -121,6 +125,28 @@ list-few g l p count z n = go (parentsIn g l p) refl
     go : (o : Option (List ℕ)) → parentsIn g l p ≡ o → count o ≤ mostParents
     go none e = omega (arith, z)
     go (some ps) e = omega (arith, n ps, good-list g l p ps e .few)
+
+-- the row d stands at position p of the file in use, a good one, with n parents and the level v
+pub record RowIs (c : Cache) (g : List ℕ) (p n : ℕ) (v : Level) (d : Row) : Type 0 where
+  pub file : graphOk g ≡ true
+  pub layout : layoutUnder c ≡ layoutOf g
+  pub place : rowAt g p ≡ d
+  pub parents : List (Id × ℤ)
+  pub seconds : ℤ
+  pub is : d ≡ row parents (v .0) seconds
+  pub count : n ≡ length parents
+
+-- what an answer says of a row
+abbrev pub TellsRow : Cache → List ℕ → RowRead → Row → Type 0
+TellsRow c g NoRow d = d ≡ no-row
+TellsRow c g Corrupt d = d ≡ corrupt
+TellsRow c g (RowAt p n v) d = RowIs c g p n v d
+
+-- how many parents an answer has
+abbrev pub rowParents : RowRead → ℕ
+rowParents NoRow = 0
+rowParents Corrupt = 0
+rowParents (RowAt p n v) = n
 
 tells-row : (c : Cache) (g : List ℕ) (p : ℕ) → graphOk g ≡ true → layoutUnder c ≡ layoutOf g → TellsRow c g (rowReadOf p (levelOf g (layoutOf g) p) (graphParents g p)) (rowAt g p)
 unfolding rowAt generation
@@ -154,22 +180,40 @@ position-none : (o : Option ℕ) → Absent ≡ positionOf o → o ≡ none
 position-none none e = refl
 position-none (some q) e = let z : _≡_ {A = ℕ} 0 1 = cc in absurd (omega arith)
 
--- the file lists x at position p
-pub reads-row : {g : List ℕ} {l : Layout} {x : Id} {q : Position} (p : ℕ) → Looks g l x q → q ≡ At p → ReadsRow (Graph l) g x (rowReadOf p (levelOf g l p) (parentsIn g l p))
-unfolding GoodCache rowOf
-reads-row {g} {l} {x} p k e = record {
-  right = λ t s. row-told (row-found (Graph l) g s x p t (position-at (graphFind g x) p (sym e ∙ k .right (t .0) (t .1))));
-  few = list-few g l p (λ o. rowParents (rowReadOf p (levelOf g l p) o)) refl (λ ps. refl);
-}
+-- ---- the row of a commit
 
--- it does not list x, or no file is used
+pub reads-row : {g : List ℕ} {l : Layout} {x : Id} {q : Position} (p : ℕ) → Looks g l x q → q ≡ At p → ReadsRow (Graph l) g x (rowReadOf p (levelOf g l p) (parentsIn g l p))
+reads-row {g} {l} {x} p k e = record { is = (At p, subst (Looks g l x) e k, refl) }
+
 pub no-row-listed : {g : List ℕ} {l : Layout} {x : Id} {q : Position} → Looks g l x q → q ≡ Absent → ReadsRow (Graph l) g x NoRow
-unfolding GoodCache rowOf
-no-row-listed {g} {l} {x} k e = record {
-  right = λ t s. graph-under (Graph l) g s x ∙ ap (λ (o : Option ℕ). ifSome o no-row (λ q. rowAt g q)) (position-none (graphFind g x) (sym e ∙ k .right (t .0) (t .1)));
-  few = omega arith;
-}
+no-row-listed {g} {l} {x} k e = record { is = (Absent, subst (Looks g l x) e k, refl) }
 
 pub no-row-used : (g : List ℕ) (x : Id) → ReadsRow NoGraph g x NoRow
+no-row-used g x = record { is = refl }
+
+-- in a good file it is the row that the walk's world has
+looked-right : (g : List ℕ) (l : Layout) (x : Id) (q : Position) → Looks g l x q → GoodCache (Graph l) g → (s : List ℕ) → TellsRow (Graph l) g (rowFrom g l q) (worldUnder (Graph l) g s .graph x)
+unfolding GoodCache rowOf
+looked-right g l x (At p) k t s = row-told (row-found (Graph l) g s x p t (position-at (graphFind g x) p (k .right (t .0) (t .1))))
+looked-right g l x Absent k t s =
+    graph-under (Graph l) g s x ∙ ap (λ (o : Option ℕ). ifSome o no-row (λ q. rowAt g q)) (position-none (graphFind g x) (k .right (t .0) (t .1)))
+
+pub row-right : {c : Cache} {g : List ℕ} {x : Id} {r : RowRead} → ReadsRow c g x r → GoodCache c g → (s : List ℕ) → TellsRow c g r (worldUnder c g s .graph x)
 unfolding worldUnder
-no-row-used g x = record { right = λ t s. refl; few = omega arith }
+row-right {c} {g} {x} {r} e = go c (e .is)
+  where
+    go : (c : Cache) → RowLooked c g x r → GoodCache c g → (s : List ℕ) → TellsRow c g r (worldUnder c g s .graph x)
+    go (Graph l) k t s = subst (λ (w : RowRead). TellsRow (Graph l) g w (worldUnder (Graph l) g s .graph x)) (sym (k .2)) (looked-right g l x (k .0) (k .1) t s)
+    go NoGraph k t s = subst (λ (w : RowRead). TellsRow NoGraph g w no-row) (sym k) refl
+
+-- on any bytes it has at most 256 parents
+pub row-parents-few : {c : Cache} {g : List ℕ} {x : Id} {r : RowRead} → ReadsRow c g x r → rowParents r ≤ mostParents
+row-parents-few {c} {g} {x} {r} e = go c (e .is)
+  where
+    at-row : (l : Layout) (q : Position) → rowParents (rowFrom g l q) ≤ mostParents
+    at-row l (At p) = list-few g l p (λ o. rowParents (rowReadOf p (levelOf g l p) o)) refl (λ ps. refl)
+    at-row l Absent = omega arith
+
+    go : (c : Cache) → RowLooked c g x r → rowParents r ≤ mostParents
+    go (Graph l) k = subst (λ (w : RowRead). rowParents w ≤ mostParents) (sym (k .2)) (at-row l (k .0))
+    go NoGraph k = subst (λ (w : RowRead). rowParents w ≤ mostParents) (sym k) (omega arith)

@@ -1,9 +1,10 @@
--- Laws of seconds that are read from the store alone: a header's seconds are what `seconds_only` reads. Assumes nothing.
-use mathlib.Core.Path.{_≡_, refl, sym, _∙_, ap}
+-- Laws of seconds that are read from the store alone: a header's seconds are what `seconds_only` reads, and in a good store a lookup finds the
+-- header that the walk's world has. Assumes nothing.
+use mathlib.Core.Path.{_≡_, refl, sym, _∙_, ap, subst}
 use Prim.Native.Nat.{ℕ}
+use mathlib.Core.Bool.{true}
 use mathlib.Core.Option.{Option, none, some}
 use mathlib.Core.List.{List}
-use native.Mathlib.Omega.{arith}
 use lib.ListN.{length}
 use lib.IntN.{ℤ, pos}
 use Rattle.hash.specs.Bytes.{Id, ifSome}
@@ -11,13 +12,14 @@ use Rattle.date.specs.declared.Seconds.{Seconds}
 use Rattle.object.specs.Header.{Header, header, idLine, treeWord, withTree, afterTree, secondsOf}
 use Rattle.object.specs.Read.{secondsRead}
 use Rattle.object.specs.declared.SecondsRead.{SecondsRead}
+use Rattle.odb.specs.Store.{storeOk}
 use Rattle.odb.specs.Lookup.{Locates, partOf}
 use Rattle.odb.specs.declared.Located.{Located}
 use Rattle.odb.specs.declared.Located.the-variants.{Body, Absent}
 use Rattle.walk.specs.Lookup.{worldOf, storeSeconds, secondsFor}
-use Rattle.reading.specs.Tip.{tipSeconds, tipOf, ReadsTip, GivesSeconds}
+use Rattle.reading.specs.Tip.{tipSeconds, tipOf, tipAt, ReadsTip, secondsOr0, GivesSeconds}
 use Rattle.reading.specs.declared.tip.TipRead.{TipRead}
-use Rattle.reading.specs.declared.tip.TipRead.the-variants.{Good, Missing, Unreadable}
+use Rattle.reading.specs.declared.tip.TipRead.the-variants.{Missing}
 use Rattle.reading.proofs.World.{located-body, located-none}
 
 pub header-seconds : (b : List ℕ) → header b .seconds ≡ secondsOf b
@@ -31,52 +33,37 @@ header-seconds b = go (idLine treeWord b) refl
 -- the store has a body under x, and its seconds were read
 pub tip-body : {s : List ℕ} {x : Id} {o : Located} {q : SecondsRead} (b : List ℕ) (a e : ℕ) → Locates s x o → o ≡ Body a e → b ≡ partOf s (Body a e) → q ≡ secondsRead (secondsOf b)
     → ReadsTip s x (tipSeconds q)
-tip-body b a e l p f r = record {
-  right = λ ok g. ap tipSeconds (r ∙ ap secondsRead (sym (header-seconds b))) ∙ ap tipOf (sym (located-body g a e l p f ok));
+tip-body {s} {x} b a e l p f r = record {
+  found = Body a e;
+  located = subst (Locates s x) p l;
+  is = ap tipSeconds (r ∙ ap (λ (c : List ℕ). secondsRead (secondsOf c)) f);
 }
 
 pub tip-missing : {s : List ℕ} {x : Id} {o : Located} → Locates s x o → o ≡ Absent → ReadsTip s x Missing
-tip-missing l p = record { right = λ ok g. ap tipOf (sym (located-none g l p ok)) }
+tip-missing {s} {x} l p = record { found = Absent; located = subst (Locates s x) p l; is = refl }
 
--- ---- a commit's seconds, from how it reads as a tip
+pub seconds-read : {s : List ℕ} {x : Id} {r q : TipRead} {t : Seconds} → ReadsTip s x r → r ≡ q → t ≡ secondsOr0 q → GivesSeconds s x t
+seconds-read {s} {x} {r} k e f = record { read = r; as-tip = k; is = f ∙ ap secondsOr0 (sym e) }
 
--- what the seconds come to
-abbrev valueOf : Option Header → ℤ
-valueOf o = ifSome (ifSome o none (λ h. h .seconds)) (pos 0) (λ s. s)
+-- ---- in a good store
 
-good-value : (o : Option Header) (t : Seconds) → Good t ≡ tipOf o → t .0 ≡ valueOf o
-good-value none t e = let z : _≡_ {A = ℕ} 0 1 = cc in absurd (omega arith)
-good-value (some h) t e = go (h .seconds) e
+-- what the store has under x decides
+pub tip-right : {s : List ℕ} {x : Id} {r : TipRead} → ReadsTip s x r → storeOk s ≡ true → (g : List ℕ) → r ≡ tipOf (worldOf s g .store x)
+tip-right {s} {x} {r} k ok g = go (k .found) (k .located) (k .is)
   where
-    go : (u : Option ℤ) → Good t ≡ tipSeconds (secondsRead u) → t .0 ≡ ifSome u (pos 0) (λ s. s)
-    go none e′ = let z : _≡_ {A = ℕ} 0 1 = cc in absurd (omega arith)
-    go (some v) e′ = let z : _≡_ {A = Seconds} t (record { 0 = v }) = cc in ap (λ (s : Seconds). s .0) z
+    go : (o : Located) → Locates s x o → r ≡ tipAt s o → r ≡ tipOf (worldOf s g .store x)
+    go (Body a e) l i = i ∙ ap (λ (t : Option ℤ). tipSeconds (secondsRead t)) (sym (header-seconds (partOf s (Body a e)))) ∙ ap tipOf (sym (located-body g a e l refl refl ok))
+    go Absent l i = i ∙ ap tipOf (sym (located-none g l refl ok))
 
-missing-value : (o : Option Header) → Missing ≡ tipOf o → pos 0 ≡ valueOf o
-missing-value none e = refl
-missing-value (some h) e = go (h .seconds) e
+-- the seconds of a header, 0 where there are none
+seconds-value : (o : Option Header) → secondsOr0 (tipOf o) .0 ≡ ifSome (ifSome o none (λ h. h .seconds)) (pos 0) (λ t. t)
+seconds-value none = refl
+seconds-value (some h) = go (h .seconds)
   where
-    go : (u : Option ℤ) → Missing ≡ tipSeconds (secondsRead u) → pos 0 ≡ ifSome u (pos 0) (λ s. s)
-    go none e′ = refl
-    go (some v) e′ = let z : _≡_ {A = ℕ} 0 1 = cc in absurd (omega arith)
+    go : (u : Option ℤ) → secondsOr0 (tipSeconds (secondsRead u)) .0 ≡ ifSome u (pos 0) (λ t. t)
+    go none = refl
+    go (some v) = refl
 
-unreadable-value : (o : Option Header) → Unreadable ≡ tipOf o → pos 0 ≡ valueOf o
-unreadable-value none e = refl
-unreadable-value (some h) e = go (h .seconds) e
-  where
-    go : (u : Option ℤ) → Unreadable ≡ tipSeconds (secondsRead u) → pos 0 ≡ ifSome u (pos 0) (λ s. s)
-    go none e′ = refl
-    go (some v) e′ = let z : _≡_ {A = ℕ} 0 1 = cc in absurd (omega arith)
-
-module _ {s : List ℕ} {x : Id} {r : TipRead} (k : ReadsTip s x r) where
-  pub seconds-good : (t : Seconds) → r ≡ Good t → GivesSeconds s x t
-  unfolding secondsFor storeSeconds
-  seconds-good t e = record { right = λ ok g. good-value (worldOf s g .store x) t (sym e ∙ k .right ok g) }
-
-  pub seconds-missing : r ≡ Missing → GivesSeconds s x (record { 0 = pos 0 })
-  unfolding secondsFor storeSeconds
-  seconds-missing e = record { right = λ ok g. missing-value (worldOf s g .store x) (sym e ∙ k .right ok g) }
-
-  pub seconds-unreadable : r ≡ Unreadable → GivesSeconds s x (record { 0 = pos 0 })
-  unfolding secondsFor storeSeconds
-  seconds-unreadable e = record { right = λ ok g. unreadable-value (worldOf s g .store x) (sym e ∙ k .right ok g) }
+pub seconds-right : {s : List ℕ} {x : Id} {r : Seconds} → GivesSeconds s x r → storeOk s ≡ true → (g : List ℕ) → r .0 ≡ secondsFor (worldOf s g) x
+unfolding secondsFor storeSeconds
+seconds-right {s} {x} k ok g = ap (λ (t : Seconds). t .0) (k .is ∙ ap secondsOr0 (tip-right (k .as-tip) ok g)) ∙ seconds-value (worldOf s g .store x)

@@ -17,30 +17,33 @@ use Rattle.object.specs.declared.ObjectId.{ObjectId}
 use Rattle.object.specs.declared.Reading.{Reading}
 use Rattle.object.specs.declared.Reading.the-variants.{Bad, Crowded}
 use Rattle.object.proofs.Headers.{header-lines, no-header}
+use Rattle.odb.specs.Store.{storeOk}
 use Rattle.odb.specs.Lookup.{partOf}
 use Rattle.odb.specs.declared.Located.the-variants.{Body as BodyAt}
 use Rattle.commitgraph.specs.Graph.{graphSeconds, generation, graphParents, layoutOf, parentsIn, parentListOf}
 use Rattle.commitgraph.specs.declared.Layout.{Layout}
 use Rattle.commitgraph.specs.declared.Level.{Level}
 use Rattle.commitgraph.specs.declared.parents.ParentList.the-variants.{Good, Corrupt}
-use Rattle.commit.specs.Find.{foundIn, FindsCommit}
+use Rattle.commit.specs.Find.{GoodCache, foundIn, FindsCommit}
 use Rattle.commit.specs.declared.Cache.{Cache}
 use Rattle.commit.specs.declared.Either.{Either}
 use Rattle.commit.specs.declared.Either.the-variants.{CachedCommit, CommitRefIter, Absent}
 use Rattle.walk.specs.Lookup.{World, Row as ModelRow, corrupt, row, rowAt, Pair, noGeneration, Read, fail, good, fromStore, readRow, read}
+use Rattle.walk.specs.Given.{noId}
 use Rattle.walk.specs.declared.Refusal.{Refusal}
 use Rattle.walk.specs.declared.Refusal.the-variants.{CommitNotFound, CommitUnreadable, TooManyParents}
 use Rattle.reading.specs.Files.{layoutUnder, worldUnder}
 use Rattle.object.specs.Ids.{padded}
 use Rattle.reading.specs.Row.{GivesRowParent}
-use Rattle.reading.specs.Body.{GivesBodyParent}
-use Rattle.reading.specs.Whole.{pairIn, rowCommit, bodyCommit, Tells, Names, IsRead, parentCount, ReadsCommit, GivesParent}
+use Rattle.reading.specs.Body.{parentIdAt}
+use Rattle.reading.specs.Whole.{pairIn, rowCommit, bodyCommit, Tells, Names, IsRead, parentCount, commitAt, ReadsCommit, ParentAt, GivesParent}
 use Rattle.reading.specs.declared.Commit.{Commit}
 use Rattle.reading.specs.declared.Commit.the-variants.{Row, Body, Failed}
 use Rattle.walk.specs.declared.GenThenTime.{GenThenTime}
 use Rattle.object.proofs.IdBytes.{padded-id}
 use Rattle.reading.proofs.World.{RowFound, found-row, found-body, found-absent}
-use Rattle.reading.proofs.Rows.{parentAt, list-good, list-broken, list-few, row-width}
+use Rattle.reading.proofs.Rows.{parentAt, list-good, list-broken, list-few, row-width, row-parent-right}
+use Rattle.reading.proofs.Lines.{parent-right}
 
 -- ---- a row
 
@@ -72,21 +75,16 @@ names-row : (p : ℕ) (w : GenThenTime) (o : Option (List ℕ)) {e : Either} →
 names-row p w none f = tt
 names-row p w (some qs) f = f
 
--- `find` gives a row
-pub reads-row : {c : Cache} {g s : List ℕ} {x : Id} {e : Either} (p : ℕ) → FindsCommit c g s x e → e ≡ CachedCommit p
-    → ReadsCommit c g s x (rowCommit p (pairIn g (layoutUnder c) p) (parentsIn g (layoutUnder c) p))
+-- a row that was found
+row-is-read : {c : Cache} {g s : List ℕ} {x : Id} (p : ℕ) → GoodCache c g → foundIn c g s x ≡ CachedCommit p → IsRead c g s x (commitAt c g s (CachedCommit p))
 unfolding read graphParents
-reads-row {c} {g} {s} {x} p k e = record {
-  right = λ ok t.
-      let f : foundIn c g s x ≡ CachedCommit p = sym (k .good ok t) ∙ e in
-      let r : RowFound c g s x p = found-row c g s x p t f in
-      subst (λ (l : Layout). IsRead c g s x (rowCommit p (pairIn g l p) (parentsIn g l p))) (sym (r .layout))
-      (record {
-        tells = subst (λ (d : ModelRow). Tells (rowCommit p (pairIn g (layoutOf g) p) (graphParents g p)) (readRow (worldUnder c g s) x d)) (sym (r .says)) (tells-row (worldUnder c g s) x g p);
-        names = names-row p (pairIn g (layoutOf g) p) (graphParents g p) f;
-      });
-  few = list-few g (layoutUnder c) p (λ o. parentCount (rowCommit p (pairIn g (layoutUnder c) p) o)) refl (λ ps. refl);
-}
+row-is-read {c} {g} {s} {x} p t f =
+    let r : RowFound c g s x p = found-row c g s x p t f in
+    subst (λ (l : Layout). IsRead c g s x (rowCommit p (pairIn g l p) (parentsIn g l p))) (sym (r .layout))
+    (record {
+      tells = subst (λ (d : ModelRow). Tells (rowCommit p (pairIn g (layoutOf g) p) (graphParents g p)) (readRow (worldUnder c g s) x d)) (sym (r .says)) (tells-row (worldUnder c g s) x g p);
+      names = names-row p (pairIn g (layoutOf g) p) (graphParents g p) f;
+    })
 
 -- ---- a body
 
@@ -132,36 +130,41 @@ header-few b =
     (λ g. header-lines b g .few)
     (λ g. let n : length (header b .ids) ≡ 0 = ap (λ (h : Header). length (h .ids)) (no-header b g) in omega arith)
 
--- `find` gives a body
-pub reads-body : {c : Cache} {g s : List ℕ} {x : Id} {f : Either} (a e : ℕ) → FindsCommit c g s x f → f ≡ CommitRefIter a e
-    → ReadsCommit c g s x (bodyCommit a e (readingOf (header (partOf s (BodyAt a e)))))
+-- a body that was found
+body-is-read : {c : Cache} {g s : List ℕ} {x : Id} (a e : ℕ) → storeOk s ≡ true → foundIn c g s x ≡ CommitRefIter a e → IsRead c g s x (commitAt c g s (CommitRefIter a e))
 unfolding read readRow
-reads-body {c} {g} {s} {x} a e k i = record {
-  right = λ ok t.
-      let f : foundIn c g s x ≡ CommitRefIter a e = sym (k .good ok t) ∙ i in
-      let r = found-body c g s x a e ok f in
-      let b = body-told a e (header (partOf s (BodyAt a e))) in
-      record { tells = rw (r .0, r .1) (b .tells); names = b .names (foundIn c g s x) f };
-  few = omega (arith, body-told a e (header (partOf s (BodyAt a e))) .few, header-few (partOf s (BodyAt a e)));
-}
+body-is-read {c} {g} {s} {x} a e ok f =
+    let r = found-body c g s x a e ok f in
+    let b = body-told a e (header (partOf s (BodyAt a e))) in
+    record { tells = rw (r .0, r .1) (b .tells); names = b .names (foundIn c g s x) f }
 
--- ---- neither
-
-pub reads-none : {c : Cache} {g s : List ℕ} {x : Id} {f : Either} → FindsCommit c g s x f → f ≡ Absent → ReadsCommit c g s x (Failed CommitNotFound)
+-- neither
+none-is-read : {c : Cache} {g s : List ℕ} {x : Id} → foundIn c g s x ≡ Absent → IsRead c g s x (Failed CommitNotFound)
 unfolding read readRow fromStore
-reads-none {c} {g} {s} {x} k i = record {
-  right = λ ok t.
-      let r = found-absent c g s x (sym (k .good ok t) ∙ i) in
-      record { tells = rw (r .0, r .1); names = tt };
-  few = omega arith;
-}
+none-is-read {c} {g} {s} {x} f = let r = found-absent c g s x f in record { tells = rw (r .0, r .1); names = tt }
 
--- ---- where the commit cannot be read, the answer says so
+-- ---- what `find` found, read
 
-pub told-fail : (m : Commit) {d : Read} (r : Refusal) → Tells m d → d ≡ fail r → m ≡ Failed r
-told-fail (Row p n q) r t f = let e = t .is in let z : _≡_ {A = ℕ} 0 1 = cc in absurd (omega arith)
-told-fail (Body a e n q) r t f = let k = t .is in let z : _≡_ {A = ℕ} 0 1 = cc in absurd (omega arith)
-told-fail (Failed q) r t f = let e : q ≡ r = cc in ap Failed e
+pub reads-found : {c : Cache} {g s : List ℕ} {x : Id} {e : Either} {r : Commit} (f : Either) → FindsCommit c g s x e → e ≡ f → r ≡ commitAt c g s f → ReadsCommit c g s x r
+reads-found {c} {g} {s} {x} f k i e = record { found = f; finds = subst (FindsCommit c g s x) i k; is = e }
+
+-- in good files it is what the walk's world has
+pub commit-right : {c : Cache} {g s : List ℕ} {x : Id} {r : Commit} → ReadsCommit c g s x r → storeOk s ≡ true → GoodCache c g → IsRead c g s x r
+commit-right {c} {g} {s} {x} {r} k ok t = subst (IsRead c g s x) (sym (k .is)) (go (k .found) (sym (k .finds .good ok t)))
+  where
+    go : (f : Either) → foundIn c g s x ≡ f → IsRead c g s x (commitAt c g s f)
+    go (CachedCommit p) e = row-is-read p t e
+    go (CommitRefIter a b) e = body-is-read a b ok e
+    go Absent e = none-is-read e
+
+-- on any bytes it has at most 256 parents
+pub commit-few : {c : Cache} {g s : List ℕ} {x : Id} {r : Commit} → ReadsCommit c g s x r → parentCount r ≤ most
+commit-few {c} {g} {s} {x} {r} k = subst (λ (m : Commit). parentCount m ≤ most) (sym (k .is)) (go (k .found))
+  where
+    go : (f : Either) → parentCount (commitAt c g s f) ≤ most
+    go (CachedCommit p) = list-few g (layoutUnder c) p (λ o. parentCount (rowCommit p (pairIn g (layoutUnder c) p) o)) refl (λ ps. refl)
+    go (CommitRefIter a b) = omega (arith, body-told a b (header (partOf s (BodyAt a b))) .few, header-few (partOf s (BodyAt a b)))
+    go Absent = omega arith
 
 -- ---- a parent
 
@@ -193,36 +196,44 @@ from-body h ps q e = go (h .tree) (h .crowded) (h .author) (h .seconds) refl e
     go true false true none k f = let z : _≡_ {A = ℕ} 0 1 = cc in absurd (omega arith)
     go true false true (some s) k f = (k, cc)
 
--- of a row: its id by value is the part of the file, since that has 20 bytes
 pub parent-of-row : {c : Cache} {g s : List ℕ} {k : ℕ} {y : Id} {r : ObjectId} {l : Layout} (p n : ℕ) (v : GenThenTime) → l ≡ layoutUnder c → GivesRowParent g l p k y → r .bytes ≡ padded y
     → GivesParent c g s (Row p n v) k r
-unfolding read
-parent-of-row {c} {g} {s} {k} {y} {r} p n v own give e = record {
-  right = λ ok t x is ps q f h.
-      let w : World = worldUnder c g s in
-      let found : RowFound c g s x p = found-row c g s x p t (is .names) in
-      let parts = from-row w x g p ps q (ap (readRow w x) (sym (found .says)) ∙ f) in
-      let m : k < length (parts .0) = omega (arith, ap length (parts .4), length-map (parts .0) (λ (a : Id × ℤ). a .0)) in
-      let here : y ≡ getD (parts .0) k ([], pos 0) .0 = give .right (own ∙ found .layout) (parts .0) (parts .1) (parts .2) (parts .3) m in
-      let wide = row-width g p (parts .0) (parts .1) (parts .2) (parts .3) (found .file) k m in
-      e ∙ padded-id y (ap length here ∙ wide) ∙ here ∙ sym (List·getD-map (λ (a : Id × ℤ). a .0) (parts .0) k ([], pos 0))
-      ∙ ap (λ (l : List Id). getD l k []) (sym (parts .4));
-}
+parent-of-row {c} {g} {s} {k} {y} p n v own give e = record { is = (y, subst (λ (m : Layout). GivesRowParent g m p k y) own give, e) }
 
--- of a body
-pub parent-of-body : {c : Cache} {g s : List ℕ} {k : ℕ} {b : List ℕ} {r : ObjectId} (a e n : ℕ) (v : GenThenTime) → b ≡ partOf s (BodyAt a e) → GivesBodyParent b k r
+pub parent-of-body : {c : Cache} {g s : List ℕ} {k : ℕ} {b : List ℕ} {r : ObjectId} (a e n : ℕ) (v : GenThenTime) → b ≡ partOf s (BodyAt a e) → r .bytes ≡ parentIdAt b k
     → GivesParent c g s (Body a e n v) k r
-unfolding read readRow
-parent-of-body {c} {g} {s} {k} {b} {r} a e n v same give = record {
-  right = λ ok t x is ps q f h.
-      let found = found-body c g s x a e ok (is .names) in
-      let parts = from-body (header (partOf s (BodyAt a e))) ps q (rw (found .0, found .1) at f) in
-      let give′ : GivesBodyParent (partOf s (BodyAt a e)) k r = subst (λ (d : List ℕ). GivesBodyParent d k r) same give in
-      give′ .right (parts .0) (omega (arith, ap length (parts .1))) ∙ ap (λ (l : List Id). getD l k []) (parts .1);
-}
+parent-of-body {k = k} a e n v same give = record { is = give ∙ ap (λ (d : List ℕ). parentIdAt d k) same }
 
--- of a commit that cannot be read there is none
-pub parent-of-failed : {c : Cache} {g s : List ℕ} {k : ℕ} {r : ObjectId} (n : Refusal) → GivesParent c g s (Failed n) k r
-parent-of-failed n = record {
-  right = λ ok t x is ps q f h. let e = sym (is .tells) ∙ f in let z : _≡_ {A = ℕ} 0 1 = cc in absurd (omega arith);
-}
+pub parent-of-failed : {c : Cache} {g s : List ℕ} {k : ℕ} {r : ObjectId} (n : Refusal) → r .bytes ≡ noId → GivesParent c g s (Failed n) k r
+parent-of-failed n e = record { is = e }
+
+-- in good files: of a row, its id by value is the part of the file, since that has 20 bytes
+row-parent-at : (c : Cache) (g s : List ℕ) (k : ℕ) (x : Id) {y z : Id} (p : ℕ) → GoodCache c g → foundIn c g s x ≡ CachedCommit p → GivesRowParent g (layoutUnder c) p k y → z ≡ padded y
+    → (ps : List Id) (q : Pair) → read (worldUnder c g s) x ≡ good ps q → k < length ps → z ≡ getD ps k []
+unfolding read
+row-parent-at c g s k x {y} {z} p t names give e ps q f h =
+    let w : World = worldUnder c g s in
+    let found : RowFound c g s x p = found-row c g s x p t names in
+    let parts = from-row w x g p ps q (ap (readRow w x) (sym (found .says)) ∙ f) in
+    let m : k < length (parts .0) = omega (arith, ap length (parts .4), length-map (parts .0) (λ (a : Id × ℤ). a .0)) in
+    let here : y ≡ getD (parts .0) k ([], pos 0) .0 = row-parent-right give (found .layout) (parts .0) (parts .1) (parts .2) (parts .3) m in
+    let wide = row-width g p (parts .0) (parts .1) (parts .2) (parts .3) (found .file) k m in
+    e ∙ padded-id y (ap length here ∙ wide) ∙ here ∙ sym (List·getD-map (λ (a : Id × ℤ). a .0) (parts .0) k ([], pos 0))
+    ∙ ap (λ (l : List Id). getD l k []) (sym (parts .4))
+
+body-parent-at : (c : Cache) (g s : List ℕ) (k : ℕ) (x : Id) {z : Id} (a e : ℕ) → storeOk s ≡ true → foundIn c g s x ≡ CommitRefIter a e → z ≡ parentIdAt (partOf s (BodyAt a e)) k
+    → (ps : List Id) (q : Pair) → read (worldUnder c g s) x ≡ good ps q → k < length ps → z ≡ getD ps k []
+unfolding read readRow
+body-parent-at c g s k x a e ok names give ps q f h =
+    let found = found-body c g s x a e ok names in
+    let parts = from-body (header (partOf s (BodyAt a e))) ps q (rw (found .0, found .1) at f) in
+    give ∙ parent-right (partOf s (BodyAt a e)) k (parts .0) (omega (arith, ap length (parts .1))) ∙ ap (λ (l : List Id). getD l k []) (parts .1)
+
+pub commit-parent-right : {c : Cache} {g s : List ℕ} {m : Commit} {k : ℕ} {r : ObjectId} → GivesParent c g s m k r → storeOk s ≡ true → GoodCache c g → (x : Id) → IsRead c g s x m
+    → (ps : List Id) (q : Pair) → read (worldUnder c g s) x ≡ good ps q → k < length ps → r .bytes ≡ getD ps k []
+commit-parent-right {c} {g} {s} {m} {k} {r} v ok t x is ps q f h = go m (v .is) is
+  where
+    go : (m : Commit) → ParentAt c g s m k (r .bytes) → IsRead c g s x m → r .bytes ≡ getD ps k []
+    go (Row p n w) a i = row-parent-at c g s k x p t (i .names) (a .1) (a .2) ps q f h
+    go (Body b e n w) a i = body-parent-at c g s k x b e ok (i .names) a ps q f h
+    go (Failed n) a i = let j = sym (i .tells) ∙ f in let z : _≡_ {A = ℕ} 0 1 = cc in absurd (omega arith)

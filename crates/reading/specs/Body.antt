@@ -1,16 +1,16 @@
 -- What a next call reads of a commit's body, line by line. Assumes nothing.
-use Prim.Native.Nat.{ℕ, _≤_, _<_}
-use mathlib.Core.Path.{_≡_}
+use Prim.Native.Nat.{ℕ, _+_, _*_}
 use mathlib.Core.Bool.{true, false}
 use mathlib.Core.Option.{Option, none, some}
-use mathlib.Core.List.{List, []}
-use lib.ListN.{length, drop, getD}
+use mathlib.Core.List.{List}
+use lib.ListN.{drop}
 use lib.Dec.{ltb}
-use Rattle.hash.specs.Bytes.{pick}
-use Rattle.object.specs.Header.{Header, header, isSome, authorLine}
-use Rattle.object.specs.declared.ObjectId.{ObjectId}
+use Rattle.hash.specs.Bytes.{Id, pick}
+use Rattle.object.specs.Header.{Header, isSome, authorLine, most}
+use Rattle.object.specs.Read.{parentAt}
 use Rattle.walk.specs.declared.Refusal.{Refusal}
 use Rattle.walk.specs.declared.Refusal.the-variants.{CommitUnreadable, TooManyParents}
+use Rattle.walk.specs.Given.{noId}
 use Rattle.reading.specs.declared.body.BodyEnd.{BodyEnd}
 use Rattle.reading.specs.declared.body.BodyEnd.the-variants.{Whole, Unreadable, Crowded}
 use Rattle.reading.specs.declared.body.BodyStep.{BodyStep}
@@ -37,14 +37,18 @@ parentStep = record { taken = true; ends = Whole }
 abbrev pub endStep : BodyEnd → BodyStep
 endStep e = record { taken = false; ends = e }
 
--- the step after k parents
-unfoldable pub stepOf : Header → ℕ → BodyStep
-stepOf h k = pick (ltb k (length (h .ids))) parentStep (endStep (endOf h))
+-- the place of parent line k, after the tree line and k parent lines
+abbrev pub parentPlace : ℕ → ℕ
+parentPlace k = 46 + 48 * k
 
--- what `body_step` answers after k parents of a body
-pub record StepsBody (b : List ℕ) (k : ℕ) (r : BodyStep) : Type 0 where
-  pub right : header b .tree ≡ true → k ≤ length (header b .ids) → r ≡ stepOf (header b) k
+-- what stands at the place of parent line k, on any bytes: a parent line, of which the 257th is one too many, or what ends the reading;
+-- past the 257th place nothing is read
+unfoldable pub stepAt : List ℕ → ℕ → BodyStep
+stepAt b k =
+    let counted : BodyStep = pick (ltb k most) parentStep (endStep Crowded) in
+    let here : BodyStep = pick (parentAt b (parentPlace k) .good) counted (endStep (endAt b (parentPlace k))) in
+    pick (ltb most k) (endStep Crowded) here
 
--- parent k of a body
-pub record GivesBodyParent (b : List ℕ) (k : ℕ) (r : ObjectId) : Type 0 where
-  pub right : header b .tree ≡ true → k < length (header b .ids) → r .bytes ≡ getD (header b .ids) k []
+-- the id of parent line k, on any bytes: zeros where no parent line stands, and past the 256th
+unfoldable pub parentIdAt : List ℕ → ℕ → Id
+parentIdAt b k = pick (ltb k most) (parentAt b (parentPlace k) .id .bytes) noId

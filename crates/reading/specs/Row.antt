@@ -1,21 +1,19 @@
 -- What a next call reads of a commit's row in the commit-graph file. Assumes nothing.
-use Prim.Native.Nat.{ℕ, _≤_, _<_}
+use Prim.Native.Nat.{ℕ, _<_}
 use mathlib.Core.Path.{_≡_}
-use mathlib.Core.Bool.{true}
 use mathlib.Core.Option.{Option, none, some}
-use mathlib.Core.List.{List, []}
+use mathlib.Core.List.{List}
 use lib.ListN.{length, getD}
-use lib.IntN.{ℤ, pos}
 use Rattle.hash.specs.Bytes.{Id}
-use Rattle.commitgraph.specs.Graph.{graphOk, layoutOf, levelIn, mostParents}
+use Rattle.commitgraph.specs.Graph.{Looks, idIn, levelIn, parentsIn}
 use Rattle.commitgraph.specs.declared.Layout.{Layout}
 use Rattle.commitgraph.specs.declared.Level.{Level}
-use Rattle.commit.specs.Find.{GoodCache}
+use Rattle.commitgraph.specs.declared.rows.Position.{Position}
+use Rattle.commitgraph.specs.declared.rows.Position.the-variants.{At, Absent}
 use Rattle.commit.specs.declared.Cache.{Cache}
-use Rattle.walk.specs.Lookup.{Row, no-row, corrupt, row, rowAt}
+use Rattle.commit.specs.declared.Cache.the-variants.{Graph, NoGraph}
 use Rattle.reading.specs.declared.row.RowRead.{RowRead}
 use Rattle.reading.specs.declared.row.RowRead.the-variants.{NoRow, Corrupt, Row as RowAt}
-use Rattle.reading.specs.Files.{layoutUnder, worldUnder}
 
 abbrev pub levelOf : List ℕ → Layout → ℕ → Level
 levelOf g l p = record { 0 = levelIn g l p }
@@ -25,33 +23,22 @@ abbrev pub rowReadOf : ℕ → Level → Option (List ℕ) → RowRead
 rowReadOf p v none = Corrupt
 rowReadOf p v (some ps) = RowAt p (length ps) v
 
--- the row d stands at position p of the file in use, a good one, with n parents and the level v
-pub record RowIs (c : Cache) (g : List ℕ) (p n : ℕ) (v : Level) (d : Row) : Type 0 where
-  pub file : graphOk g ≡ true
-  pub layout : layoutUnder c ≡ layoutOf g
-  pub place : rowAt g p ≡ d
-  pub parents : List (Id × ℤ)
-  pub seconds : ℤ
-  pub is : d ≡ row parents (v .0) seconds
-  pub count : n ≡ length parents
+-- the same by what a lookup in the file answered
+abbrev pub rowFrom : List ℕ → Layout → Position → RowRead
+rowFrom g l (At p) = rowReadOf p (levelOf g l p) (parentsIn g l p)
+rowFrom g l Absent = NoRow
 
--- what an answer says of a row
-abbrev pub TellsRow : Cache → List ℕ → RowRead → Row → Type 0
-TellsRow c g NoRow d = d ≡ no-row
-TellsRow c g Corrupt d = d ≡ corrupt
-TellsRow c g (RowAt p n v) d = RowIs c g p n v d
+-- the lookup's answer, read; where no file is used there is no row
+abbrev pub RowLooked : Cache → List ℕ → Id → RowRead → Type 0
+RowLooked (Graph l) g x r = (q : Position) × Looks g l x q × (r ≡ rowFrom g l q)
+RowLooked NoGraph g x r = r ≡ NoRow
 
--- how many parents an answer has
-abbrev pub rowParents : RowRead → ℕ
-rowParents NoRow = 0
-rowParents Corrupt = 0
-rowParents (RowAt p n v) = n
-
--- what `row_of` answers for the commit x: on a good file its row; on any bytes at most 256 parents
+-- what `row_of` answers for the commit x
 pub record ReadsRow (c : Cache) (g : List ℕ) (x : Id) (r : RowRead) : Type 0 where
-  pub right : GoodCache c g → (s : List ℕ) → TellsRow c g r (worldUnder c g s .graph x)
-  pub few : rowParents r ≤ mostParents
+  pub is : RowLooked c g x r
 
--- parent k of the row at position p: its id
+-- the id of parent k of the row at position p: it stands at the position that a good list has there
 pub record GivesRowParent (g : List ℕ) (l : Layout) (p k : ℕ) (r : Id) : Type 0 where
-  pub right : l ≡ layoutOf g → (ps : List (Id × ℤ)) (v : ℕ) (t : ℤ) → rowAt g p ≡ row ps v t → k < length ps → r ≡ getD ps k ([], pos 0) .0
+  pub position : ℕ
+  pub listed : (ps : List ℕ) → parentsIn g l p ≡ some ps → k < length ps → position ≡ getD ps k 0
+  pub is : r ≡ idIn g l position

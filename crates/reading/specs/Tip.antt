@@ -1,17 +1,18 @@
 -- What the store says of a commit's seconds: a tip at the opening, a parent in a next call. Assumes nothing.
 use Prim.Native.Nat.{ℕ}
 use mathlib.Core.Path.{_≡_}
-use mathlib.Core.Bool.{true}
 use mathlib.Core.Option.{Option, none, some}
 use mathlib.Core.List.{List}
+use lib.IntN.{pos}
 use Rattle.hash.specs.Bytes.{Id}
 use Rattle.date.specs.declared.Seconds.{Seconds}
-use Rattle.object.specs.Header.{Header}
+use Rattle.object.specs.Header.{Header, secondsOf}
 use Rattle.object.specs.Read.{secondsRead}
 use Rattle.object.specs.declared.SecondsRead.{SecondsRead}
 use Rattle.object.specs.declared.SecondsRead.the-variants.{Good as GoodSeconds, Bad as BadSeconds}
-use Rattle.odb.specs.Store.{storeOk}
-use Rattle.walk.specs.Lookup.{worldOf, secondsFor}
+use Rattle.odb.specs.Lookup.{Locates, partOf}
+use Rattle.odb.specs.declared.Located.{Located}
+use Rattle.odb.specs.declared.Located.the-variants.{Body, Absent}
 use Rattle.reading.specs.declared.tip.TipRead.{TipRead}
 use Rattle.reading.specs.declared.tip.TipRead.the-variants.{Good, Missing, Unreadable}
 
@@ -24,10 +25,25 @@ abbrev pub tipOf : Option Header → TipRead
 tipOf none = Missing
 tipOf (some h) = tipSeconds (secondsRead (h .seconds))
 
--- what `read_tip` answers for the tip x
+-- a tip by what a lookup in the store found, on any bytes
+abbrev pub tipAt : List ℕ → Located → TipRead
+tipAt s (Body a e) = tipSeconds (secondsRead (secondsOf (partOf s (Body a e))))
+tipAt s Absent = Missing
+
+-- what `read_tip` answers for the tip x: the lookup's answer, read
 pub record ReadsTip (s : List ℕ) (x : Id) (r : TipRead) : Type 0 where
-  pub right : storeOk s ≡ true → (g : List ℕ) → r ≡ tipOf (worldOf s g .store x)
+  pub found : Located
+  pub located : Locates s x found
+  pub is : r ≡ tipAt s found
+
+-- "from the book, else they are 0"
+abbrev pub secondsOr0 : TipRead → Seconds
+secondsOr0 (Good t) = t
+secondsOr0 Missing = record { 0 = pos 0 }
+secondsOr0 Unreadable = record { 0 = pos 0 }
 
 -- what `seconds_for` answers for the commit x
 pub record GivesSeconds (s : List ℕ) (x : Id) (r : Seconds) : Type 0 where
-  pub right : storeOk s ≡ true → (g : List ℕ) → r .0 ≡ secondsFor (worldOf s g) x
+  pub read : TipRead
+  pub as-tip : ReadsTip s x read
+  pub is : r ≡ secondsOr0 read

@@ -1,27 +1,33 @@
 -- One commit read whole, as painting reads it: `read` of the walk, told by what the two files have. Assumes nothing.
-use Prim.Native.Nat.{ℕ, _≤_, _<_}
+use Prim.Native.Nat.{ℕ}
 use mathlib.Core.Path.{_≡_}
-use mathlib.Core.Bool.{true}
 use mathlib.Core.Option.{Option, none, some}
-use mathlib.Core.List.{List, []}
-use lib.ListN.{length, getD}
+use mathlib.Core.List.{List}
+use lib.ListN.{length}
 use Rattle.hash.specs.Bytes.{Id}
+use Rattle.object.specs.Header.{header}
+use Rattle.object.specs.Ids.{padded}
+use Rattle.object.specs.Read.{readingOf}
 use Rattle.object.specs.declared.ObjectId.{ObjectId}
 use Rattle.object.specs.declared.Reading.{Reading}
 use Rattle.object.specs.declared.Reading.the-variants.{Readable, Bad, Crowded}
-use Rattle.odb.specs.Store.{storeOk}
-use Rattle.commitgraph.specs.Graph.{levelIn, secondsIn, mostParents}
+use Rattle.odb.specs.Lookup.{partOf}
+use Rattle.odb.specs.declared.Located.the-variants.{Body as BodyAt}
+use Rattle.commitgraph.specs.Graph.{levelIn, secondsIn, parentsIn}
 use Rattle.commitgraph.specs.declared.Layout.{Layout}
-use Rattle.commit.specs.Find.{GoodCache, foundIn}
+use Rattle.commit.specs.Find.{foundIn, FindsCommit}
 use Rattle.commit.specs.declared.Cache.{Cache}
 use Rattle.commit.specs.declared.Either.{Either}
-use Rattle.commit.specs.declared.Either.the-variants.{CachedCommit, CommitRefIter}
-use Rattle.walk.specs.Lookup.{Pair, pairOf, noGeneration, Read, fail, good, read}
+use Rattle.commit.specs.declared.Either.the-variants.{CachedCommit, CommitRefIter, Absent}
+use Rattle.walk.specs.Lookup.{pairOf, noGeneration, Read, fail, good, read}
+use Rattle.walk.specs.Given.{noId}
 use Rattle.walk.specs.declared.GenThenTime.{GenThenTime}
-use Rattle.walk.specs.declared.Refusal.the-variants.{CommitUnreadable, TooManyParents}
+use Rattle.walk.specs.declared.Refusal.the-variants.{CommitNotFound, CommitUnreadable, TooManyParents}
 use Rattle.reading.specs.declared.Commit.{Commit}
 use Rattle.reading.specs.declared.Commit.the-variants.{Row, Body, Failed}
-use Rattle.reading.specs.Files.{worldUnder}
+use Rattle.reading.specs.Files.{layoutUnder, worldUnder}
+use Rattle.reading.specs.Row.{GivesRowParent}
+use Rattle.reading.specs.Body.{parentIdAt}
 
 -- the pair of the row at position p
 abbrev pub pairIn : List ℕ → Layout → ℕ → GenThenTime
@@ -57,7 +63,7 @@ Names (Row p n q) e = e ≡ CachedCommit p
 Names (Body a b n q) e = e ≡ CommitRefIter a b
 Names (Failed r) e = Unit {0}
 
--- on good files r is what is read of the commit x
+-- r is what is read of the commit x: so in good files of a commit that `read_commit` gave
 pub record IsRead (c : Cache) (g s : List ℕ) (x : Id) (r : Commit) : Type 0 where
   pub tells : Tells r (read (worldUnder c g s) x)
   pub names : Names r (foundIn c g s x)
@@ -68,12 +74,24 @@ parentCount (Row p n q) = n
 parentCount (Body a e n q) = n
 parentCount (Failed r) = 0
 
--- what `read_commit` answers for the commit x: on good files what they have; on any bytes at most 256 parents
-pub record ReadsCommit (c : Cache) (g s : List ℕ) (x : Id) (r : Commit) : Type 0 where
-  pub right : storeOk s ≡ true → GoodCache c g → IsRead c g s x r
-  pub few : parentCount r ≤ mostParents
+-- the commit of what `find` found, on any bytes: "absent (9)"
+abbrev pub commitAt : Cache → List ℕ → List ℕ → Either → Commit
+commitAt c g s (CachedCommit p) = rowCommit p (pairIn g (layoutUnder c) p) (parentsIn g (layoutUnder c) p)
+commitAt c g s (CommitRefIter a e) = bodyCommit a e (readingOf (header (partOf s (BodyAt a e))))
+commitAt c g s Absent = Failed CommitNotFound
 
--- what `parent_of` answers: parent k of a commit m that was read
+-- what `read_commit` answers for the commit x: what `find` found, read
+pub record ReadsCommit (c : Cache) (g s : List ℕ) (x : Id) (r : Commit) : Type 0 where
+  pub found : Either
+  pub finds : FindsCommit c g s x found
+  pub is : r ≡ commitAt c g s found
+
+-- parent k of a commit that was read, on any bytes: of its row, of its body, or zeros where it could not be read
+abbrev pub ParentAt : Cache → List ℕ → List ℕ → Commit → ℕ → Id → Type 0
+ParentAt c g s (Row p n q) k x = (y : Id) × GivesRowParent g (layoutUnder c) p k y × (x ≡ padded y)
+ParentAt c g s (Body a e n q) k x = x ≡ parentIdAt (partOf s (BodyAt a e)) k
+ParentAt c g s (Failed r) k x = x ≡ noId
+
+-- what `parent_of` answers
 pub record GivesParent (c : Cache) (g s : List ℕ) (m : Commit) (k : ℕ) (r : ObjectId) : Type 0 where
-  pub right : storeOk s ≡ true → GoodCache c g → (x : Id) → IsRead c g s x m
-      → (ps : List Id) (q : Pair) → read (worldUnder c g s) x ≡ good ps q → k < length ps → r .bytes ≡ getD ps k []
+  pub is : ParentAt c g s m k (r .bytes)

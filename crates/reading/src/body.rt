@@ -4,7 +4,7 @@ use object::ObjectId;
 use object::person;
 ghost use mathlib.Core.Path.{_≡_};
 ghost use Rattle.object.specs.Header.{header};
-ghost use Rattle.reading.specs.Body.{endAt, endStep, GivesBodyParent, StepsBody};
+ghost use Rattle.reading.specs.Body.{endAt, endStep, stepAt, parentIdAt};
 
 // How the reading of a body ends after its parents: the author line is good, or it is bad, or a parent line too many stands there.
 pub enum BodyEnd {
@@ -37,9 +37,9 @@ pub fn body_tree_ok(body: &[u8]) -> bool
     }
 }
 
-// The id of parent k of a body with a good tree line.
+// The id of parent k of a body, which a good tree line stands before; zeros where no parent line stands.
 pub fn body_parent(body: &[u8], k: usize) -> ObjectId
-    ensures { λ r. ⌜ GivesBodyParent (now (body .entry)) k r ⌝ }
+    ensures { λ r. ⌜ r .bytes ≡ parentIdAt (now (body .entry)) k ⌝ }
 {
     if MOST_PARENTS <= k {
         return ObjectId { bytes: [0u8; 20] };
@@ -65,9 +65,9 @@ fn ended(ends: BodyEnd) -> BodyStep
     BodyStep { taken: false, ends }
 }
 
-// The step after k parents of a body with a good tree line.
+// The step after k parents of a body, which a good tree line stands before.
 pub fn body_step(body: &[u8], k: usize) -> BodyStep
-    ensures { λ r. ⌜ StepsBody (now (body .entry)) k r ⌝ }
+    ensures { λ r. ⌜ r ≡ stepAt (now (body .entry)) k ⌝ }
 {
     if MOST_PARENTS < k {
         return ended(BodyEnd::Crowded);

@@ -20,10 +20,10 @@ use Rattle.walk.specs.Settings.{onlyFirst, followed}
 use Rattle.walk.specs.Lookup.{World, worldOf, secondsFor}
 use Rattle.walk.specs.State.{Walk, isEmpty}
 use Rattle.walk.specs.Next.{withSeconds, ending}
-use Rattle.reading.specs.Body.{endOf, refusalOf, StepsBody}
+use Rattle.reading.specs.Body.{endOf, refusalOf, stepAt, parentIdAt}
 use Rattle.reading.specs.declared.body.BodyEnd.the-variants.{Whole, Unreadable}
 use Rattle.reading.specs.declared.body.BodyStep.{BodyStep}
-use Rattle.reading.proofs.Lines.{step-taken, step-ended, ending-tree, ending-stopped, ending-read}
+use Rattle.reading.proofs.Lines.{step-right, parent-right, step-taken, step-ended, ending-tree, ending-stopped, ending-read}
 use Rattle.reading.proofs.Whole.{header-few}
 use Rattle.state.specs.declared.Record.{Record}
 use Rattle.state.specs.Reads.{Memory}
@@ -58,11 +58,11 @@ seconds-stored v (x ∷ l) = ap (λ (r : List (Id × ℤ)). (x, secondsFor (v .w
 -- ---- the visits
 
 pub body-parent : {excluded : List ℕ} {settings : Settings} {store d : List ℕ} {k : ℕ} {r r′ : Record} {m m′ : Memory} {b b′ : List ℕ} {y : Id}
-    → (header d .tree ≡ true → k < length (header d .ids) → y ≡ getD (header d .ids) k []) → SetsParent k y b b′ → VisitsStored excluded settings store r m m′ y r′
+    → y ≡ parentIdAt d k → SetsParent k y b b′ → VisitsStored excluded settings store r m m′ y r′
     → VisitsBodyParent excluded settings store d k r m m′ b b′ r′
 body-parent {excluded} {settings} {store} {d} {k} {r} {r′} {m} {m′} {b} {b′} {y} i s v = record {
   right = λ ok g t h.
-      let e = i t h in (
+      let e = i ∙ parent-right d k t h in (
         subst (λ (x : Id). Visits excluded settings r m m′ x (secondsFor (worldOf store g) x) r′) e (v .right ok g),
         s .down (omega (arith, h, header-few d)) (omega (arith, ap length e, parent-width d t k h)) ∙ ap (setDown b (idBytes * k)) e,
       );
@@ -108,28 +108,28 @@ none-of : (l : List Id) → length l ≡ 0 → length (take 1 l) ≡ 0
 none-of [] h = refl
 none-of (x ∷ l) h = absurd (omega arith)
 
-pub first-taken : {d : List ℕ} {s : BodyStep} → StepsBody d 0 s → s .taken ≡ true → EndsFirst (header d) (record { parents = 1; ends = Whole })
-first-taken {d} {s} e t = record {
-  parents = λ g. sym (one-of (header d .ids) (step-taken (header d) 0 (e .right g (omega arith)) t));
+pub first-taken : (d : List ℕ) {s : BodyStep} → s ≡ stepAt d 0 → s .taken ≡ true → EndsFirst (header d) (record { parents = 1; ends = Whole })
+first-taken d {s} e t = record {
+  parents = λ g. sym (one-of (header d .ids) (step-taken (header d) 0 (e ∙ step-right d 0 g (omega arith)) t));
   stopped = λ g h. refl;
-  ends = λ g z. absurd (omega (arith, z, step-taken (header d) 0 (e .right g (omega arith)) t));
+  ends = λ g z. absurd (omega (arith, z, step-taken (header d) 0 (e ∙ step-right d 0 g (omega arith)) t));
 }
 
-pub first-ended : {d : List ℕ} {s : BodyStep} → StepsBody d 0 s → s .taken ≡ false → EndsFirst (header d) (record { parents = 0; ends = s .ends })
-first-ended {d} {s} e t = record {
-  parents = λ g. sym (none-of (header d .ids) (sym (step-ended (header d) 0 (e .right g (omega arith)) (omega arith) t .0)));
-  stopped = λ g h. absurd (omega (arith, h, step-ended (header d) 0 (e .right g (omega arith)) (omega arith) t .0));
-  ends = λ g z. step-ended (header d) 0 (e .right g (omega arith)) (omega arith) t .1;
+pub first-ended : (d : List ℕ) {s : BodyStep} → s ≡ stepAt d 0 → s .taken ≡ false → EndsFirst (header d) (record { parents = 0; ends = s .ends })
+first-ended d {s} e t = record {
+  parents = λ g. sym (none-of (header d .ids) (sym (step-ended (header d) 0 (e ∙ step-right d 0 g (omega arith)) (omega arith) t .0)));
+  stopped = λ g h. absurd (omega (arith, h, step-ended (header d) 0 (e ∙ step-right d 0 g (omega arith)) (omega arith) t .0));
+  ends = λ g z. step-ended (header d) 0 (e ∙ step-right d 0 g (omega arith)) (omega arith) t .1;
 }
 
-pub all-ended : {d : List ℕ} {k : ℕ} {s : BodyStep} → (header d .tree ≡ true → k ≤ length (header d .ids)) → StepsBody d k s → s .taken ≡ false → EndsAll (header d) (record { parents = k; ends = s .ends })
-all-ended {d} {k} {s} w e t = record {
-  parents = λ g. step-ended (header d) k (e .right g (w g)) (w g) t .0;
-  ends = λ g. step-ended (header d) k (e .right g (w g)) (w g) t .1;
+pub all-ended : (d : List ℕ) (k : ℕ) {s : BodyStep} → (header d .tree ≡ true → k ≤ length (header d .ids)) → s ≡ stepAt d k → s .taken ≡ false → EndsAll (header d) (record { parents = k; ends = s .ends })
+all-ended d k {s} w e t = record {
+  parents = λ g. step-ended (header d) k (e ∙ step-right d k g (w g)) (w g) t .0;
+  ends = λ g. step-ended (header d) k (e ∙ step-right d k g (w g)) (w g) t .1;
 }
 
-pub all-on : {d : List ℕ} {k : ℕ} {s : BodyStep} → (header d .tree ≡ true → k ≤ length (header d .ids)) → StepsBody d k s → s .taken ≡ true → header d .tree ≡ true → k + 1 ≤ length (header d .ids)
-all-on {d} {k} {s} w e t g = omega (arith, step-taken (header d) k (e .right g (w g)) t)
+pub all-on : (d : List ℕ) (k : ℕ) {s : BodyStep} → (header d .tree ≡ true → k ≤ length (header d .ids)) → s ≡ stepAt d k → s .taken ≡ true → header d .tree ≡ true → k + 1 ≤ length (header d .ids)
+all-on d k {s} w e t g = omega (arith, step-taken (header d) k (e ∙ step-right d k g (w g)) t)
 
 pub all-past : (d : List ℕ) {k : ℕ} {a : BodyRead} → (header d .tree ≡ true → k ≤ length (header d .ids)) → 256 < k → EndsAll (header d) a
 all-past d w h = record { parents = λ g. absurd (omega (arith, h, w g, header-few d)); ends = λ g. absurd (omega (arith, h, w g, header-few d)) }

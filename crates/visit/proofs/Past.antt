@@ -32,7 +32,7 @@ use Rattle.reading.specs.declared.body.BodyEnd.the-variants.{Whole, Unreadable,
 use Rattle.reading.specs.Row.{ReadsRow}
 use Rattle.reading.specs.declared.row.RowRead.{RowRead}
 use Rattle.reading.specs.declared.row.RowRead.the-variants.{Row as RowAt}
-use Rattle.reading.proofs.Rows.{row-parts, parent-there}
+use Rattle.reading.proofs.Rows.{row-parts, parent-there, row-parents-few}
 use Rattle.state.specs.declared.Record.{Record}
 use Rattle.visit.specs.Parents.{SetsParent}
 use Rattle.visit.specs.Plain.{Past, Counted, Plain}
@@ -88,7 +88,7 @@ row-narrow g p ps v t e k h =
 
 -- a row that is read lists at most 256 parents, whatever the file holds
 pub row-counted : {c : Cache} {g : List ℕ} {x : Id} {w : RowRead} {p n : ℕ} {v : Level} → ReadsRow c g x w → w ≡ RowAt p n v → n ≤ most
-row-counted e i = rw i at (e .few)
+row-counted e i = rw i at (row-parents-few e)
 
 -- ---- the shape of an answer
 

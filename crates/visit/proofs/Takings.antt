@@ -38,11 +38,11 @@ use Rattle.reading.specs.Body.{refusalOf}
 use Rattle.reading.specs.declared.body.BodyEnd.{BodyEnd}
 use Rattle.reading.specs.declared.body.BodyEnd.the-variants.{Whole, Unreadable, Crowded}
 use Rattle.reading.specs.Files.{cacheOf, layoutUnder, worldUnder}
-use Rattle.reading.specs.Row.{ReadsRow, RowIs}
+use Rattle.reading.specs.Row.{ReadsRow}
 use Rattle.reading.specs.declared.row.RowRead.{RowRead}
 use Rattle.reading.specs.declared.row.RowRead.the-variants.{NoRow, Corrupt, Row as RowAt}
 use Rattle.reading.proofs.World.{located-body, located-none, good-cache, kept-world, dropped-world}
-use Rattle.reading.proofs.Rows.{row-few}
+use Rattle.reading.proofs.Rows.{row-few, RowIs, row-right}
 use Rattle.reading.proofs.Whole.{header-few}
 use Rattle.state.specs.declared.Record.{Record}
 use Rattle.state.specs.Reads.{Memory, Shape, Reads}
@@ -309,7 +309,7 @@ module _ {excluded : List ℕ} {settings : Settings} {graph store : List ℕ} {r
       go ok good v sh st u by own d j z [] o = clash f (p .none marks sh st (d .reads) o)
       go ok good v sh st u by own d j z (y ∷ l) o =
           let k = p .some marks sh st (y .0) (y .1) l (d .reads) o in
-          let told : worldUnder (cacheOf graph (r .kept)) graph store .graph (n .id .bytes) ≡ no-row = rw e at (read .right (good-cache graph (r .kept) good) store) in
+          let told : worldUnder (cacheOf graph (r .kept)) graph store .graph (n .id .bytes) ≡ no-row = rw e at (row-right read (good-cache graph (r .kept) good) store) in
           subst (Gives sh (mem names marks times line) m′ b b′ a) (sym (row-step v graph store y l no-row (d .reads) own o (k .id) told))
           (gives-on (pop-kept (d .reads) p)
           (subst (λ (x : Id). Gives sh (mem names marks times line′) m′ b b′ a (fromBody v (withQueue l st) x (y .1) (v .world .store x))) (k .id)
@@ -326,7 +326,7 @@ module _ {excluded : List ℕ} {settings : Settings} {graph store : List ℕ} {r
       go good v sh st u by own d i z [] o = clash f (p .none marks sh st (d .reads) o)
       go good v sh st u by own d i z (y ∷ l) o =
           let k = p .some marks sh st (y .0) (y .1) l (d .reads) o in
-          let told : RowIs (cacheOf graph (r .kept)) graph at many c (worldUnder (cacheOf graph (r .kept)) graph store .graph (n .id .bytes)) = rw e at (read .right (good-cache graph (r .kept) good) store) in
+          let told : RowIs (cacheOf graph (r .kept)) graph at many c (worldUnder (cacheOf graph (r .kept)) graph store .graph (n .id .bytes)) = rw e at (row-right read (good-cache graph (r .kept) good) store) in
           let ps : List (Id × ℤ) = told .parents in
           let says : v .world .graph (n .id .bytes) ≡ row ps (c .0) (told .seconds) = row-own v graph store (r .kept) (n .id .bytes) ps (c .0) (told .seconds) own (told .is) in
           subst (Gives sh (mem names marks times line) m′ b b′ a) (sym (row-step v graph store y l (row ps (c .0) (told .seconds)) (d .reads) own o (k .id) (told .is)))
@@ -345,7 +345,7 @@ module _ {excluded : List ℕ} {settings : Settings} {graph store : List ℕ} {r
       go ok good v sh st u by own d j z [] o = clash f (p .none marks sh st (d .reads) o)
       go ok good v sh st u by own d j z (y ∷ l) o =
           let k = p .some marks sh st (y .0) (y .1) l (d .reads) o in
-          let told : worldUnder (cacheOf graph (r .kept)) graph store .graph (n .id .bytes) ≡ corrupt = rw e at (read .right (good-cache graph (r .kept) good) store) in
+          let told : worldUnder (cacheOf graph (r .kept)) graph store .graph (n .id .bytes) ≡ corrupt = rw e at (row-right read (good-cache graph (r .kept) good) store) in
           let held : n .rest .kept ≡ true = sym (k .reads .kept) ∙ d .reads .kept ∙ corrupt-kept graph store (r .kept) (n .id .bytes) told in
           let small : n .rest .admitted + 2 < 4294967296 = omega (arith, d .numbers, k .reads .admitted) in
           let g = x .reads names marks sh (withQueue l st) (y .0) (y .1) (k .reads) (k .failed) held (k .slot) (k .entry) small in

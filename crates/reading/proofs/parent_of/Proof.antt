@@ -1,4 +1,5 @@
 -- `reading::parent_of` meets its contract: the parent of the row or of the body that was read. Assumes nothing.
+use mathlib.Core.Path.{refl}
 use Rattle.reading.proofs.Whole.{parent-of-row, parent-of-body, parent-of-failed}
 use borrow.Author.Needs.{needs}
 use Rattle.reading.proofs.parent_of.Statement.{statement}
@@ -35,7 +36,7 @@ returns-2 : tie.Need-returns-2
 returns-2 c = rw (c .before .before .before .commit2 .given .1) (parent-of-body _ _ _ _ (c .before .body .ensures) (c .body-parent .ensures))
 
 returns-3 : tie.Need-returns-3
-returns-3 c = rw (c .enum-told .given .1) (parent-of-failed _)
+returns-3 c = rw (c .enum-told .given .1) (parent-of-failed _ refl)
 
 pub parent-of-spec : {M : Type 1} → statement M
 parent-of-spec =

@@ -1,5 +1,6 @@
 -- `reading::read_commit` meets its contract: what `find` finds is read, a row or a body. Assumes nothing.
-use Rattle.reading.proofs.Whole.{reads-row, reads-body, reads-none}
+use mathlib.Core.Path.{refl, sym}
+use Rattle.reading.proofs.Whole.{reads-found}
 use borrow.Author.Needs.{needs}
 use Rattle.reading.proofs.read_commit.Statement.{statement}
 use Rattle.reading.proofs.read_commit.Tie as tie
@@ -26,13 +27,13 @@ enum-told : tie.Need-enum-told
 enum-told c = search needs
 
 returns : tie.Need-returns
-returns c = rw (c .row-commit .ensures, c .before .layout-of .ensures) (reads-row _ (c .before .before .before .before .before .find .ensures) (c .before .before .before .p .given .1))
+returns c = reads-found _ (c .before .before .before .before .before .find .ensures) (c .before .before .before .p .given .1) (rw (sym (c .before .layout-of .ensures)) (c .row-commit .ensures))
 
 returns-2 : tie.Need-returns-2
-returns-2 c = rw (c .body-commit .ensures) (reads-body _ _ (c .before .before .before .before .find .ensures) (c .before .before .start .given .1))
+returns-2 c = reads-found _ (c .before .before .before .before .find .ensures) (c .before .before .start .given .1) (c .body-commit .ensures)
 
 returns-3 : tie.Need-returns-3
-returns-3 c = reads-none (c .before .before .find .ensures) (c .enum-told .given .1)
+returns-3 c = reads-found _ (c .before .before .find .ensures) (c .enum-told .given .1) refl
 
 pub read-commit-spec : {M : Type 1} → statement M
 read-commit-spec =

@@ -4,6 +4,7 @@ use lib.ListN.{set}
 use mir.Syntax.{w64}
 use mir.Facts.{toZ-ofZ}
 use Rattle.walk.specs.Lookup.{worldOf, secondsFor}
+use Rattle.reading.proofs.Tips.{seconds-right}
 use Rattle.refill.proofs.Rereading.{rereads-slot}
 use borrow.Author.Needs.{needs}
 use Rattle.refill.proofs.read_slot.Statement.{statement}
@@ -27,7 +28,7 @@ returns c =
     let x = c .before .before .before .before .before .before .before .before .args in
     let z = s .seconds-for .result .0 in
     rereads-slot (c .before .set-time .ensures ∙ ap (set (x .times .now) (x .slot)) (toZ-ofZ {w = w64} {z = z} (record { sfits = c .before .before .struct-told .given .0 .1 })))
-    (λ o g. s .seconds-for .ensures .right o g ∙ ap (secondsFor (worldOf (x .store .now) g)) (s .before .id-of .ensures))
+    (λ o g. seconds-right (s .seconds-for .ensures) o g ∙ ap (secondsFor (worldOf (x .store .now) g)) (s .before .id-of .ensures))
 
 pub read-slot-spec : {M : Type 1} → statement M
 read-slot-spec =

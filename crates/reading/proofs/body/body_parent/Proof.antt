@@ -1,11 +1,13 @@
 -- `reading::body_parent` meets its contract: parent line k stands at place 46 + 48 k. Assumes nothing.
-use Rattle.reading.proofs.Lines.{gives-body-parent, gives-none}
+use mathlib.Core.Path.{refl}
+use native.Mathlib.Omega.{arith}
+use Rattle.reading.proofs.Lines.{id-near, id-far}
 use borrow.Author.Needs.{needs}
 use Rattle.reading.proofs.body.body_parent.Statement.{statement}
 use Rattle.reading.proofs.body.body_parent.Tie as tie
 
 returns : tie.Need-returns
-returns c = gives-none _ _ _ (c .if1 .taken)
+returns c = id-far _ _ (c .if1 .taken) refl
 
 mul-parent-line : tie.Need-mul-parent-line
 mul-parent-line c = search needs
@@ -17,7 +19,7 @@ parent-line-requires : tie.Need-parent-line-requires
 parent-line-requires c κs = search needs
 
 returns-2 : tie.Need-returns-2
-returns-2 c = gives-body-parent _ _ (c .before .parent-line .ensures)
+returns-2 c = id-near _ _ (omega arith) (c .before .parent-line .ensures)
 
 pub body-parent-spec : {M : Type 1} → statement M
 body-parent-spec =

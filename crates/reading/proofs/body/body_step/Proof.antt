@@ -1,7 +1,7 @@
 -- `reading::body_step` meets its contract: the parent line after k parents is the next one, or the reading ends. Assumes nothing.
 use native.Mathlib.Omega.{arith}
 use borrow.Author.Tests.{not-true, not-false}
-use Rattle.reading.proofs.Lines.{steps-far, steps-end, steps-crowd, steps-parent}
+use Rattle.reading.proofs.Lines.{step-far, step-end, step-crowd, step-parent}
 use borrow.Author.Needs.{needs}
 use Rattle.reading.proofs.body.body_step.Statement.{statement}
 use Rattle.reading.proofs.body.body_step.Tie as tie
@@ -10,7 +10,7 @@ ended-requires : tie.Need-ended-requires
 ended-requires c κs = search needs
 
 returns : tie.Need-returns
-returns c = let x = c .before .before .before .args in steps-far (x .body .now) (x .k) _ (c .before .if1 .taken)
+returns c = let x = c .before .before .before .args in step-far (x .body .now) (x .k) (c .before .if1 .taken) (c .ended .ensures)
 
 mul-at : tie.Need-mul-at
 mul-at c = search needs
@@ -28,16 +28,16 @@ ended-requires-2 : tie.Need-ended-requires-2
 ended-requires-2 c κs = search needs
 
 returns-2 : tie.Need-returns-2
-returns-2 c = let x = c .before .before .before .before .before .before .args in steps-end (x .body .now) (x .k) (c .before .before .before .is-parent-line .ensures) (not-true _ (c .before .before .if2 .taken)) (c .before .end-at .ensures) (c .ended2 .ensures)
+returns-2 c = let x = c .before .before .before .before .before .before .args in step-end (x .body .now) (x .k) (c .before .before .before .is-parent-line .ensures) (omega arith) (not-true _ (c .before .before .if2 .taken)) (c .before .end-at .ensures) (c .ended2 .ensures)
 
 ended-requires-3 : tie.Need-ended-requires-3
 ended-requires-3 c κs = search needs
 
 returns-3 : tie.Need-returns-3
-returns-3 c = let x = c .before .before .before .before .before .before .args in steps-crowd (x .body .now) (x .k) (c .before .before .before .is-parent-line .ensures) (not-false _ (c .before .before .if2 .left)) (c .before .if3 .taken) (c .ended3 .ensures)
+returns-3 c = let x = c .before .before .before .before .before .before .args in step-crowd (x .body .now) (x .k) (c .before .before .before .is-parent-line .ensures) (omega arith) (not-false _ (c .before .before .if2 .left)) (c .before .if3 .taken) (c .ended3 .ensures)
 
 returns-4 : tie.Need-returns-4
-returns-4 c = let x = c .before .before .before .before .before .args in steps-parent (x .body .now) (x .k) (c .before .before .is-parent-line .ensures) (not-false _ (c .before .if2 .left)) (omega arith)
+returns-4 c = let x = c .before .before .before .before .before .args in step-parent (x .body .now) (x .k) (c .before .before .is-parent-line .ensures) (omega arith) (not-false _ (c .before .if2 .left)) (omega arith)
 
 pub body-step-spec : {M : Type 1} → statement M
 body-step-spec =

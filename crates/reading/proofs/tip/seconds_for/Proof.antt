@@ -1,5 +1,6 @@
 -- `reading::seconds_for` meets its contract: the seconds that the store has, else 0. Assumes nothing.
-use Rattle.reading.proofs.Tips.{seconds-good, seconds-missing, seconds-unreadable}
+use mathlib.Core.Path.{refl}
+use Rattle.reading.proofs.Tips.{seconds-read}
 use borrow.Author.Needs.{needs}
 use Rattle.reading.proofs.tip.seconds_for.Statement.{statement}
 use Rattle.reading.proofs.tip.seconds_for.Tie as tie
@@ -17,13 +18,13 @@ enum-told-2 : tie.Need-enum-told-2
 enum-told-2 c = search needs
 
 returns : tie.Need-returns
-returns c = seconds-good (c .before .before .before .read-tip .ensures) _ (c .before .s .given .1)
+returns c = seconds-read (c .before .before .before .read-tip .ensures) (c .before .s .given .1) refl
 
 returns-2 : tie.Need-returns-2
-returns-2 c = seconds-missing (c .before .before .read-tip .ensures) (c .enum-told .given .1)
+returns-2 c = seconds-read (c .before .before .read-tip .ensures) (c .enum-told .given .1) refl
 
 returns-3 : tie.Need-returns-3
-returns-3 c = seconds-unreadable (c .before .before .read-tip .ensures) (c .enum-told2 .given .1)
+returns-3 c = seconds-read (c .before .before .read-tip .ensures) (c .enum-told2 .given .1) refl
 
 pub seconds-for-spec : {M : Type 1} → statement M
 seconds-for-spec =

@@ -2,6 +2,7 @@
 use mathlib.Core.Path.{refl, sym, _∙_, ap}
 use borrow.Author.Tests.{not-true, not-false}
 use Rattle.traverse.specs.Open.{readAs, admissionOf}
+use Rattle.reading.proofs.Tips.{tip-right}
 use borrow.Author.Needs.{needs}
 use Rattle.traverse.proofs.open.tip_admission.Statement.{statement}
 use Rattle.traverse.proofs.open.tip_admission.Tie as tie
@@ -23,7 +24,7 @@ returns-2 : tie.Need-returns-2
 unfolding admissionOf
 returns-2 c =
     let t = c .before .before .before in
-    λ ok graph. rw (sym (t .is-timed .ensures) ∙ not-false (t .is-timed .result) (c .before .before .if1 .left)) (c .read-as .ensures ∙ ap (readAs (t .before .before .before .args .sorting)) (c .before .read-tip .ensures .right ok graph))
+    λ ok graph. rw (sym (t .is-timed .ensures) ∙ not-false (t .is-timed .result) (c .before .before .if1 .left)) (c .read-as .ensures ∙ ap (readAs (t .before .before .before .args .sorting)) (tip-right (c .before .read-tip .ensures) ok graph))
 
 pub tip-admission-spec : {M : Type 1} → statement M
 tip-admission-spec =

@@ -23,7 +23,7 @@ body-step-requires : tie.Need-body-step-requires Inv-loop μ-loop
 body-step-requires c κs = search needs
 
 returns : tie.Need-returns Inv-loop μ-loop
-returns c = all-ended (c .before .before .before .before .loop .inv .1) (c .before .before .body-step .ensures) (not-true (c .before .before .body-step .result .taken) (c .if1 .taken))
+returns c = all-ended _ _ (c .before .before .before .before .loop .inv .1) (c .before .before .body-step .ensures) (not-true (c .before .before .body-step .result .taken) (c .if1 .taken))
 
 add-k : tie.Need-add-k Inv-loop μ-loop
 add-k c = search needs
@@ -32,7 +32,7 @@ loop-less : tie.Need-loop-less Inv-loop μ-loop
 loop-less c = search needs
 
 loop-again : tie.Need-loop-again Inv-loop μ-loop
-loop-again c = (search needs, all-on (c .before .before .before .before .loop .inv .1) (c .before .before .body-step .ensures) (not-false (c .before .before .body-step .result .taken) (c .if1 .left)))
+loop-again c = (search needs, all-on _ _ (c .before .before .before .before .loop .inv .1) (c .before .before .body-step .ensures) (not-false (c .before .before .body-step .result .taken) (c .if1 .left)))
 
 returns-2 : tie.Need-returns-2 Inv-loop μ-loop
 returns-2 c = all-past (c .before .before .before .args .body .now) (c .before .loop .inv .1) (omega (arith, c .loop-test .left))

@@ -8,10 +8,10 @@ body-step-requires : tie.Need-body-step-requires
 body-step-requires c κs = search needs
 
 returns : tie.Need-returns
-returns c = first-taken (c .before .body-step .ensures) (c .if1 .taken)
+returns c = first-taken _ (c .before .body-step .ensures) (c .if1 .taken)
 
 returns-2 : tie.Need-returns-2
-returns-2 c = first-ended (c .before .body-step .ensures) (c .if1 .left)
+returns-2 c = first-ended _ (c .before .body-step .ensures) (c .if1 .left)
 
 pub first-parent-spec : {M : Type 1} → statement M
 first-parent-spec = tie.close (tie.spec body-step-requires returns returns-2)

@@ -1,5 +1,6 @@
 -- `visit::link::visit_stored` meets its contract: the same with the seconds in the store, which are read where the parent is new and do not count elsewhere. Assumes nothing.
 use Rattle.walk.specs.Lookup.{worldOf, secondsFor}
+use Rattle.reading.proofs.Tips.{seconds-right}
 use Rattle.visit.proofs.Links.{visits}
 use borrow.Author.Needs.{needs}
 use Rattle.visit.proofs.link.visit_stored.Statement.{statement}
@@ -30,7 +31,7 @@ returns : tie.Need-returns
 returns c =
     let x = c .before .before .before .before .before .before .before .before .before .before .before .before .before .before .before .before .before .before .before .before .before .args in
     let s = c .before .before .before .before .before .before .new-seconds in
-    record { right = λ ok g. visits (c .before .before .before .before .before .before .before .before .before .before .before .before .see .ensures) (s .result .0) (secondsFor (worldOf (x .store .now) g) (x .id .now)) (λ h j. s .ensures h j .right ok g) (c .before .before .before .enter .ensures) }
+    record { right = λ ok g. visits (c .before .before .before .before .before .before .before .before .before .before .before .before .see .ensures) (s .result .0) (secondsFor (worldOf (x .store .now) g) (x .id .now)) (λ h j. seconds-right (s .ensures h j) ok g) (c .before .before .before .enter .ensures) }
 
 pub visit-stored-spec : {M : Type 1} → statement M
 visit-stored-spec =
