@@ -18,8 +18,8 @@ use Rattle.walk.specs.State.{State}
 use Rattle.walk.specs.Opening.{Input, listIds, distinct, refusal, Opening, closed, opened, openTips, openOr, openWalk}
 use Rattle.walk.specs.Reach.{Mem}
 use Rattle.opening.specs.declared.Checked.the-variants.{Fine, Refused}
-use Rattle.opening.specs.Checks.{checkedBy, firstFault}
-use Rattle.opening.proofs.Tips.{fine-as, open-timed, distinct-fault, no-fault, among-none}
+use Rattle.opening.specs.Checks.{checkedBy}
+use Rattle.opening.proofs.Tips.{firstFault, fine-as, open-timed, distinct-fault, no-fault, among-none}
 
 -- ---- which test decides
 

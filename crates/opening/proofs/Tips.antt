@@ -1,19 +1,20 @@
 -- Refusals 7 and 8: letting the tips in under a time order is closed by the first fault in list order, and by nothing else. A repeated tip
 -- has no fault of its own: had its first place had one, that would have been the first.
 -- Assumes nothing.
-use mathlib.Core.Path.{_≡_, refl, sym, _∙_, ap}
+use mathlib.Core.Path.{_≡_, refl, sym, _∙_, ap, subst}
 use mathlib.Core.Logic.{_⊎_, inl, inr, ⊎-elim}
-use Prim.Native.Nat.{ℕ, _+_, _*_, _<_, _≤_}
+use Prim.Native.Nat.{ℕ}
 use mathlib.Core.Bool.{Bool, true, false, cond}
 use mathlib.Core.Option.{Option, none, some}
 use mathlib.Core.List.{List, [], _∷_, List·Memᴰ·cases-cons, List·Memᴰ·not-nil}
 use native.Mathlib.Omega.{arith}
 use lib.IntN.{ℤ, pos}
-use Rattle.hash.specs.Bytes.{Id, idBytes, at, eqId, among, ifSome}
+use Rattle.hash.specs.Bytes.{Id, eqId, among, ifSome}
 use Rattle.hash.proofs.Tests.{byCases, clash, or-right, no-some}
 use Rattle.hash.proofs.Ids.{eqId-eq}
 use Rattle.object.specs.Header.{Header}
 use Rattle.object.specs.Read.{secondsRead}
+use Rattle.odb.specs.Store.{storeOk}
 use Rattle.walk.specs.declared.Refusal.{Refusal}
 use Rattle.walk.specs.declared.Refusal.the-variants.{TipNotFound, TipUnreadable}
 use Rattle.walk.specs.Settings.{timed, cutoffOf, notBefore}
@@ -23,9 +24,11 @@ use Rattle.walk.specs.Opening.{Input, walkOf, listIds, distinct, Opening, close
 use Rattle.walk.specs.Reach.{Mem}
 use Rattle.opening.specs.declared.Checked.{Checked}
 use Rattle.opening.specs.declared.Checked.the-variants.{Fine, Refused}
-use Rattle.reading.specs.Tip.{tipOf, tipSeconds}
-use Rattle.opening.specs.Checks.{checkedOf, checkedBy, faultOf, faultOr, firstFault}
-use Rattle.opening.proofs.Ids.{idsFrom, ids-next, ids-end}
+use Rattle.reading.specs.Tip.{tipOf, tipSeconds, ReadsTip}
+use Rattle.reading.specs.declared.tip.TipRead.{TipRead}
+use Rattle.reading.specs.declared.tip.TipRead.the-variants.{Good, Missing, Unreadable}
+use Rattle.reading.proofs.Tips.{tip-right}
+use Rattle.opening.specs.Checks.{checkedOf, checkedBy, faultOf, TestsTips, no-tip, skipped, good-tip, at-fault, ChecksTips}
 
 -- ---- answers
 
@@ -38,6 +41,10 @@ fine-as none e = refl
 fine-as (some q) e = let z : _≡_ {A = ℕ} 0 1 = cc in absurd (omega arith)
 
 -- ---- one tip
+
+-- the fault of a tip, by what the store has under it, else rest
+unfoldable pub faultOr : Option Header → Option Refusal → Option Refusal
+faultOr o rest = ifSome o (some TipNotFound) λ h. ifSome (h .seconds) (some TipUnreadable) λ t. rest
 
 -- a tip has a fault, whatever comes after it, or it has seconds and what comes after it decides
 pub fault-cases : (o : Option Header)
@@ -72,6 +79,14 @@ tip-told (some h) = go (h .seconds)
 
 -- ---- the first fault
 
+-- of the tips that are not excluded, in their order
+unfoldable pub firstFault : World → List Id → List Id → Option Refusal
+firstFault w excluded [] = none
+firstFault w excluded (x ∷ xs) =
+    let r : Option Refusal = firstFault w excluded xs in
+    let here : Option Refusal = faultOr (w .store x) r in
+    cond (among x excluded) r here
+
 module _ (w : World) (excluded : List Id) where
   pub skips : (x : Id) (xs : List Id) → among x excluded ≡ true → firstFault w excluded (x ∷ xs) ≡ firstFault w excluded xs
   unfolding firstFault
@@ -84,35 +99,6 @@ module _ (w : World) (excluded : List Id) where
   pub no-tips : firstFault w excluded [] ≡ none
   unfolding firstFault
   no-tips = refl
-
-  pub one-skipped : (x : Id) → among x excluded ≡ true → firstFault w excluded (x ∷ []) ≡ none
-  one-skipped x h = skips x [] h ∙ no-tips
-
-  pub one-read : (x : Id) → among x excluded ≡ false → firstFault w excluded (x ∷ []) ≡ faultOr (w .store x) none
-  one-read x h = reads x [] h ∙ ap (faultOr (w .store x)) no-tips
-
-  first-some : (x : Id) (xs : List Id) {r : Refusal} → firstFault w excluded (x ∷ []) ≡ some r → firstFault w excluded (x ∷ xs) ≡ some r
-  first-some x xs e =
-      byCases (among x excluded)
-      (λ h. no-some (sym (one-skipped x h) ∙ e))
-      (λ h. reads x xs h ∙ fault-some (w .store x) (sym (one-read x h) ∙ e) (firstFault w excluded xs))
-
-  first-none : (x : Id) (xs : List Id) → firstFault w excluded (x ∷ []) ≡ none → firstFault w excluded (x ∷ xs) ≡ firstFault w excluded xs
-  first-none x xs e =
-      byCases (among x excluded)
-      (λ h. skips x xs h)
-      (λ h. reads x xs h ∙ fault-none (w .store x) (sym (one-read x h) ∙ e) (firstFault w excluded xs))
-
-  -- a place of a list of tips
-  module _ (b : List ℕ) (n k : ℕ) where
-    pub place-fault : k < n → {r : Refusal} → firstFault w excluded (at b (idBytes * k) idBytes ∷ []) ≡ some r → firstFault w excluded (idsFrom n k b) ≡ some r
-    place-fault h e = ap (firstFault w excluded) (ids-next b n k h) ∙ first-some _ _ e
-
-    pub place-fine : k < n → firstFault w excluded (at b (idBytes * k) idBytes ∷ []) ≡ none → firstFault w excluded (idsFrom n k b) ≡ firstFault w excluded (idsFrom n (k + 1) b)
-    place-fine h e = ap (firstFault w excluded) (ids-next b n k h) ∙ first-none _ _ e
-
-    pub place-end : n ≤ k → firstFault w excluded (idsFrom n k b) ≡ none
-    place-end h = ap (firstFault w excluded) (ids-end b n k h) ∙ no-tips
 
   -- no fault: every tip that is not excluded has seconds in the store
   pub no-fault : (xs : List Id) → firstFault w excluded xs ≡ none → (x : Id) → Mem x xs → among x excluded ≡ false → (t : ℤ) × (storeSeconds w x ≡ some t)
@@ -128,6 +114,44 @@ module _ (w : World) (excluded : List Id) where
       (λ k. no-fault ys (sym (reads y ys h ∙ f .2 (firstFault w excluded ys)) ∙ e) x k a)
       (List·Memᴰ·cases-cons m))
       (fault-cases (w .store y)))
+
+-- ---- the tips as they are read, on any bytes
+
+module _ {s : List ℕ} {excluded : List Id} {x : Id} where
+  pub one-skipped : among x excluded ≡ true → TestsTips s excluded (x ∷ []) Fine
+  one-skipped a = skipped a no-tip
+
+  pub one-read : {q : TipRead} {c : Checked} → among x excluded ≡ false → ReadsTip s x q → c ≡ faultOf q → TestsTips s excluded (x ∷ []) c
+  one-read {q} a k e = subst (TestsTips s excluded (x ∷ [])) (sym e) (go q k)
+    where
+      go : (q : TipRead) → ReadsTip s x q → TestsTips s excluded (x ∷ []) (faultOf q)
+      go (Good t) k = good-tip a k refl no-tip
+      go Missing k = at-fault a k refl
+      go Unreadable k = at-fault a k refl
+
+  -- a fault decides, whatever comes after it; and a tip without one leaves it to those after it
+  pub one-refused : (xs : List Id) {c : Checked} {w : Refusal} → TestsTips s excluded (x ∷ []) c → c ≡ Refused w → TestsTips s excluded (x ∷ xs) (Refused w)
+  one-refused xs (skipped a no-tip) i = let z : _≡_ {A = ℕ} 0 1 = cc in absurd (omega arith)
+  one-refused xs (good-tip a k f no-tip) i = let z : _≡_ {A = ℕ} 0 1 = cc in absurd (omega arith)
+  one-refused xs (at-fault a k f) i = subst (TestsTips s excluded (x ∷ xs)) i (at-fault a k f)
+
+  pub one-fine : {xs : List Id} {c r : Checked} → TestsTips s excluded (x ∷ []) c → c ≡ Fine → TestsTips s excluded xs r → TestsTips s excluded (x ∷ xs) r
+  one-fine (skipped a no-tip) i t = skipped a t
+  one-fine (good-tip a k f no-tip) i t = good-tip a k f t
+  one-fine (at-fault a k f) i t = let z : _≡_ {A = ℕ} 0 1 = cc in absurd (omega arith)
+
+-- in a good store they come to the first fault that the walk's world has
+pub tests-right : {s : List ℕ} {excluded xs : List Id} {r : Checked} → TestsTips s excluded xs r → storeOk s ≡ true → (g : List ℕ) → r ≡ checkedOf (firstFault (worldOf s g) excluded xs)
+tests-right {s} {excluded} no-tip ok g = sym (ap checkedOf (no-tips (worldOf s g) excluded))
+tests-right {s} {excluded} (skipped {x = x} {xs = xs} a t) ok g = tests-right t ok g ∙ sym (ap checkedOf (skips (worldOf s g) excluded x xs a))
+tests-right {s} {excluded} (good-tip {x = x} {xs = xs} a k f t) ok g =
+    let w = worldOf s g in
+    let n : faultOr (w .store x) none ≡ none = fine-as (faultOr (w .store x) none) (sym f ∙ ap faultOf (tip-right k ok g) ∙ tip-told (w .store x)) in
+    tests-right t ok g ∙ sym (ap checkedOf (reads w excluded x xs a ∙ fault-none (w .store x) n (firstFault w excluded xs)))
+tests-right {s} {excluded} (at-fault {x = x} {xs = xs} {w = v} a k f) ok g =
+    let w = worldOf s g in
+    let n : faultOr (w .store x) none ≡ some v = refused-as (faultOr (w .store x) none) (sym f ∙ ap faultOf (tip-right k ok g) ∙ tip-told (w .store x)) in
+    sym (ap checkedOf (reads w excluded x xs a ∙ fault-some (w .store x) n (firstFault w excluded xs)))
 
 -- ---- repeats
 
@@ -193,3 +217,10 @@ module _ (i : Input) where
   pub open-untimed : timed (i .settings .sorting) ≡ false → checkedBy (openTips i true) ≡ Fine
   unfolding openTips walkOf
   open-untimed t = tips-untimed (walkOf i) t (distinct [] (listIds (i .excluded)) (listIds (i .tips))) emptyState
+
+-- what `check_tips` answers, in a good store
+pub tips-right : {r : Checked} (i : Input) → ChecksTips (i .store) (i .tips) (i .excluded) (i .settings .sorting) r → storeOk (i .store) ≡ true → r ≡ checkedBy (openTips i true)
+tips-right i k ok =
+    byCases (timed (i .settings .sorting))
+    (λ t. tests-right (k .by-time t) ok (i .graph) ∙ sym (open-timed i t))
+    (λ t. k .untimed t ∙ sym (open-untimed i t))

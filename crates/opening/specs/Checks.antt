@@ -1,18 +1,20 @@
 -- What the tests of an opening answer, in the words of the walk's opening.
 -- Assumes nothing.
 use Prim.Native.Nat.{ℕ}
-use mathlib.Core.Bool.{cond}
+use mathlib.Core.Path.{_≡_}
+use mathlib.Core.Bool.{true, false}
 use mathlib.Core.Option.{Option, none, some}
 use mathlib.Core.List.{List, [], _∷_}
-use Rattle.hash.specs.Bytes.{Id, among, ifSome}
-use Rattle.object.specs.Header.{Header}
+use Rattle.hash.specs.Bytes.{Id, among}
 use Rattle.walk.specs.declared.Settings.{Settings}
+use Rattle.walk.specs.declared.Sorting.{Sorting}
 use Rattle.walk.specs.declared.Refusal.{Refusal}
 use Rattle.walk.specs.declared.Refusal.the-variants.{TipNotFound, TipUnreadable}
-use Rattle.walk.specs.Lookup.{World}
-use Rattle.walk.specs.Opening.{Input, Lengths, Opening, closed, opened}
+use Rattle.walk.specs.Settings.{timed}
+use Rattle.walk.specs.Opening.{Input, Lengths, listIds, Opening, closed, opened}
 use Rattle.reading.specs.declared.tip.TipRead.{TipRead}
 use Rattle.reading.specs.declared.tip.TipRead.the-variants.{Good, Missing, Unreadable}
+use Rattle.reading.specs.Tip.{ReadsTip}
 use Rattle.opening.specs.declared.Checked.{Checked}
 use Rattle.opening.specs.declared.Checked.the-variants.{Fine, Refused}
 
@@ -53,14 +55,15 @@ faultOf (Good t) = Fine
 faultOf Missing = Refused TipNotFound
 faultOf Unreadable = Refused TipUnreadable
 
--- 7: "time order, tip not in the book", 8: "its header not good through committer"; of a tip, by what the store has under it, else rest
-unfoldable pub faultOr : Option Header → Option Refusal → Option Refusal
-faultOr o rest = ifSome o (some TipNotFound) λ h. ifSome (h .seconds) (some TipUnreadable) λ t. rest
+-- 7: "time order, tip not in the book", 8: "its header not good through committer"; "the first tip at fault in list order decides which": what
+-- the tips come to in their order, read from any bytes as a store; excluded ones are not read
+pub data TestsTips (s : List ℕ) (excluded : List Id) : List Id → Checked → Type 0 where
+  no-tip : TestsTips s excluded [] Fine
+  skipped : {x : Id} {xs : List Id} {r : Checked} → among x excluded ≡ true → TestsTips s excluded xs r → TestsTips s excluded (x ∷ xs) r
+  good-tip : {x : Id} {xs : List Id} {r : Checked} {q : TipRead} → among x excluded ≡ false → ReadsTip s x q → faultOf q ≡ Fine → TestsTips s excluded xs r → TestsTips s excluded (x ∷ xs) r
+  at-fault : {x : Id} {xs : List Id} {q : TipRead} {w : Refusal} → among x excluded ≡ false → ReadsTip s x q → faultOf q ≡ Refused w → TestsTips s excluded (x ∷ xs) (Refused w)
 
--- "the first tip at fault in list order decides which"; excluded tips are not read
-unfoldable pub firstFault : World → List Id → List Id → Option Refusal
-firstFault w excluded [] = none
-firstFault w excluded (x ∷ xs) =
-    let r : Option Refusal = firstFault w excluded xs in
-    let here : Option Refusal = faultOr (w .store x) r in
-    cond (among x excluded) r here
+-- what `check_tips` answers: in breadth order no tip is read
+pub record ChecksTips (s tips excluded : List ℕ) (o : Sorting) (r : Checked) : Type 0 where
+  pub untimed : timed o ≡ false → r ≡ Fine
+  pub by-time : timed o ≡ true → TestsTips s (listIds excluded) (listIds tips) r

@@ -5,18 +5,15 @@ use walk::Refusal;
 use walk::Settings;
 use walk::Sorting;
 ghost use mathlib.Core.Path.{_≡_};
-ghost use mathlib.Core.Bool.{true};
 ghost use mathlib.Core.List.{List, [], _∷_};
 ghost use mathlib.Core.Option.{none};
 ghost use Prim.Native.Nat.{ℕ, _%_};
 ghost use lib.Dec.{eqb};
 ghost use lib.ListN.{length};
 ghost use Rattle.hash.specs.Bytes.{idBytes};
-ghost use Rattle.odb.specs.Store.{storeOk};
 ghost use Rattle.walk.specs.Settings.{timed};
-ghost use Rattle.walk.specs.Lookup.{worldOf};
-ghost use Rattle.walk.specs.Opening.{Input, listIds, P, sizesOk, wholeIds, refusal, roomFor, openTips, openWalk};
-ghost use Rattle.opening.specs.Checks.{inputOf, lengthsOf, checkedOf, checkedBy, faultOf, firstFault};
+ghost use Rattle.walk.specs.Opening.{Input, listIds, P, sizesOk, wholeIds, refusal, roomFor, openWalk};
+ghost use Rattle.opening.specs.Checks.{inputOf, lengthsOf, checkedOf, checkedBy, faultOf, TestsTips, ChecksTips};
 
 // What a test of an opening gives: no fault, or the refusal of the first fault.
 pub enum Checked {
@@ -160,7 +157,7 @@ fn tip_fault(read: TipRead) -> Checked
 
 // The same of a tip in the store; one that is excluded is not read.
 fn check_tip(store: &[u8], excluded: &[u8], id: &[u8]) -> Checked
-    ensures { λ r. ⌜ (storeOk (now (store .entry)) ≡ true → (graph : List ℕ) → r ≡ checkedOf (firstFault (worldOf (now (store .entry)) graph) (listIds (now (excluded .entry))) (now (id .entry) ∷ []))) ⌝ }
+    ensures { λ r. ⌜ TestsTips (now (store .entry)) (listIds (now (excluded .entry))) (now (id .entry) ∷ []) r ⌝ }
 {
     if reading::is_among(excluded, id) {
         return Checked::Fine;
@@ -170,7 +167,7 @@ fn check_tip(store: &[u8], excluded: &[u8], id: &[u8]) -> Checked
 
 // The first fault of the tips, in list order. A repeated tip has the fault of its first place.
 fn read_tips(store: &[u8], tips: &[u8], excluded: &[u8]) -> Checked
-    ensures { λ r. ⌜ (storeOk (now (store .entry)) ≡ true → (graph : List ℕ) → r ≡ checkedOf (firstFault (worldOf (now (store .entry)) graph) (listIds (now (excluded .entry))) (listIds (now (tips .entry))))) ⌝ }
+    ensures { λ r. ⌜ TestsTips (now (store .entry)) (listIds (now (excluded .entry))) (listIds (now (tips .entry))) r ⌝ }
 {
     let n = tips.len() / hash::ID_BYTES;
     let mut k = 0;
@@ -199,7 +196,7 @@ fn is_timed(sorting: Sorting) -> bool
 
 // Refusals 7 and 8: under a time order each tip that is not excluded is in the store, with a header that is good through committer.
 pub fn check_tips(store: &[u8], tips: &[u8], excluded: &[u8], sorting: Sorting) -> Checked
-    ensures { λ r. ⌜ (storeOk (now (store .entry)) ≡ true → (graph hidden : List ℕ) (s : Settings) → s .sorting ≡ sorting → r ≡ checkedBy (openTips (inputOf (now (store .entry)) graph (now (tips .entry)) hidden (now (excluded .entry)) s) true)) ⌝ }
+    ensures { λ r. ⌜ ChecksTips (now (store .entry)) (now (tips .entry)) (now (excluded .entry)) sorting r ⌝ }
 {
     if !is_timed(sorting) {
         return Checked::Fine;

@@ -5,7 +5,7 @@ use borrow.Author.Needs.{needs}
 use Rattle.walk.specs.Opening.{Input, Lengths, refusal, roomFor}
 use Rattle.opening.specs.Checks.{inputOf, lengthsOf, checkedBy}
 use Rattle.opening.proofs.Input.{passes}
-use Rattle.opening.proofs.Tips.{refused-as, fine-as}
+use Rattle.opening.proofs.Tips.{refused-as, fine-as, tips-right}
 use Rattle.opening.proofs.Opened.{open-refused, open-short, open-roomy}
 use Rattle.opening.proofs.check.Statement.{statement}
 use Rattle.opening.proofs.check.Tie as tie
@@ -53,7 +53,7 @@ returns-2 : tie.Need-returns-2
 returns-2 c =
     let b = c .before .before .before .before .before .before .before .before .before .before .before .before in
     let a = accepted (c .before .before .before .before) in
-    c .check-tips .ensures (passes (lent b) a .store-good) (b .args .graph .now) (b .args .hidden .now) (b .args .settings) refl
+    tips-right (lent b) (c .check-tips .ensures) (passes (lent b) a .store-good)
     ∙ sym (ap checkedBy (open-roomy (lent b) (roomFor (lent b) (lengths b)) a (sym (room-said (c .before .before)) ∙ c .before .if1 .taken)))
 
 returns-3 : tie.Need-returns-3

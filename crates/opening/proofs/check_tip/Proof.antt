@@ -1,9 +1,6 @@
 -- `opening::check_tip` meets its contract: an excluded tip is passed over, any other is read. Assumes nothing.
-use mathlib.Core.Path.{sym, _∙_, ap}
-use Rattle.walk.specs.Lookup.{worldOf}
-use Rattle.walk.specs.Opening.{listIds}
-use Rattle.opening.specs.Checks.{checkedOf, faultOf}
-use Rattle.opening.proofs.Tips.{one-skipped, one-read, tip-told}
+use mathlib.Core.Path.{sym, _∙_}
+use Rattle.opening.proofs.Tips.{one-skipped, one-read}
 use borrow.Author.Needs.{needs}
 use Rattle.opening.proofs.check_tip.Statement.{statement}
 use Rattle.opening.proofs.check_tip.Tie as tie
@@ -12,8 +9,7 @@ is-among-requires : tie.Need-is-among-requires
 is-among-requires c κs = search needs
 
 returns : tie.Need-returns
-returns c = let x = c .before .before .before .before .before .args in
-    λ ok graph. sym (ap checkedOf (one-skipped (worldOf (x .store .now) graph) (listIds (x .excluded .now)) (x .id .now) (sym (c .before .is-among .ensures) ∙ c .if1 .taken)))
+returns c = one-skipped (sym (c .before .is-among .ensures) ∙ c .if1 .taken)
 
 read-tip-requires : tie.Need-read-tip-requires
 read-tip-requires c κs = search needs
@@ -22,12 +18,7 @@ tip-fault-requires : tie.Need-tip-fault-requires
 tip-fault-requires c κs = search needs
 
 returns-2 : tie.Need-returns-2
-returns-2 c =
-    let x = c .before .before .before .before .before .before .before .args in
-    let l = listIds (x .excluded .now) in
-    λ ok graph.
-    c .tip-fault .ensures ∙ ap faultOf (c .before .read-tip .ensures .right ok graph) ∙ tip-told (worldOf (x .store .now) graph .store (x .id .now))
-    ∙ sym (ap checkedOf (one-read (worldOf (x .store .now) graph) l (x .id .now) (sym (c .before .before .before .is-among .ensures) ∙ c .before .before .if1 .left)))
+returns-2 c = one-read (sym (c .before .before .before .is-among .ensures) ∙ c .before .before .if1 .left) (c .before .read-tip .ensures) (c .tip-fault .ensures)
 
 pub check-tip-spec : {M : Type 1} → statement M
 check-tip-spec =

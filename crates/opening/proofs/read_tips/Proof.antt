@@ -1,16 +1,15 @@
--- `opening::read_tips` meets its contract: the tips before place k have no fault, so the first fault is the first from k on. Assumes
--- nothing.
-use mathlib.Core.Path.{_≡_, refl, sym, _∙_, ap}
-use mathlib.Core.Bool.{true}
+-- `opening::read_tips` meets its contract: what the tips from place k on come to, all of them come to. Assumes nothing.
+use mathlib.Core.Path.{_≡_, refl, sym, subst}
 use mathlib.Core.List.{List}
-use Prim.Native.Nat.{ℕ, _≤_, _-_, _/_}
+use Prim.Native.Nat.{_≤_, _-_, _/_}
 use lib.ListN.{length}
-use Rattle.odb.specs.Store.{storeOk}
-use Rattle.walk.specs.Lookup.{worldOf}
+use Rattle.hash.specs.Bytes.{Id}
 use Rattle.walk.specs.Opening.{listIds}
-use Rattle.opening.specs.Checks.{checkedOf, firstFault}
-use Rattle.opening.proofs.Ids.{idsFrom, ids-start}
-use Rattle.opening.proofs.Tips.{refused-as, fine-as, place-fault, place-fine, place-end}
+use Rattle.opening.specs.declared.Checked.{Checked}
+use Rattle.opening.specs.declared.Checked.the-variants.{Fine, Refused}
+use Rattle.opening.specs.Checks.{TestsTips, no-tip}
+use Rattle.opening.proofs.Ids.{idsFrom, ids-start, ids-next, ids-end}
+use Rattle.opening.proofs.Tips.{one-refused, one-fine}
 use borrow.Author.Needs.{needs}
 use Rattle.opening.proofs.read_tips.Statement.{statement}
 use Rattle.opening.proofs.read_tips.Tie as tie
@@ -18,14 +17,14 @@ use Rattle.opening.proofs.read_tips.Tie as tie
 abbrev Inv-loop : tie.InvT-loop
 Inv-loop store tips excluded n k₀ k =
     (k ≤ n) × (n ≡ length tips / 20)
-    × (storeOk store ≡ true → (graph : List ℕ) → firstFault (worldOf store graph) (listIds excluded) (listIds tips) ≡ firstFault (worldOf store graph) (listIds excluded) (idsFrom n k tips))
+    × ((r : Checked) → TestsTips store (listIds excluded) (idsFrom n k tips) r → TestsTips store (listIds excluded) (listIds tips) r)
 
 abbrev μ-loop : tie.MeasureT-loop
 μ-loop store tips excluded n k₀ k = n - k
 
 loop-holds : tie.Need-loop-holds Inv-loop μ-loop
 loop-holds c = let x = c .before .before .before .args in
-    (search needs, refl, λ ok graph. ap (firstFault (worldOf (x .store .now) graph) (listIds (x .excluded .now))) (sym (ids-start (x .tips .now))))
+    (search needs, refl, λ r t. subst (λ (l : List Id). TestsTips (x .store .now) (listIds (x .excluded .now)) l r) (ids-start (x .tips .now)) t)
 
 mul-id-at : tie.Need-mul-id-at Inv-loop μ-loop
 mul-id-at c = search needs
@@ -40,9 +39,12 @@ enum-known-r : tie.Need-enum-known-r Inv-loop μ-loop
 enum-known-r c = search needs
 
 returns : tie.Need-returns Inv-loop μ-loop
-returns c = let x = c .before .before .before .before .before .before .before .before .before .before .args in
-    λ ok graph. sym (ap checkedOf (c .before .before .before .before .before .before .loop .inv .2 ok graph ∙ place-fault (worldOf (x .store .now) graph) (listIds (x .excluded .now)) (x .tips .now) (length (x .tips .now) / 20) (c .before .before .before .before .before .before .loop .k) (c .before .before .before .before .before .loop-test .taken)
-    (refused-as _ (sym (c .before .r .given .1) ∙ rw (c .before .before .before .before .id-at .ensures) at (c .before .before .before .check-tip .ensures ok graph)))))
+returns c =
+    let x = c .before .before .before .before .before .before .before .before .before .before .args in
+    let l = c .before .before .before .before .before .before in
+    let one = rw (c .before .before .before .before .id-at .ensures) at (c .before .before .before .check-tip .ensures) in
+    l .loop .inv .2 _ (subst (λ (ids : List Id). TestsTips (x .store .now) (listIds (x .excluded .now)) ids (Refused (c .before .r .given .0 .0))) (sym (ids-next (x .tips .now) (length (x .tips .now) / 20) (l .loop .k) (c .before .before .before .before .before .loop-test .taken)))
+    (one-refused _ one (c .before .r .given .1)))
 
 enum-told : tie.Need-enum-told Inv-loop μ-loop
 enum-told c = search needs
@@ -54,16 +56,20 @@ loop-less : tie.Need-loop-less Inv-loop μ-loop
 loop-less c = search needs
 
 loop-again : tie.Need-loop-again Inv-loop μ-loop
-loop-again c = let x = c .before .before .before .before .before .before .before .before .before .args in (
-  search needs,
-  refl,
-  λ ok graph. c .before .before .before .before .before .loop .inv .2 ok graph ∙ place-fine (worldOf (x .store .now) graph) (listIds (x .excluded .now)) (x .tips .now) (length (x .tips .now) / 20) (c .before .before .before .before .before .loop .k) (c .before .before .before .before .loop-test .taken)
-      (fine-as _ (sym (c .enum-told .given .1) ∙ rw (c .before .before .before .id-at .ensures) at (c .before .before .check-tip .ensures ok graph))),
-)
+loop-again c =
+    let x = c .before .before .before .before .before .before .before .before .before .args in
+    let l = c .before .before .before .before .before in
+    let one = rw (c .before .before .before .id-at .ensures) at (c .before .before .check-tip .ensures) in (
+      search needs,
+      refl,
+      λ r t. l .loop .inv .2 r (subst (λ (ids : List Id). TestsTips (x .store .now) (listIds (x .excluded .now)) ids r) (sym (ids-next (x .tips .now) (length (x .tips .now) / 20) (l .loop .k) (c .before .before .before .before .loop-test .taken)))
+          (one-fine one (c .enum-told .given .1) t)),
+    )
 
 returns-2 : tie.Need-returns-2 Inv-loop μ-loop
-returns-2 c = let x = c .before .before .before .before .before .args in
-    λ ok graph. sym (ap checkedOf (c .before .loop .inv .2 ok graph ∙ place-end (worldOf (x .store .now) graph) (listIds (x .excluded .now)) (x .tips .now) (length (x .tips .now) / 20) (c .before .loop .k) (search needs)))
+returns-2 c =
+    let x = c .before .before .before .before .before .args in
+    c .before .loop .inv .2 _ (subst (λ (ids : List Id). TestsTips (x .store .now) (listIds (x .excluded .now)) ids Fine) (sym (ids-end (x .tips .now) (length (x .tips .now) / 20) (c .before .loop .k) (search needs))) no-tip)
 
 pub read-tips-spec : {M : Type 1} → statement M
 read-tips-spec =
