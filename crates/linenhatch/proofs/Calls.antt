@@ -4,43 +4,21 @@ use mathlib.Core.Path.{_≡_, refl, sym, _∙_, ap, subst}
 use Prim.Native.Nat.{ℕ, _≤_}
 use mathlib.Core.Bool.{Bool, true, false, _&&_}
 use mathlib.Core.List.{List}
-use native.Mathlib.Omega.{arith}
 use lib.ListN.{length}
 use lib.Dec.{eqb, leb}
 use lib.IntN.{ℤ}
 use borrow.Author.Tests.{leb-true, eqb-true}
 use Rattle.hash.specs.Bytes.{idBytes}
 use Rattle.hash.proofs.Tests.{byCases, clash, and-first}
-use Rattle.walk.specs.declared.Refusal.{Refusal}
-use Rattle.walk.specs.declared.Refusal.the-variants.{BufferTooSmall, InputTooLarge, PartialId, CorruptStore, UnknownGraph, CorruptGraph, TipNotFound, TipUnreadable, CommitNotFound, CommitUnreadable, TooManyParents, Closed}
-use Rattle.walk.specs.declared.Outcome.{Outcome}
-use Rattle.walk.specs.declared.Outcome.the-variants.{Commit, End, Refused}
-use Rattle.walk.specs.Refusals.{numberOf}
+use Rattle.walk.specs.declared.Refusal.the-variants.{Closed}
+use Rattle.walk.specs.declared.Outcome.the-variants.{Refused}
+use Rattle.walk.proofs.Outcomes.{outcome-number-own}
 use Rattle.state.specs.declared.Record.{Record}
 use Rattle.traverse.specs.declared.Out.{Out}
 use Rattle.traverse.specs.Contract.{Files, Lent, NextSays}
 use Rattle.wire.specs.Words.{recordOf, roomToCall, PutsRecord}
-use Rattle.wire.specs.Numbers.{callNumber, PutsAnswer}
+use Rattle.wire.specs.Numbers.{noRoom, PutsAnswer}
 use Rattle.linenhatch.specs.Library.{Made, LibraryNext}
-
-twelve-is : (r : Refusal) → numberOf r ≡ 12 → r ≡ Closed
-twelve-is BufferTooSmall h = absurd (omega arith)
-twelve-is InputTooLarge h = absurd (omega arith)
-twelve-is PartialId h = absurd (omega arith)
-twelve-is CorruptStore h = absurd (omega arith)
-twelve-is UnknownGraph h = absurd (omega arith)
-twelve-is CorruptGraph h = absurd (omega arith)
-twelve-is TipNotFound h = absurd (omega arith)
-twelve-is TipUnreadable h = absurd (omega arith)
-twelve-is CommitNotFound h = absurd (omega arith)
-twelve-is CommitUnreadable h = absurd (omega arith)
-twelve-is TooManyParents h = absurd (omega arith)
-twelve-is Closed h = refl
-
-pub twelve-closed : (o : Outcome) → callNumber o ≡ 12 → o ≡ Refused Closed
-twelve-closed Commit h = absurd (omega arith)
-twelve-closed End h = absurd (omega arith)
-twelve-closed (Refused r) h = ap Refused (twelve-is r h)
 
 long-words : (words id numbers : List ℕ) (seconds : List ℤ) → roomToCall words id numbers seconds ≡ true → 12 ≤ length words
 unfolding roomToCall
@@ -51,7 +29,7 @@ long-words words id numbers seconds h =
     leb-true 12 (length words) (and-first a b (and-first (a && b) d (and-first (a && b && d) (leb 1 (length seconds)) h)))
 
 pub no-room-says : (f : Files) (m : Lent) (words id numbers : List ℕ) (seconds : List ℤ) {b : Bool} → b ≡ roomToCall words id numbers seconds → b ≡ false
-    → LibraryNext f m m words words id id numbers numbers seconds seconds 1
+    → LibraryNext f m m words words id id numbers numbers seconds seconds noRoom
 no-room-says f m words id numbers seconds r h = record {
   no-room = λ g. (refl, record { same-memory = refl; same-words = refl; same-id = refl; same-numbers = refl; same-seconds = refl });
   made = λ g. clash (r ∙ g) h;
@@ -64,7 +42,7 @@ given-back {words = words} {n = n} {o = o} l s a w =
     byCases (eqb n 12)
     (λ t.
     let same = w .is ∙ rw t in
-    let c = twelve-closed (o .answer .outcome) (sym (a .result) ∙ eqb-true n 12 t) in
+    let c = outcome-number-own (o .answer .outcome) (Refused Closed) (sym (a .result) ∙ eqb-true n 12 t) in
     ap recordOf same ∙ sym (s .twelve c .0))
     (λ t. w .back t l)
 

@@ -1,3 +1,4 @@
 pub mod Opens
 pub mod Calls
+pub mod Behind
 pub mod Listing

@@ -6,16 +6,14 @@ use mathlib.Core.Bool.{true, false}
 use mathlib.Core.List.{List}
 use lib.IntN.{ℤ}
 use Rattle.hash.specs.Bytes.{setDown}
-use Rattle.walk.specs.declared.Refusal.the-variants.{BufferTooSmall}
 use Rattle.walk.specs.declared.OpenAnswer.{OpenAnswer}
-use Rattle.walk.specs.Refusals.{numberOf}
 use Rattle.walk.specs.Opening.{Input, roomFor, openWalk}
 use Rattle.walk.specs.Given.{openNumber, openGiven}
 use Rattle.traverse.specs.declared.Opened.{Opened}
 use Rattle.traverse.specs.declared.Out.{Out}
 use Rattle.traverse.specs.Contract.{Files, Lent, lengthsOf, OpenSays, NextSays}
 use Rattle.wire.specs.Words.{wordsOf, wordsAfter, recordOf, openWords, roomToOpen, roomToCall}
-use Rattle.wire.specs.Numbers.{PutsAnswer}
+use Rattle.wire.specs.Numbers.{noRoom, PutsAnswer}
 
 -- ---- an opening
 
@@ -32,10 +30,10 @@ pub record Tried (i : Input) (m m′ : Lent) (words words′ numbers numbers′ 
   pub words-are : words′ ≡ setDown words 0 (wordsOf (out .record))
   pub record-is : recordOf words′ ≡ out .record
 
--- linenhatch_open, with its result n. Where the record or the numbers have no room it is "short memory", before all other tests, and
--- nothing is altered
+-- linenhatch_open, with its result n. Where the record or the numbers have no room that is said before all else, by a number that no
+-- opening's outcome has, and nothing is altered
 pub record LibraryOpens (i : Input) (m m′ : Lent) (words words′ numbers numbers′ : List ℕ) (n : ℕ) : Type 0 where
-  pub no-room : roomToOpen words numbers ≡ false → (n ≡ numberOf BufferTooSmall) × (m′ ≡ m) × (words′ ≡ words) × (numbers′ ≡ numbers)
+  pub no-room : roomToOpen words numbers ≡ false → (n ≡ noRoom) × (m′ ≡ m) × (words′ ≡ words) × (numbers′ ≡ numbers)
   pub tried : roomToOpen words numbers ≡ true → Tried i m m′ words words′ numbers numbers′ n
 
 -- ---- a next call
@@ -57,8 +55,8 @@ pub record AsLent (m m′ : Lent) (words words′ id id′ numbers numbers′ : 
   pub same-numbers : numbers′ ≡ numbers
   pub same-seconds : seconds′ ≡ seconds
 
--- linenhatch_next, with its result n. Where the record or the answer has no room it is "short memory", no call is made and nothing is
--- altered
+-- linenhatch_next, with its result n. Where the record or the answer has no room that is said before all else, by a number that no call's
+-- outcome has: no call is made, and nothing is altered
 pub record LibraryNext (f : Files) (m m′ : Lent) (words words′ id id′ numbers numbers′ : List ℕ) (seconds seconds′ : List ℤ) (n : ℕ) : Type 0 where
-  pub no-room : roomToCall words id numbers seconds ≡ false → (n ≡ numberOf BufferTooSmall) × AsLent m m′ words words′ id id′ numbers numbers′ seconds seconds′
+  pub no-room : roomToCall words id numbers seconds ≡ false → (n ≡ noRoom) × AsLent m m′ words words′ id id′ numbers numbers′ seconds seconds′
   pub made : roomToCall words id numbers seconds ≡ true → Made f m m′ words words′ id id′ numbers numbers′ seconds seconds′ n

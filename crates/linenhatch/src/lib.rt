@@ -20,7 +20,7 @@ pub extern "C" fn linenhatch_places(store: &[u8], graph: &[u8], tips: &[u8], hid
 }
 
 // Opens a walk. The result is 0 where it is accepted, else document 01's number of the refusal; the record's words and the walk's running
-// numbers are set down in every case, but where there is no room for them: that is refusal 1, before all other tests, and nothing is
+// numbers are set down in every case, but where there is no room for them: then the result is 101, before all other tests, and nothing is
 // altered.
 #[no_mangle]
 pub extern "C" fn linenhatch_open(
@@ -45,7 +45,7 @@ pub extern "C" fn linenhatch_open(
     ensures { λ n. ⌜ LibraryOpens (inputOf (now (store .entry)) (now (graph .entry)) (now (tips .entry)) (now (hidden .entry)) (now (excluded .entry)) (settingsOf sorting limited cutoff first)) (lentOf (now (names .entry)) (now (marks .entry)) (now (levels .entry)) (now (times .entry)) (now (line .entry)) (now (parents .entry))) (lentOf (now (names .exit)) (now (marks .exit)) (now (levels .exit)) (now (times .exit)) (now (line .exit)) (now (parents .exit))) (now (words .entry)) (now (words .exit)) (now (numbers .entry)) (now (numbers .exit)) n ⌝ }
 {
     if !wire::can_open(words, numbers) {
-        return 1;
+        return wire::NO_ROOM;
     }
     let settings = wire::settings_of(sorting, limited, cutoff, first);
     let o = traverse::open::open(
@@ -68,7 +68,7 @@ pub extern "C" fn linenhatch_open(
 
 // One call: the result is 0 where a commit is handed out, 100 at the end, else document 01's number of the refusal. The answer stands in
 // id, numbers, seconds and the start of parents, and the words are those of the record for the next call; after refusal 12 they are as they
-// were. Where there is no room for the record or the answer that is refusal 1: no call is made, and nothing is altered.
+// were. Where there is no room for the record or the answer the result is 101: no call is made, and nothing is altered.
 #[no_mangle]
 pub extern "C" fn linenhatch_next(
     words: &mut [u64],
@@ -93,11 +93,11 @@ pub extern "C" fn linenhatch_next(
     ensures { λ n. ⌜ LibraryNext (filesLent (now (store .entry)) (now (graph .entry)) (now (hidden .entry)) (now (excluded .entry)) (settingsOf sorting limited cutoff first)) (lentOf (now (names .entry)) (now (marks .entry)) (now (levels .entry)) (now (times .entry)) (now (line .entry)) (now (parents .entry))) (lentOf (now (names .exit)) (now (marks .exit)) (now (levels .exit)) (now (times .exit)) (now (line .exit)) (now (parents .exit))) (now (words .entry)) (now (words .exit)) (now (id .entry)) (now (id .exit)) (now (numbers .entry)) (now (numbers .exit)) (now (seconds .entry)) (now (seconds .exit)) n ⌝ }
 {
     if !wire::can_call(words, id, numbers, seconds) {
-        return 1;
+        return wire::NO_ROOM;
     }
     let settings = wire::settings_of(sorting, limited, cutoff, first);
     let r = wire::decode(words);
-    let o = traverse::next::step(
+    let o = simple::once(
         r,
         store,
         graph,

@@ -21,12 +21,13 @@ use Rattle.walk.specs.Reach.{Mem}
 use Rattle.walk.specs.AnyInput.{handedBy, AllNumbers}
 use Rattle.walk.proofs.Calls.{answers-at}
 use Rattle.walk.proofs.Numbers.{all-numbers}
+use Rattle.walk.proofs.Outcomes.{refusal-number-between}
 use Rattle.walk.proofs.Tips.{open-accepted}
 use Rattle.walk.proofs.Universe.{all-told}
 use Rattle.walk.proofs.Width.{universe-wide}
 use Rattle.traverse.proofs.Numbered.{length-upTo}
 use Rattle.swatch.specs.Text.{decimal, commitLine, refusalLine, endLine, lineOf, isEnd, linesOf, mostBytes, tipsIn, storeIn, inputIn, textOf, text}
-use Rattle.swatch.proofs.Words.{length-hex, decimal-one, decimal-two, decimal-three, number-small}
+use Rattle.swatch.proofs.Words.{length-hex, decimal-one, decimal-two, decimal-three}
 use Rattle.swatch.proofs.Listing.{true-open}
 
 -- ---- a line
@@ -41,7 +42,7 @@ decimal-short n h =
 
 refusal-short : (r : Refusal) → length (refusalLine r) ≤ 45
 unfolding refusalLine
-refusal-short r = simp length-append (omega (arith, decimal-short (numberOf r) (omega (arith, number-small r))))
+refusal-short r = simp length-append (omega (arith, decimal-short (numberOf r) (omega (arith, refusal-number-between r))))
 
 commit-short : (x : Id) (n : ℕ) → length x ≡ idBytes → n < 1000 → length (commitLine x n) ≤ 45
 unfolding commitLine

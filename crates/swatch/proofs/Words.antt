@@ -5,9 +5,6 @@ use mathlib.Core.List.{List, [], _∷_, _++_}
 use native.Mathlib.Omega.{arith}
 use lib.ListN.{length}
 use borrow.Author.Tests.{lt-ltb, le-ltb}
-use Rattle.walk.specs.declared.Refusal.{Refusal}
-use Rattle.walk.specs.declared.Refusal.the-variants.{BufferTooSmall, InputTooLarge, PartialId, CorruptStore, UnknownGraph, CorruptGraph, TipNotFound, TipUnreadable, CommitNotFound, CommitUnreadable, TooManyParents, Closed}
-use Rattle.walk.specs.Refusals.{numberOf}
 use Rattle.swatch.specs.Text.{hexDigit, hex, decimalIn, decimal}
 
 -- ---- an id
@@ -53,17 +50,3 @@ decimal-three n h g =
     ∙ ap (λ (l : List ℕ). l ++ ((48 + n % 10) ∷ [])) (digits-more 18 (n / 10) (omega arith))
     ∙ ap (λ (l : List ℕ). (l ++ ((48 + n / 10 % 10) ∷ [])) ++ ((48 + n % 10) ∷ [])) (digits-one 17 (n / 10 / 10) (omega arith))
     ∙ ap (λ (d : ℕ). (48 + d) ∷ (48 + n / 10 % 10) ∷ (48 + n % 10) ∷ []) e
-
-pub number-small : (r : Refusal) → numberOf r ≤ 12
-number-small BufferTooSmall = omega arith
-number-small InputTooLarge = omega arith
-number-small PartialId = omega arith
-number-small CorruptStore = omega arith
-number-small UnknownGraph = omega arith
-number-small CorruptGraph = omega arith
-number-small TipNotFound = omega arith
-number-small TipUnreadable = omega arith
-number-small CommitNotFound = omega arith
-number-small CommitUnreadable = omega arith
-number-small TooManyParents = omega arith
-number-small Closed = omega arith

@@ -52,10 +52,10 @@ pub data Calls (f : Files) : Record → Lent → List Call → Type 0 where
 abbrev pub filesOf : Input → Files
 filesOf i = record { store = i .store; graph = i .graph; hidden = i .hidden; excluded = i .excluded; settings = i .settings }
 
--- the call of number k, counted from 0, is c
-pub data CallIs : List Call → ℕ → Call → Type 0 where
-  here : {c : Call} {cs : List Call} → CallIs (c ∷ cs) zero c
-  after : {c d : Call} {cs : List Call} {k : ℕ} → CallIs cs k c → CallIs (d ∷ cs) (suc k) c
+-- of a list of calls, however a call is written down: the one of number k, counted from 0, is c
+pub data CallIs {A : Type 0} : List A → ℕ → A → Type 0 where
+  here : {c : A} {cs : List A} → CallIs (c ∷ cs) zero c
+  after : {c d : A} {cs : List A} {k : ℕ} → CallIs cs k c → CallIs (d ∷ cs) (suc k) c
 
 -- ---- read off the answers
 

@@ -30,6 +30,7 @@ pub mod Comes
 pub mod Loop
 pub mod Few
 pub mod Numbers
+pub mod Outcomes
 pub mod Refused
 pub mod Instance
 pub mod Own

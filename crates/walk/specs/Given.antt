@@ -88,12 +88,13 @@ openGiven (opened st) = record { outcome = Accepted; admitted = st .admitted; st
 
 -- ---- document 01's numbers and values of each case
 
--- the number of a refusal; a commit and the end have none
+-- a refusal has document 01's number; a commit is 0 and the end 100, which no refusal is: each outcome has a number of its own
 abbrev pub outcomeNumber : Outcome → ℕ
 outcomeNumber Commit = 0
-outcomeNumber End = 0
+outcomeNumber End = 100
 outcomeNumber (Refused r) = numberOf r
 
+-- the same of an opening, where an accepted one is 0
 abbrev pub openNumber : OpenOutcome → ℕ
 openNumber Accepted = 0
 openNumber (NotOpened r) = numberOf r

@@ -1,4 +1,4 @@
--- Settings from numbers, the number of an outcome, and what the functions that set an answer down promise. Assumes nothing.
+-- Settings from numbers, the result where there is no room, and what the functions that set an answer down promise. Assumes nothing.
 use Prim.Native.Nat.{ℕ}
 use mathlib.Core.Path.{_≡_}
 use mathlib.Core.Bool.{cond}
@@ -14,11 +14,8 @@ use Rattle.walk.specs.declared.CommitTimeOrder.{CommitTimeOrder}
 use Rattle.walk.specs.declared.CommitTimeOrder.the-variants.{NewestFirst, OldestFirst}
 use Rattle.walk.specs.declared.Parents.{Parents}
 use Rattle.walk.specs.declared.Parents.the-variants.{All, First}
-use Rattle.walk.specs.declared.Outcome.{Outcome}
-use Rattle.walk.specs.declared.Outcome.the-variants.{Commit, End, Refused}
 use Rattle.walk.specs.declared.OpenAnswer.{OpenAnswer}
-use Rattle.walk.specs.Refusals.{numberOf}
-use Rattle.walk.specs.Given.{Given, openNumber, secondsValue}
+use Rattle.walk.specs.Given.{Given, outcomeNumber, openNumber, secondsValue}
 use Rattle.wire.specs.Words.{openWords, answerWords}
 
 -- ---- settings
@@ -39,13 +36,12 @@ parentsOf first = cond (eqb first 0) All First
 unfoldable pub settingsOf : ℕ → ℕ → ℤ → ℕ → Settings
 settingsOf sorting limited cutoff first = record { sorting = sortingOf sorting limited cutoff; parents = parentsOf first }
 
--- ---- outcomes
+-- ---- no room
 
--- a commit is 0, the end 100, a refusal document 01's number
-abbrev pub callNumber : Outcome → ℕ
-callNumber Commit = 0
-callNumber End = 100
-callNumber (Refused r) = numberOf r
+-- the result where a buffer of the library's own is too short: the record's words, or what an answer is set down in. Document 01 does not
+-- name these, so it is no number of document 01's, and no outcome's (`no-room-call`, `no-room-open` in proofs/NoRoom.antt)
+abbrev pub noRoom : ℕ
+noRoom = 101
 
 -- ---- answers set down
 
@@ -54,7 +50,7 @@ pub record PutsOpenAnswer (a : OpenAnswer) (numbers numbers′ : List ℕ) (n : 
   pub numbers-are : numbers′ ≡ setDown numbers 0 (openWords a)
 
 pub record PutsAnswer (a : Given) (id id′ numbers numbers′ : List ℕ) (seconds seconds′ : List ℤ) (n : ℕ) : Type 0 where
-  pub result : n ≡ callNumber (a .outcome)
+  pub result : n ≡ outcomeNumber (a .outcome)
   pub id-is : id′ ≡ setDown id 0 (a .id)
   pub numbers-are : numbers′ ≡ setDown numbers 0 (answerWords a)
   pub seconds-are : seconds′ ≡ set seconds 0 (secondsValue (a .time))

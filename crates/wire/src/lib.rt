@@ -18,9 +18,9 @@ ghost use Prim.Native.Nat.{_%_};
 ghost use lib.ListN.{getD, set};
 ghost use lib.Dec.{eqb};
 ghost use Rattle.hash.specs.Bytes.{setDown};
-ghost use Rattle.walk.specs.Given.{openNumber, levelValue, secondsValue};
+ghost use Rattle.walk.specs.Given.{outcomeNumber, openNumber, levelValue, secondsValue};
 ghost use Rattle.wire.specs.Words.{bitOf, wordsOf, recordOf, queueOf, Encodes, PutsRecord, answerWords, hasLevel, hasSeconds, roomToOpen, roomToCall};
-ghost use Rattle.wire.specs.Numbers.{timeOrder, sortingOf, parentsOf, settingsOf, callNumber, PutsOpenAnswer, PutsAnswer};
+ghost use Rattle.wire.specs.Numbers.{timeOrder, sortingOf, parentsOf, settingsOf, PutsOpenAnswer, PutsAnswer};
 
 // How many words a record has.
 const RECORD_WORDS: usize = 12;
@@ -32,6 +32,13 @@ const CALL_NUMBERS: usize = 7;
 
 // Document 01's number of the refusal "closed".
 const CLOSED: u32 = 12;
+
+// The number of the end, which is no refusal's.
+const END: u32 = 100;
+
+// The result where the record's words, or what an answer is set down in, are too short. Document 01 does not name these buffers, so it is
+// none of its numbers: its 1 is said of the walk's own memory, and closes the record.
+pub const NO_ROOM: u32 = 101;
 
 // Whether there is room for the record's words and an opening's numbers.
 pub fn can_open(words: &[u64], numbers: &[u64]) -> bool
@@ -253,11 +260,11 @@ fn open_number(o: OpenOutcome) -> u32
 
 // The number of a call's outcome: 0 for a commit, 100 for the end, else document 01's number of the refusal.
 fn call_number(o: Outcome) -> u32
-    ensures { λ n. ⌜ n ≡ callNumber o ⌝ }
+    ensures { λ n. ⌜ n ≡ outcomeNumber o ⌝ }
 {
     match o {
         Outcome::Commit => 0,
-        Outcome::End => 100,
+        Outcome::End => END,
         Outcome::Refused(r) => wide(walk::number(r)),
     }
 }

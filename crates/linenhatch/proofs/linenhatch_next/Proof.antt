@@ -40,8 +40,8 @@ settings-of-requires c κs = search needs
 decode-requires : tie.Need-decode-requires
 decode-requires c κs = search needs
 
-step-requires : tie.Need-step-requires
-step-requires c κs = search needs
+once-requires : tie.Need-once-requires
+once-requires c κs = search needs
 
 put-answer-requires : tie.Need-put-answer-requires
 put-answer-requires c κs = search needs
@@ -88,13 +88,13 @@ returns-2 c =
     let r = t .before .before in
     let s = r .before .before .before .before .before .before .before .before .before .before .before .before .before .before .before .before .before in
     let x = s .args in
-    let l = o .step .last in
+    let l = o .once .last in
     let told : toZ w64 (ofZ w64 (x .cutoff)) ≡ x .cutoff = toZ-ofZ (s .fits .cutoff) in
     let e = t .settings-of .ensures ∙ ap (λ (z : ℤ). settingsOf (x .sorting) (x .limited) z (x .first)) told in
     made-says {m = lentOf (x .names .now) (x .marks .now) (x .levels .now) (x .times .now) (x .line .now) (x .parents .now)}
     {m′ = lentOf (l .1 .1 .1 .1 .1 .1 .0) (l .1 .1 .1 .1 .1 .1 .1 .0) (l .1 .1 .1 .1 .1 .1 .1 .1 .0) (l .1 .1 .1 .1 .1 .1 .1 .1 .1 .0) (l .1 .1 .1 .1 .1 .1 .1 .1 .1 .1 .0) (l .1 .1 .1 .1 .1 .1 .1 .1 .1 .1 .1 .0)}
     (ap (filesLent (x .store .now) (x .graph .now) (x .hidden .now) (x .excluded .now)) e) (d .decode .ensures)
-    (r .can-call .ensures) (not-false (r .can-call .result) (t .before .if1 .left)) (o .step .ensures) (a .put-answer .ensures) (c .before .before .put-record .ensures)
+    (r .can-call .ensures) (not-false (r .can-call .result) (t .before .if1 .left)) (o .once .ensures) (a .put-answer .ensures) (c .before .before .put-record .ensures)
 
 pub linenhatch-next-spec : {M : Type 1} → statement M
 linenhatch-next-spec =
@@ -108,7 +108,7 @@ linenhatch-next-spec =
     returns
     settings-of-requires
     decode-requires
-    step-requires
+    once-requires
     put-answer-requires
     put-record-requires
     same-length-5

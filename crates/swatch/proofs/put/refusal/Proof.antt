@@ -3,7 +3,7 @@ use mathlib.Core.Path.{ap}
 use native.Mathlib.Omega.{arith}
 use Rattle.swatch.specs.Text.{decimal, refusalLine}
 use Rattle.swatch.proofs.Puts.{puts-then, puts-as}
-use Rattle.swatch.proofs.Words.{number-small}
+use Rattle.walk.proofs.Outcomes.{refusal-number-between}
 use borrow.Author.Needs.{needs}
 use Rattle.swatch.proofs.put.refusal.Statement.{statement}
 use Rattle.swatch.proofs.put.refusal.Tie as tie
@@ -34,7 +34,7 @@ unfolding refusalLine
 returns c =
     puts-then (c .before .before .before .before .before .before .before .before .before .before .before .before .before .before .before .byte .ensures)
     (puts-then (c .before .before .before .before .before .before .before .before .before .before .before .byte2 .ensures)
-    (puts-then (puts-as (c .before .before .before .before .before .before .number2 .ensures (omega (arith, c .before .before .before .before .before .before .before .number .ensures, number-small (c .before .before .before .before .before .before .before .before .before .before .before .before .before .before .before .before .before .before .args .r)))) (ap decimal (c .before .before .before .before .before .before .before .number .ensures))) (c .before .before .byte3 .ensures)))
+    (puts-then (puts-as (c .before .before .before .before .before .before .number2 .ensures (omega (arith, c .before .before .before .before .before .before .before .number .ensures, refusal-number-between (c .before .before .before .before .before .before .before .before .before .before .before .before .before .before .before .before .before .before .args .r)))) (ap decimal (c .before .before .before .before .before .before .before .number .ensures))) (c .before .before .byte3 .ensures)))
 
 pub refusal-spec : {M : Type 1} → statement M
 refusal-spec =
