@@ -14,7 +14,7 @@ import sys
 import generate
 from compare import expected
 
-ENDED, CLOSED = 100, 12
+ENDED, NO_ROOM, CLOSED = 100, 101, 12
 GUARD = 0x5C
 
 
@@ -47,7 +47,7 @@ class Library:
         self.lib.linenhatch_places.restype = ctypes.c_size_t
         self.lib.linenhatch_open.restype = self.lib.linenhatch_next.restype = ctypes.c_uint32
 
-    def open(self, case):
+    def open(self, case, record=12, numbers=7):
         lists = [case.pair.store, case.pair.graph, b"".join(case.tips), b"".join(case.hidden), b"".join(case.barred)]
         lent = [lend(data) for data in lists]
         self.kept = [part for _, part in lent]
@@ -57,7 +57,7 @@ class Library:
         self.places = self.lib.linenhatch_places(*store, *graph, *tips, *hidden)
         p = self.places
         self.memory = [Buffer(k, n) for k, n in ((ctypes.c_uint8, 20 * p), (ctypes.c_uint8, p), (ctypes.c_uint32, p), (ctypes.c_int64, p), (ctypes.c_uint32, 5 * p), (ctypes.c_uint8, 5120))]
-        self.record, self.id, self.numbers, self.seconds = Buffer(ctypes.c_uint64, 12), Buffer(ctypes.c_uint8, 20), Buffer(ctypes.c_uint64, 7), Buffer(ctypes.c_int64, 1)
+        self.record, self.id, self.numbers, self.seconds = Buffer(ctypes.c_uint64, record), Buffer(ctypes.c_uint8, 20), Buffer(ctypes.c_uint64, numbers), Buffer(ctypes.c_int64, 1)
         self.files = [*store, *graph, *hidden, *barred, *settings]
         memory = [w for b in self.memory for w in b.words()]
         return self.lib.linenhatch_open(*store, *graph, *tips, *hidden, *barred, *settings, *memory, *self.record.words(), *self.numbers.words())
@@ -66,8 +66,34 @@ class Library:
         memory = [w for b in self.memory for w in b.words()]
         return self.lib.linenhatch_next(*self.record.words(), *self.files, *memory, *self.id.words(), *self.numbers.words(), *self.seconds.words())
 
+    def own(self):
+        return [self.record, self.id, self.numbers, self.seconds]
+
+    def unaltered(self, buffers):
+        return all(set(bytes(b.all)) <= {GUARD} for b in buffers)
+
     def sound(self):
-        return all(b.sound() for b in [*self.memory, self.record, self.id, self.numbers, self.seconds])
+        return all(b.sound() for b in self.memory + self.own())
+
+
+def without_room(library, case):
+    """None, or what differs where one of the library's own buffers is too short: that is said before all else, and nothing is altered."""
+    for record, numbers in ((11, 7), (12, 2), (0, 0)):
+        result = library.open(case, record, numbers)
+        if result != NO_ROOM or not library.unaltered(library.own() + library.memory):
+            return "opening without room: %d" % result
+    opened = library.open(case)
+    for name, kind, n in (("record", ctypes.c_uint64, 11), ("id", ctypes.c_uint8, 19), ("numbers", ctypes.c_uint64, 6), ("seconds", ctypes.c_int64, 0)):
+        kept = getattr(library, name)
+        before = [bytes(b.all) for b in library.memory + library.own()]
+        setattr(library, name, Buffer(kind, n))
+        result = library.next()
+        short = getattr(library, name)
+        setattr(library, name, kept)
+        if result != NO_ROOM or not library.unaltered([short]) or before != [bytes(b.all) for b in library.memory + library.own()]:
+            return "call without room for %s: %d" % (name, result)
+    result = library.next()
+    return "call after those without room: %d" % result if (result == CLOSED) != (opened != 0) else None
 
 
 def fault(library, case):
@@ -121,7 +147,7 @@ def main():
         done = 0
         for case in cases:
             done += 1
-            found = fault(library, case)
+            found = fault(library, case) or without_room(library, case)
             if found:
                 bad += 1
                 if bad <= 5:

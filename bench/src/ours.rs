@@ -15,9 +15,9 @@ const END: u32 = 100;
 
 /// Where a number stands in a call's numbers.
 const PARENTS: usize = 3;
-const HAS_LEVEL: usize = 4;
-const LEVEL: usize = 5;
-const HAS_SECONDS: usize = 6;
+const HAS_GENERATION: usize = 4;
+const GENERATION: usize = 5;
+const HAS_TIME: usize = 6;
 
 /// What a walk is lent, its record, and where a call's answer is set down.
 pub struct Memory {
@@ -120,8 +120,8 @@ impl Memory {
             commits.push(Commit {
                 id: self.answer.id,
                 parents: self.parents().copied().collect(),
-                generation: (self.answer.numbers[HAS_LEVEL] == 1).then_some(self.answer.numbers[LEVEL] as u32),
-                seconds: (self.answer.numbers[HAS_SECONDS] == 1).then_some(self.answer.seconds[0]),
+                generation: (self.answer.numbers[HAS_GENERATION] == 1).then_some(self.answer.numbers[GENERATION] as u32),
+                seconds: (self.answer.numbers[HAS_TIME] == 1).then_some(self.answer.seconds[0]),
             });
         }
         commits

@@ -105,7 +105,7 @@ int main(void)
         } else if (result != LINENHATCH_END) {
             printf("! %" PRIu32 "\n", result);
         }
-    } while (result != LINENHATCH_END && result != LINENHATCH_CLOSED);
+    } while (result != LINENHATCH_END && result != LINENHATCH_CLOSED && result != LINENHATCH_NO_ROOM);
     if (result == LINENHATCH_END)
         printf("end\n");
 

@@ -44,32 +44,34 @@ extern "C" {
 #define LINENHATCH_STRUCK 1   /* of those, taken away by hiding */
 #define LINENHATCH_WAITING 2  /* of those, not handed out yet */
 /* of a call alone: */
-#define LINENHATCH_PARENT_IDS 3  /* how many ids of parents stand at the start of parents */
-#define LINENHATCH_HAS_LEVEL 4   /* 1 where the commit came from the graph file, else 0 */
-#define LINENHATCH_LEVEL 5       /* its level there, else 0 */
-#define LINENHATCH_HAS_SECONDS 6 /* 1 where the walk goes by time, so that seconds holds the commit's, else 0 */
+#define LINENHATCH_PARENT_IDS 3     /* how many ids of parents stand at the start of parents */
+#define LINENHATCH_HAS_GENERATION 4 /* 1 where the commit came from the graph file, else 0 */
+#define LINENHATCH_GENERATION 5     /* its generation there (document 01's level), else 0 */
+#define LINENHATCH_HAS_TIME 6       /* 1 where the walk goes by time, so that seconds holds the commit's time, else 0 */
 
-/* ---- results: a commit or an opening that is accepted is 0, the end 100, all others are refusals */
+/* ---- results: a commit or an opening that is accepted is 0, the end 100, no room 101, all others are refusals, each with document 01's
+ * word before its colon */
 
 #define LINENHATCH_ACCEPTED 0u
 #define LINENHATCH_COMMIT 0u
 #define LINENHATCH_END 100u
+#define LINENHATCH_NO_ROOM 101u /* record, numbers, id or seconds is too short: lend each the length above; nothing was done */
 
 /* of an opening */
-#define LINENHATCH_SHORT_MEMORY 1u   /* a lent buffer is below its size */
-#define LINENHATCH_OVERSIZE 2u       /* store or graph over 16,777,216 bytes, or a list over 20,480 bytes */
-#define LINENHATCH_RAGGED_LIST 3u    /* a list is not of whole ids */
-#define LINENHATCH_TORN_STORE 4u     /* the layout of the commit store is broken */
-#define LINENHATCH_FOREIGN_GRAPH 5u  /* the first 8 bytes of the graph file are other ones */
-#define LINENHATCH_TORN_GRAPH 6u     /* the rest of its layout is broken */
-#define LINENHATCH_LOST_TIP 7u       /* by time: a tip is not in the store */
-#define LINENHATCH_BLURRED_TIP 8u    /* by time: a tip's header cannot be read through its committer line */
+#define LINENHATCH_BUFFER_TOO_SMALL 1u /* short memory: a buffer of names to parents is below its size */
+#define LINENHATCH_INPUT_TOO_LARGE 2u  /* oversize: store or graph over 16,777,216 bytes, or a list over 20,480 bytes */
+#define LINENHATCH_PARTIAL_ID 3u       /* ragged list: a list is not of whole ids */
+#define LINENHATCH_CORRUPT_STORE 4u    /* torn book: the layout of the commit store is broken */
+#define LINENHATCH_UNKNOWN_GRAPH 5u    /* foreign graph: the first 8 bytes of the graph file are other ones */
+#define LINENHATCH_CORRUPT_GRAPH 6u    /* torn graph: the rest of its layout is broken */
+#define LINENHATCH_TIP_NOT_FOUND 7u    /* lost tip: by time, a tip is not in the store */
+#define LINENHATCH_TIP_UNREADABLE 8u   /* blurred tip: by time, a tip's header cannot be read through its committer line */
 
-/* of a call; 1 too, where the record or the answer has no room */
-#define LINENHATCH_LOST_COMMIT 9u     /* in neither file */
-#define LINENHATCH_BLURRED_COMMIT 10u /* a header line is bad */
-#define LINENHATCH_CROWDED_COMMIT 11u /* a commit of over 256 parents */
-#define LINENHATCH_CLOSED 12u         /* the record is closed, or the memory was touched */
+/* of a call */
+#define LINENHATCH_COMMIT_NOT_FOUND 9u   /* lost commit: in neither file */
+#define LINENHATCH_COMMIT_UNREADABLE 10u /* blurred commit: a header line is bad */
+#define LINENHATCH_TOO_MANY_PARENTS 11u  /* crowded commit: over 256 parents */
+#define LINENHATCH_CLOSED 12u            /* closed: the record is closed, or the memory was touched */
 
 /* How many places a walk over these files and lists needs. It depends on no setting and on no excluded id, and is given for any bytes,
  * also for files that an opening would refuse. */
@@ -87,7 +89,7 @@ size_t linenhatch_places(
  *
  * names to parents are the walk's memory; of a refused opening not a byte there is altered. record and numbers are set down in every case:
  * after a refusal the record is the closed one (zeros), and the numbers are zeros. Where record or numbers is itself too short the result is
- * 1, before all other tests, and nothing at all is altered. */
+ * 101, before all other tests, and nothing at all is altered. */
 uint32_t linenhatch_open(
     const uint8_t *store, size_t store_len,
     const uint8_t *graph, size_t graph_len,
@@ -112,11 +114,11 @@ uint32_t linenhatch_open(
  * and after an end comes the end again. With anything else a call gives some result of these, and is safe.
  *
  * The answer: id holds the commit's id, numbers the numbers above, seconds the seconds that the commit was queued with, and the start of
- * parents its parents' ids, as many as numbers says; the rest of parents is as it was. A refusal or the end has zeros for id, level and
+ * parents its parents' ids, as many as numbers says; the rest of parents is as it was. A refusal or the end has zeros for id, generation and
  * seconds; 12 has zeros for all. After 9 to 11 the commit is used up and the next call goes on.
  *
- * 12 alters neither the record nor the memory. Where record, id, numbers or seconds is itself too short the result is 1, no call is made
- * and nothing at all is altered. */
+ * 12 alters neither the record nor the memory. Where record, id, numbers or seconds is itself too short the result is 101, no call is
+ * made and nothing at all is altered. */
 uint32_t linenhatch_next(
     uint64_t *record, size_t record_len,
     const uint8_t *store, size_t store_len,

@@ -174,15 +174,15 @@ static void check_places(uint32_t result)
 static uint32_t opening_asked(void)
 {
     if (lent[RECORD].count < 12 || lent[NUMBERS].count < 3)
-        return SHORT;
+        return NO_ROOM;
     bool ragged = false;
     for (unsigned k = 0; k < INPUTS; k++) {
         if (input[k].n > (k <= GRAPH ? MOST_FILE : MOST_LIST))
-            return LINENHATCH_OVERSIZE;
+            return LINENHATCH_INPUT_TOO_LARGE;
         ragged |= k > GRAPH && input[k].n % ID;
     }
     if (ragged)
-        return LINENHATCH_RAGGED_LIST;
+        return LINENHATCH_PARTIAL_ID;
     if (!referenced || reference)
         return ANY;
     bool of_the_input = base->opening >= 2 && base->opening <= 6;
@@ -230,7 +230,7 @@ static void check_open(uint32_t result)
     check_around();
     check_same(IDENT, 0, "by an opening");
     check_same(SECONDS, 0, "by an opening");
-    if (result > 8 || (asked != ANY && result != asked))
+    if ((result > 8 && result != NO_ROOM) || (asked != ANY && result != asked))
         fail("an opening gives %" PRIu32 " for %" PRIu32, result, asked);
     if (lent[RECORD].count < 12 || lent[NUMBERS].count < 3) {
         for (unsigned k = 0; k < LENT; k++)
@@ -260,18 +260,18 @@ static void check_answer(uint32_t result)
     check_same(PARENTS, ID * parents, "past the ids given");
     if (((result == END || result == 9) && parents) || (result == 11 && parents && parents != 256))
         fail("%" PRIu64 " parents beside %" PRIu32, parents, result);
-    if (n[LINENHATCH_HAS_LEVEL] > 1 || n[LINENHATCH_HAS_SECONDS] > 1 || n[LINENHATCH_LEVEL] >> 30)
-        fail("a level or seconds out of bounds");
-    if (n[LINENHATCH_LEVEL] && !n[LINENHATCH_HAS_LEVEL])
-        fail("a level where there is none");
-    if (!n[LINENHATCH_HAS_SECONDS])
+    if (n[LINENHATCH_HAS_GENERATION] > 1 || n[LINENHATCH_HAS_TIME] > 1 || n[LINENHATCH_GENERATION] >> 30)
+        fail("a generation or time out of bounds");
+    if (n[LINENHATCH_GENERATION] && !n[LINENHATCH_HAS_GENERATION])
+        fail("a generation where there is none");
+    if (!n[LINENHATCH_HAS_TIME])
         check_zeros(SECONDS, 8, "where there are none");
     if (result == 0)
         return;
     check_zeros(IDENT, ID, "beside a refusal or an end");
     check_zeros(SECONDS, 8, "beside a refusal or an end");
-    if (n[LINENHATCH_HAS_LEVEL] || n[LINENHATCH_LEVEL] || n[LINENHATCH_HAS_SECONDS])
-        fail("a level or seconds beside a refusal or an end");
+    if (n[LINENHATCH_HAS_GENERATION] || n[LINENHATCH_GENERATION] || n[LINENHATCH_HAS_TIME])
+        fail("a generation or time beside a refusal or an end");
 }
 
 /* A record that is given back holds six yes or no, and a number of 32 bits in its tenth word. */
@@ -302,7 +302,7 @@ static void check_next(uint32_t result)
 {
     check_around();
     if (no_room()) {
-        if (result != SHORT)
+        if (result != NO_ROOM)
             fail("a call without room gives %" PRIu32, result);
         for (unsigned k = 0; k < LENT; k++)
             check_same(k, 0, "where there is no room");
@@ -329,8 +329,10 @@ static void check_next(uint32_t result)
 /* ---- calls with their checks and counts */
 
 enum { NEXT_RESULTS = 7 };
-static const uint32_t next_result[NEXT_RESULTS] = {0, 9, 10, 11, 12, END, SHORT};
-static uint64_t opened[64][9], called[64][NEXT_RESULTS], cases[64];
+static const uint32_t next_result[NEXT_RESULTS] = {0, 9, 10, 11, 12, END, NO_ROOM};
+enum { OPEN_RESULTS = 10 };
+static const uint32_t open_result[OPEN_RESULTS] = {0, 1, 2, 3, 4, 5, 6, 7, 8, NO_ROOM};
+static uint64_t opened[64][OPEN_RESULTS], called[64][NEXT_RESULTS], cases[64];
 
 /* The number of places for the inputs that are lent. */
 static bool ask_places(void)
@@ -348,7 +350,8 @@ static uint32_t open_walk(void)
     lend_all();
     if (guarded(call_open, &result)) {
         check_open(result);
-        opened[kind][result < 9 ? result : 0]++;
+        for (unsigned k = 0; k < OPEN_RESULTS; k++)
+            opened[kind][k] += result == open_result[k];
         if (looked_at())
             printf("opening %u: %" PRIu32 ", places %zu\n", call_number, result, places_given);
     }
@@ -371,6 +374,6 @@ static uint32_t next(void)
             printf("call %u: %" PRIu32 "%s\n", call_number, result, walk.untouched && !walk.foreign ? "" : ", touched");
     }
     take_back();
-    walk.untouched &= !walk.foreign || result == CLOSED || result == SHORT; /* after these the walk is as it was */
+    walk.untouched &= !walk.foreign || result == CLOSED || result == NO_ROOM; /* after these the walk is as it was */
     return result;
 }

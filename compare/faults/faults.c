@@ -732,7 +732,7 @@ static void blank_walk(size_t k)
 static void print_row(const char *name, uint64_t count, const uint64_t *o, const uint64_t *c)
 {
     printf("%-33s%8" PRIu64 " |", name, count);
-    for (unsigned k = 0; k < 9; k++)
+    for (unsigned k = 0; k < OPEN_RESULTS; k++)
         printf("%7" PRIu64, o[k]);
     printf(" |");
     for (unsigned k = 0; k < NEXT_RESULTS; k++)
@@ -742,10 +742,10 @@ static void print_row(const char *name, uint64_t count, const uint64_t *o, const
 
 static void print_table(void)
 {
-    uint64_t o[9] = {0}, c[NEXT_RESULTS] = {0}, count = 0, openings = 0, calls = 0;
-    printf("%-33s%8s | openings by result%45s | next calls by result\n%-33s%8s |", "", "", "", "", "cases");
-    for (unsigned k = 0; k < 9; k++)
-        printf("%7u", k);
+    uint64_t o[OPEN_RESULTS] = {0}, c[NEXT_RESULTS] = {0}, count = 0, openings = 0, calls = 0;
+    printf("%-33s%8s | openings by result%52s | next calls by result\n%-33s%8s |", "", "", "", "", "cases");
+    for (unsigned k = 0; k < OPEN_RESULTS; k++)
+        printf("%7" PRIu32, open_result[k]);
     printf(" |");
     for (unsigned k = 0; k < NEXT_RESULTS; k++)
         printf("%8" PRIu32, next_result[k]);
@@ -753,13 +753,13 @@ static void print_table(void)
     for (unsigned k = 0; k < KINDS; k++) {
         print_row(kinds[k].name, cases[k], opened[k], called[k]);
         count += cases[k];
-        for (unsigned j = 0; j < 9; j++)
+        for (unsigned j = 0; j < OPEN_RESULTS; j++)
             o[j] += opened[k][j];
         for (unsigned j = 0; j < NEXT_RESULTS; j++)
             c[j] += called[k][j];
     }
     print_row("all", count, o, c);
-    for (unsigned j = 0; j < 9; j++)
+    for (unsigned j = 0; j < OPEN_RESULTS; j++)
         openings += o[j];
     for (unsigned j = 0; j < NEXT_RESULTS; j++)
         calls += c[j];

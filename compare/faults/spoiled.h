@@ -19,6 +19,8 @@ static uint32_t spoiled_open(uint32_t result)
         numbers[0]++;
     if (fault == 4 && result == SHORT) /* 7 is said before 1 */
         return 7;
+    if (fault == 25 && result == NO_ROOM) /* the number of short memory, which would close the record */
+        return SHORT;
     if (fault == 5) /* a byte before the tips is read */
         (void)((volatile uint8_t *)input[TIPS].at)[-1];
     return result;

@@ -145,7 +145,8 @@ pub(crate) fn places(input: &Input<'_>, tips: &[u8]) -> usize {
     }
 }
 
-/// Opens a walk: 0, or the number of the refusal. The record and the numbers are set down in every case.
+/// Opens a walk: 0, or the number of the refusal. The record and the numbers are set down in every case: the arrays have room for them, so the
+/// result is never 101.
 pub(crate) fn open(input: &Input<'_>, tips: &[u8], memory: &mut Memory, numbers: &mut [u64; OPEN_NUMBERS]) -> u32 {
     // SAFETY: each pointer and length is a slice's, a vector's or an array's, the length in its own elements: never null (also of no
     // elements), aligned for its type, and valid while the call lasts. The const ones are only read. Each mutable one is all of one field of
@@ -186,7 +187,7 @@ pub(crate) fn open(input: &Input<'_>, tips: &[u8], memory: &mut Memory, numbers:
     }
 }
 
-/// Advances a walk by one call: 0 for a commit, 100 for the end, or the number of the refusal.
+/// Advances a walk by one call: 0 for a commit, 100 for the end, or the number of the refusal; never 101, as in `open`.
 pub(crate) fn next(input: &Input<'_>, memory: &mut Memory, answer: &mut Answer) -> u32 {
     // SAFETY: as in `open`; the mutable ones are all of one field each of `memory` and `answer`.
     unsafe {
@@ -224,5 +225,90 @@ pub(crate) fn next(input: &Input<'_>, memory: &mut Memory, answer: &mut Answer) 
             answer.seconds.as_mut_ptr(),
             answer.seconds.len(),
         )
+    }
+}
+
+/// The functions themselves, with buffers that the safe ones above never lend.
+#[cfg(test)]
+mod tests {
+    use super::*;
+    use crate::NoRoom;
+
+    /// How much is lent of each of the library's own buffers.
+    #[derive(Clone, Copy)]
+    struct Room {
+        record: usize,
+        numbers: usize,
+        id: usize,
+        seconds: usize,
+    }
+
+    const ALL: Room = Room { record: RECORD, numbers: CALL_NUMBERS, id: 20, seconds: 1 };
+
+    /// The buffers for a walk over a store without commits, which needs no places.
+    #[derive(Clone, Debug, PartialEq)]
+    struct Lent {
+        record: [u64; RECORD],
+        numbers: [u64; CALL_NUMBERS],
+        id: [u8; 20],
+        seconds: [i64; 1],
+        parents: [u8; 5120],
+    }
+
+    const STORE: [u8; 8] = [0; 8];
+    const SEVENS: Lent = Lent { record: [7; RECORD], numbers: [7; CALL_NUMBERS], id: [7; 20], seconds: [7], parents: [7; 5120] };
+
+    impl Lent {
+        #[rustfmt::skip]
+        fn open(&mut self, room: Room) -> u32 {
+            let (list, store, parents) = ([0u8; 0], STORE.as_ptr(), &mut self.parents);
+            let (mut names, mut marks, mut levels, mut times, mut line) = ([0u8; 0], [0u8; 0], [0u32; 0], [0i64; 0], [0u32; 0]);
+            assert!(room.record <= RECORD && room.numbers <= CALL_NUMBERS);
+            // SAFETY: each pointer is an array's of its own, and no length is over the array's.
+            unsafe {
+                linenhatch_open(
+                    store, STORE.len(), list.as_ptr(), 0, list.as_ptr(), 0, list.as_ptr(), 0, list.as_ptr(), 0, 0, 0, 0, 0, names.as_mut_ptr(), 0,
+                    marks.as_mut_ptr(), 0, levels.as_mut_ptr(), 0, times.as_mut_ptr(), 0, line.as_mut_ptr(), 0, parents.as_mut_ptr(), parents.len(),
+                    self.record.as_mut_ptr(), room.record, self.numbers.as_mut_ptr(), room.numbers)
+            }
+        }
+
+        #[rustfmt::skip]
+        fn next(&mut self, room: Room) -> u32 {
+            let (list, store, parents) = ([0u8; 0], STORE.as_ptr(), &mut self.parents);
+            let (mut names, mut marks, mut levels, mut times, mut line) = ([0u8; 0], [0u8; 0], [0u32; 0], [0i64; 0], [0u32; 0]);
+            assert!(room.record <= RECORD && room.numbers <= CALL_NUMBERS && room.id <= 20 && room.seconds <= 1);
+            // SAFETY: as in `open`.
+            unsafe {
+                linenhatch_next(
+                    self.record.as_mut_ptr(), room.record, store, STORE.len(), list.as_ptr(), 0, list.as_ptr(), 0, list.as_ptr(), 0, 0, 0, 0, 0,
+                    names.as_mut_ptr(), 0, marks.as_mut_ptr(), 0, levels.as_mut_ptr(), 0, times.as_mut_ptr(), 0, line.as_mut_ptr(), 0,
+                    parents.as_mut_ptr(), parents.len(), self.id.as_mut_ptr(), room.id, self.numbers.as_mut_ptr(), room.numbers,
+                    self.seconds.as_mut_ptr(), room.seconds)
+            }
+        }
+    }
+
+    #[test]
+    fn an_opening_without_room() {
+        for room in [Room { record: RECORD - 1, ..ALL }, Room { numbers: OPEN_NUMBERS - 1, ..ALL }] {
+            let mut lent = SEVENS;
+            assert_eq!(lent.open(room), NoRoom::NUMBER);
+            assert_eq!(lent, SEVENS);
+        }
+        assert_eq!(SEVENS.clone().open(Room { numbers: OPEN_NUMBERS, ..ALL }), 0);
+    }
+
+    /// Also of a record that is not open, which with room is refused with 12.
+    #[test]
+    fn a_call_without_room() {
+        let (record, numbers) = (Room { record: RECORD - 1, ..ALL }, Room { numbers: CALL_NUMBERS - 1, ..ALL });
+        for room in [record, numbers, Room { id: 19, ..ALL }, Room { seconds: 0, ..ALL }] {
+            let mut lent = SEVENS;
+            assert_eq!(lent.next(room), NoRoom::NUMBER);
+            assert_eq!(lent, SEVENS);
+        }
+        let mut lent = SEVENS;
+        assert_eq!((lent.next(ALL), lent.open(ALL), lent.next(ALL)), (12, 0, 100));
     }
 }

@@ -39,7 +39,7 @@ mod walk;
 
 pub use id::{ObjectId, ParseIdError, ID_BYTES};
 pub use order::Order;
-pub use refusal::Refusal;
+pub use refusal::{NoRoom, Refusal};
 pub use store::{header, parents, store_from_commits, StoreBuilder, TooLarge, MAX_FILE_BYTES, MAX_IDS};
 #[cfg(feature = "walk")]
 pub use walk::{Commit, Lister, Numbers, Walk};

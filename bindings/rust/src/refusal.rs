@@ -1,4 +1,4 @@
-//! The refusals of an opening and of a next call.
+//! The refusals of an opening and of a next call, and the library's result for want of room.
 
 use std::error::Error;
 use std::fmt;
@@ -123,6 +123,26 @@ impl fmt::Display for Refusal {
 
 impl Error for Refusal {}
 
+/// The library's result 101: a buffer of its own was too short, the record, the numbers, the id or the seconds. It comes before all else, and
+/// nothing was altered. Document 01 does not name these buffers, so it is no [`Refusal`]. This crate lends them in full, so neither a
+/// [`Lister`](crate::Lister) nor a [`Walk`](crate::Walk) ever meets it.
+#[derive(Clone, Copy, Debug, PartialEq, Eq, Hash)]
+pub struct NoRoom;
+
+impl NoRoom {
+    /// Its number, which is no refusal's.
+    pub const NUMBER: u32 = 101;
+}
+
+impl fmt::Display for NoRoom {
+    fn fmt(&self, f: &mut fmt::Formatter<'_>) -> fmt::Result {
+        let sentence = "the record, the numbers, the id or the seconds lent to the library are too short: lend each the length that linenhatch.h gives it";
+        write!(f, "{sentence} (result {})", NoRoom::NUMBER)
+    }
+}
+
+impl Error for NoRoom {}
+
 #[cfg(test)]
 mod tests {
     use super::*;
@@ -154,7 +174,7 @@ mod tests {
 
     #[test]
     fn no_other_number() {
-        for number in [0, 13, 100, u32::MAX] {
+        for number in [0, 13, 100, NoRoom::NUMBER, u32::MAX] {
             assert_eq!(Refusal::from_number(number), None);
         }
     }

@@ -6,7 +6,7 @@ use std::iter::FusedIterator;
 use crate::ffi::{self, Answer, Input, Memory};
 use crate::id::{ObjectId, ID_BYTES};
 use crate::order::Order;
-use crate::refusal::Refusal;
+use crate::refusal::{NoRoom, Refusal};
 
 /// The buffer of an answer's parents holds 256 ids.
 const PARENT_BYTES: usize = 256 * ID_BYTES;
@@ -150,6 +150,7 @@ fn joined(ids: &[ObjectId]) -> Vec<u8> {
 fn refusal(number: u32) -> Refusal {
     match Refusal::from_number(number) {
         Some(refusal) => refusal,
+        None if number == NoRoom::NUMBER => unreachable!("{NoRoom}"),
         None => unreachable!("the library's contract has no result {number}"),
     }
 }

@@ -64,8 +64,18 @@ fn the_same_numbers() {
         assert_eq!(between(RUST, &format!("const {line} = "), ";"), defined(name).to_string(), "{name}");
     }
     assert_eq!(defined("ID_BYTES") as usize, linenhatch::ID_BYTES);
+    assert_eq!(defined("NO_ROOM"), linenhatch::NoRoom::NUMBER);
+}
+
+/// A refusal has one name and one number in both languages, and document 01's word beside them.
+#[test]
+fn the_same_refusals() {
     for refusal in linenhatch::Refusal::ALL {
-        let name = refusal.word().replace("book", "store").replace(' ', "_").to_uppercase();
-        assert_eq!(defined(&name), refusal.number(), "{name}");
+        let name: String =
+            format!("{refusal:?}").chars().map(|c| if c.is_uppercase() { format!("_{c}") } else { c.to_uppercase().to_string() }).collect();
+        let name = name.trim_start_matches('_');
+        assert_eq!(defined(name), refusal.number(), "{name}");
+        let comment = between(C, &format!("#define LINENHATCH_{name} "), "\n");
+        assert!(comment.contains(&format!("/* {}: ", refusal.word())), "{comment}");
     }
 }
