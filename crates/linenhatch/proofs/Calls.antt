@@ -17,8 +17,8 @@ use Rattle.state.specs.declared.Record.{Record}
 use Rattle.traverse.specs.declared.Out.{Out}
 use Rattle.traverse.specs.Contract.{Files, Lent, NextSays}
 use Rattle.wire.specs.Words.{recordOf, roomToCall, PutsRecord}
-use Rattle.wire.specs.Numbers.{noRoom, PutsAnswer}
-use Rattle.linenhatch.specs.Library.{Made, LibraryNext}
+use Rattle.wire.specs.Numbers.{PutsAnswer}
+use Rattle.linenhatch.specs.Library.{noRoom, Made, LibraryNext}
 
 long-words : (words id numbers : List ℕ) (seconds : List ℤ) → roomToCall words id numbers seconds ≡ true → 12 ≤ length words
 unfolding roomToCall

@@ -1,3 +1,4 @@
+pub mod NoRoom
 pub mod Opens
 pub mod Calls
 pub mod Behind

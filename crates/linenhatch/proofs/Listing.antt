@@ -38,9 +38,9 @@ use Rattle.traverse.specs.Demand.{Call, Calls, CallIs, answersOf, handedOut, fi
 use Rattle.traverse.proofs.ThirdDemand.{third-demand}
 use Rattle.wire.specs.Words.{wordsAfter, roomToOpen}
 use Rattle.wire.specs.Numbers.{PutsAnswer}
-use Rattle.wire.proofs.NoRoom.{no-room-open}
 use Rattle.linenhatch.specs.Library.{openAnswer, Tried, LibraryOpens}
 use Rattle.linenhatch.specs.Listing.{LibraryCall, LibraryCalls, idsSeen, LibraryGives, LibraryOfTheWalk, LibraryLists, LibraryDelivered, LibraryAnyCalls, LibraryShut, LibraryDemand}
+use Rattle.linenhatch.proofs.NoRoom.{no-room-open}
 use Rattle.linenhatch.proofs.Behind.{Behind, All, behind-all, each, as-many, AllSee, sees, all-see, take-see, ids-same, refused-same}
 
 -- ---- every id that the walk answers with has 20 bytes

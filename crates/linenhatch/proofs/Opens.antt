@@ -14,8 +14,8 @@ use Rattle.walk.specs.Given.{openNumber}
 use Rattle.traverse.specs.declared.Opened.{Opened}
 use Rattle.traverse.specs.Contract.{Lent, OpenSays}
 use Rattle.wire.specs.Words.{openWords, roomToOpen, Encodes}
-use Rattle.wire.specs.Numbers.{noRoom, PutsOpenAnswer}
-use Rattle.linenhatch.specs.Library.{Tried, LibraryOpens}
+use Rattle.wire.specs.Numbers.{PutsOpenAnswer}
+use Rattle.linenhatch.specs.Library.{noRoom, Tried, LibraryOpens}
 
 long-words : (words numbers : List ℕ) → roomToOpen words numbers ≡ true → 12 ≤ length words
 unfolding roomToOpen

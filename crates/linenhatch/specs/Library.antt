@@ -13,7 +13,14 @@ use Rattle.traverse.specs.declared.Opened.{Opened}
 use Rattle.traverse.specs.declared.Out.{Out}
 use Rattle.traverse.specs.Contract.{Files, Lent, lengthsOf, OpenSays, NextSays}
 use Rattle.wire.specs.Words.{wordsOf, wordsAfter, recordOf, openWords, roomToOpen, roomToCall}
-use Rattle.wire.specs.Numbers.{noRoom, PutsAnswer}
+use Rattle.wire.specs.Numbers.{PutsAnswer}
+
+-- ---- no room
+
+-- the result where a buffer of the library's own is too short: the record's words, or what an answer is set down in. Document 01 does not
+-- name these, so it is none of its numbers, and no outcome's (`no-room-call`, `no-room-open` in proofs/NoRoom.antt)
+abbrev pub noRoom : ℕ
+noRoom = 101
 
 -- ---- an opening
 

@@ -11,6 +11,10 @@ ghost use Rattle.traverse.specs.Next.{filesLent};
 ghost use Rattle.wire.specs.Numbers.{settingsOf};
 ghost use Rattle.linenhatch.specs.Library.{LibraryOpens, LibraryNext};
 
+// The result where the record's words, or what an answer is set down in, are too short. Document 01 does not name these buffers, so it is
+// none of its numbers: its 1 is said of the walk's own memory, and closes the record.
+const NO_ROOM: u32 = 101;
+
 // How many places a walk needs (document 01's P), so that a caller knows how much memory to lend.
 #[no_mangle]
 pub extern "C" fn linenhatch_places(store: &[u8], graph: &[u8], tips: &[u8], hidden: &[u8]) -> usize
@@ -45,7 +49,7 @@ pub extern "C" fn linenhatch_open(
     ensures { λ n. ⌜ LibraryOpens (inputOf (now (store .entry)) (now (graph .entry)) (now (tips .entry)) (now (hidden .entry)) (now (excluded .entry)) (settingsOf sorting limited cutoff first)) (lentOf (now (names .entry)) (now (marks .entry)) (now (levels .entry)) (now (times .entry)) (now (line .entry)) (now (parents .entry))) (lentOf (now (names .exit)) (now (marks .exit)) (now (levels .exit)) (now (times .exit)) (now (line .exit)) (now (parents .exit))) (now (words .entry)) (now (words .exit)) (now (numbers .entry)) (now (numbers .exit)) n ⌝ }
 {
     if !wire::can_open(words, numbers) {
-        return wire::NO_ROOM;
+        return NO_ROOM;
     }
     let settings = wire::settings_of(sorting, limited, cutoff, first);
     let o = traverse::open::open(
@@ -93,7 +97,7 @@ pub extern "C" fn linenhatch_next(
     ensures { λ n. ⌜ LibraryNext (filesLent (now (store .entry)) (now (graph .entry)) (now (hidden .entry)) (now (excluded .entry)) (settingsOf sorting limited cutoff first)) (lentOf (now (names .entry)) (now (marks .entry)) (now (levels .entry)) (now (times .entry)) (now (line .entry)) (now (parents .entry))) (lentOf (now (names .exit)) (now (marks .exit)) (now (levels .exit)) (now (times .exit)) (now (line .exit)) (now (parents .exit))) (now (words .entry)) (now (words .exit)) (now (id .entry)) (now (id .exit)) (now (numbers .entry)) (now (numbers .exit)) (now (seconds .entry)) (now (seconds .exit)) n ⌝ }
 {
     if !wire::can_call(words, id, numbers, seconds) {
-        return wire::NO_ROOM;
+        return NO_ROOM;
     }
     let settings = wire::settings_of(sorting, limited, cutoff, first);
     let r = wire::decode(words);

@@ -1,4 +1,4 @@
--- Settings from numbers, the result where there is no room, and what the functions that set an answer down promise. Assumes nothing.
+-- Settings from numbers, and what the functions that set an answer down promise. Assumes nothing.
 use Prim.Native.Nat.{ℕ}
 use mathlib.Core.Path.{_≡_}
 use mathlib.Core.Bool.{cond}
@@ -35,13 +35,6 @@ parentsOf first = cond (eqb first 0) All First
 
 unfoldable pub settingsOf : ℕ → ℕ → ℤ → ℕ → Settings
 settingsOf sorting limited cutoff first = record { sorting = sortingOf sorting limited cutoff; parents = parentsOf first }
-
--- ---- no room
-
--- the result where a buffer of the library's own is too short: the record's words, or what an answer is set down in. Document 01 does not
--- name these, so it is no number of document 01's, and no outcome's (`no-room-call`, `no-room-open` in proofs/NoRoom.antt)
-abbrev pub noRoom : ℕ
-noRoom = 101
 
 -- ---- answers set down
 

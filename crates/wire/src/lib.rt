@@ -36,10 +36,6 @@ const CLOSED: u32 = 12;
 // The number of the end, which is no refusal's.
 const END: u32 = 100;
 
-// The result where the record's words, or what an answer is set down in, are too short. Document 01 does not name these buffers, so it is
-// none of its numbers: its 1 is said of the walk's own memory, and closes the record.
-pub const NO_ROOM: u32 = 101;
-
 // Whether there is room for the record's words and an opening's numbers.
 pub fn can_open(words: &[u64], numbers: &[u64]) -> bool
     ensures { λ r. ⌜ r ≡ roomToOpen (now (words .entry)) (now (numbers .entry)) ⌝ }

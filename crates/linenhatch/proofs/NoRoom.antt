@@ -7,7 +7,7 @@ use Rattle.walk.specs.declared.OpenOutcome.{OpenOutcome}
 use Rattle.walk.specs.declared.OpenOutcome.the-variants.{Accepted, NotOpened}
 use Rattle.walk.specs.Given.{outcomeNumber, openNumber}
 use Rattle.walk.proofs.Outcomes.{refusal-number-between}
-use Rattle.wire.specs.Numbers.{noRoom}
+use Rattle.linenhatch.specs.Library.{noRoom}
 
 pub no-room-call : (o : Outcome) → outcomeNumber o ≡ noRoom → ⊥
 no-room-call Commit h = omega arith
