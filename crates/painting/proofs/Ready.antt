@@ -11,7 +11,7 @@ use lib.ListN.{length, length-append, getD}
 use lib.IntN.{ℤ}
 use Rattle.hash.specs.Bytes.{Id}
 use Rattle.hash.proofs.Tests.{or-left, or-right}
-use Rattle.hashtable.specs.Marks.{visible, hidden, seen, frontier}
+use Rattle.hashtable.specs.Marks.{seen, frontier}
 use Rattle.hashtable.specs.Table.{idOf, liveAt, Table, markFor}
 use Rattle.hashtable.proofs.TableView.{look}
 use Rattle.commitgraph.specs.Graph.{graphOk}
@@ -80,12 +80,10 @@ module _ {i : Input} {r : Record} {m : Memory} {levels : List ℕ} {st : State} 
   table = subst (λ (b : Bool). Table b (m .names) (m .marks) (P i)) unpainted (a .reads .table)
 
   taken-seen : (k : ℕ) → k < P i → liveAt false (m .marks) k ≡ true → seen (getD (m .marks) k 0) ≡ true
-  unfolding seen
-  taken-seen k l h = ap seen (a .reads .only-seen unpainted k l h)
+  taken-seen k l h = a .reads .only-seen unpainted k l h .0
 
   pub taken-plain : (k : ℕ) → k < P i → liveAt false (m .marks) k ≡ true → frontier (getD (m .marks) k 0) ≡ false
-  unfolding frontier visible hidden
-  taken-plain k l h = ap frontier (a .reads .only-seen unpainted k l h)
+  taken-plain k l h = a .reads .only-seen unpainted k l h .1
 
   held-seen : (y : Id) → (markFor false (m .names) (m .marks) (P i) y ≡ 0 → ⊥) → st .seen y ≡ true
   held-seen y n =

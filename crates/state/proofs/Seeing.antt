@@ -55,7 +55,7 @@ module _ {r : Record} {m : Memory} {sh : Shape} {st : State} (g : Reads r m sh s
       ⊎-elim (λ e. inl (seen-held x k h e)) (λ e. inr (frontier-held f p x k h e)) (or-cases {a = seen (getD (m .marks) k 0)} {b = frontier (getD (m .marks) k 0)} a))
       (λ p.
       let a : live false (getD (m .marks) k 0) ≡ true = ap (λ (b : Bool). live b (getD (m .marks) k 0)) (sym p) ∙ h .alive in
-      inl (seen-held x k h (ap seen (g .only-seen p k (h .low) a) ∙ seen-8)))
+      inl (seen-held x k h (g .only-seen p k (h .low) a .0)))
 
   pub known-live : (x : Id) → (st .frontier x || st .seen x) ≡ true → (k : ℕ) × Holds (r .painted) (m .names) (m .marks) (sh .cap) x k
   known-live x e =
@@ -123,11 +123,14 @@ module _ {r : Record} {names marks names′ marks′ : List ℕ} {times : List �
   seen-there : seen (getD marks′ k 0) ≡ true
   seen-there = ap seen mark-8 ∙ seen-8
 
-  only : r .painted ≡ false → (j : ℕ) → j < sh .cap → liveAt false marks′ j ≡ true → getD marks′ j 0 ≡ 8
+  only : r .painted ≡ false → (j : ℕ) → j < sh .cap → liveAt false marks′ j ≡ true → (seen (getD marks′ j 0) ≡ true) × (frontier (getD marks′ j 0) ≡ false)
   only p j l a =
       ⊎-elim
-      (λ q. ap (λ (n : ℕ). getD marks′ n 0) q ∙ mark-8)
-      (λ n. let o = i .old k e j n .1 in o ∙ g .only-seen p j l (ap (live false) (sym o) ∙ a))
+      (λ q. let o = ap (λ (n : ℕ). getD marks′ n 0) q ∙ mark-8 in (ap seen o ∙ seen-8, ap frontier o ∙ frontier-8))
+      (λ n.
+      let o = i .old k e j n .1 in
+      let h = g .only-seen p j l (ap (live false) (sym o) ∙ a) in
+      (ap seen o ∙ h .0, ap frontier o ∙ h .1))
       (same? j k)
 
   enters : Reads r (mem names′ marks′ times line) sh (sees st x)

@@ -9,7 +9,7 @@ use native.Mathlib.Omega.{arith}
 use lib.ListN.{length, getD, length-map}
 use lib.IntN.{ℤ, pos}
 use Rattle.hash.specs.Bytes.{Id}
-use Rattle.hash.proofs.Tests.{byCases, clash, not-yes}
+use Rattle.hash.proofs.Tests.{clash, not-yes}
 use Rattle.hashtable.specs.Marks.{seen, frontier, live}
 use Rattle.hashtable.specs.Table.{idOf, liveAt, Holds, Sized, Table, markFor, has}
 use Rattle.hashtable.proofs.MarksBits.{live-seen}
@@ -70,14 +70,13 @@ one-state g h = λ k. record {
 -- ---- memory changes where nothing is read
 
 -- from one table to another nothing changes that is read: no slot is emptied, the live slots are the same, with their ids, and whether they
--- are seen; after painting also whether they are in the frontier
+-- are seen and in the frontier
 pub record Likewise (painted : Bool) (names marks names′ marks′ : List ℕ) (cap : ℕ) : Type 0 where
   pub used : (k : ℕ) → k < cap → liveAt false marks k ≡ true → liveAt false marks′ k ≡ true
   pub alive : (k : ℕ) → k < cap → liveAt painted marks′ k ≡ liveAt painted marks k
   pub id : (k : ℕ) → k < cap → liveAt painted marks k ≡ true → idOf names′ k ≡ idOf names k
   pub seen-bit : (k : ℕ) → k < cap → liveAt painted marks k ≡ true → seen (getD marks′ k 0) ≡ seen (getD marks k 0)
-  pub frontier-bit : painted ≡ true → (k : ℕ) → k < cap → liveAt painted marks k ≡ true → frontier (getD marks′ k 0) ≡ frontier (getD marks k 0)
-  pub whole-mark : painted ≡ false → (k : ℕ) → k < cap → liveAt painted marks k ≡ true → getD marks′ k 0 ≡ getD marks k 0
+  pub frontier-bit : (k : ℕ) → k < cap → liveAt painted marks k ≡ true → frontier (getD marks′ k 0) ≡ frontier (getD marks k 0)
 
 module _ {painted : Bool} {names marks names′ marks′ : List ℕ} {cap : ℕ} (e : Likewise painted names marks names′ marks′ cap) where
   likewise-keeps : Keeps painted names marks painted names′ marks′ cap
@@ -100,8 +99,7 @@ agrees-likewise {painted} g = record {
   alive = λ k l. ap (live painted) (g .mark k l);
   id = g .id;
   seen-bit = λ k l a. ap seen (g .mark k l);
-  frontier-bit = λ p k l a. ap frontier (g .mark k l);
-  whole-mark = λ p k l a. g .mark k l;
+  frontier-bit = λ k l a. ap frontier (g .mark k l);
 }
 
 -- from m to m′ nothing changes that is read: neither the table, nor the seconds of waiting slots, nor the line below 2 · cap
@@ -112,10 +110,6 @@ pub record Elsewhere (r : Record) (m m′ : Memory) (cap : ℕ) : Type 0 where
   pub table : Likewise (r .painted) (m .names) (m .marks) (m′ .names) (m′ .marks) cap
   pub times : (s : ℕ) → In s (waiting r m) → getD (m .times) s (pos 0) ≡ getD (m′ .times) s (pos 0)
   pub line : (k : ℕ) → k < cap + cap → getD (m .line) k 0 ≡ getD (m′ .line) k 0
-
-off : (a b c d : Bool) → a ≡ false → (a && b && c) ≡ (a && b && d)
-off true b c d e = clash refl e
-off false b c d e = refl
 
 module _ {r : Record} {m m′ : Memory} {sh : Shape} {st : State} (g : Reads r m sh st) (e : Elsewhere r m m′ (sh .cap)) where
   line-same : (k : ℕ) → k < r .queue .cap + r .queue .cap → getD (m .line) k 0 ≡ getD (m′ .line) k 0
@@ -137,15 +131,14 @@ module _ {r : Record} {m m′ : Memory} {sh : Shape} {st : State} (g : Reads r m
 
   frontier-same : (x : Id) → (r .painted && not (r .failed) && has (r .painted) (m .names) (m .marks) (sh .cap) frontier x)
       ≡ (r .painted && not (r .failed) && has (r .painted) (m′ .names) (m′ .marks) (sh .cap) frontier x)
-  frontier-same x =
-      byCases (r .painted)
-      (λ p. ap (λ (b : Bool). r .painted && not (r .failed) && b) (sym (likewise-has (e .table) frontier table-same (e .table .frontier-bit p) x)))
-      (off (r .painted) (not (r .failed)) (has (r .painted) (m .names) (m .marks) (sh .cap) frontier x) (has (r .painted) (m′ .names) (m′ .marks) (sh .cap) frontier x))
+  frontier-same x = ap (λ (b : Bool). r .painted && not (r .failed) && b) (sym (likewise-has (e .table) frontier table-same (e .table .frontier-bit) x))
 
-  only : r .painted ≡ false → (k : ℕ) → k < sh .cap → liveAt false (m′ .marks) k ≡ true → getD (m′ .marks) k 0 ≡ 8
+  only : r .painted ≡ false → (k : ℕ) → k < sh .cap → liveAt false (m′ .marks) k ≡ true → (seen (getD (m′ .marks) k 0) ≡ true) × (frontier (getD (m′ .marks) k 0) ≡ false)
   only p k l a =
       let b : liveAt false (m .marks) k ≡ true = sym (subst (λ (c : Bool). liveAt c (m′ .marks) k ≡ liveAt c (m .marks) k) p (e .table .alive k l)) ∙ a in
-      e .table .whole-mark p k l (ap (λ (c : Bool). liveAt c (m .marks) k) p ∙ b) ∙ g .only-seen p k l b
+      let h : liveAt (r .painted) (m .marks) k ≡ true = ap (λ (c : Bool). liveAt c (m .marks) k) p ∙ b in
+      let o = g .only-seen p k l b in
+      (e .table .seen-bit k l h ∙ o .0, e .table .frontier-bit k l h ∙ o .1)
 
   pub elsewhere : Reads r m′ sh st
   elsewhere = record {

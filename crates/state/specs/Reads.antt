@@ -53,8 +53,8 @@ pub record Reads (r : Record) (m : Memory) (sh : Shape) (st : State) : Type 0 wh
   -- the seen and the frontier
   pub seen-is : (x : Id) → st .seen x ≡ has (r .painted) (m .names) (m .marks) (sh .cap) seen x
   pub frontier-is : (x : Id) → st .frontier x ≡ (r .painted && not (r .failed) && has (r .painted) (m .names) (m .marks) (sh .cap) frontier x)
-  -- before painting the mark of a live slot is SEEN alone
-  pub only-seen : r .painted ≡ false → (k : ℕ) → k < sh .cap → liveAt false (m .marks) k ≡ true → getD (m .marks) k 0 ≡ 8
+  -- before painting a live slot is seen, and not in the frontier, whatever else its mark holds
+  pub only-seen : r .painted ≡ false → (k : ℕ) → k < sh .cap → liveAt false (m .marks) k ≡ true → (seen (getD (m .marks) k 0) ≡ true) × (frontier (getD (m .marks) k 0) ≡ false)
   -- after a refused painting nothing waits
   pub failed-empty : r .failed ≡ true → waiting r m ≡ []
   pub painted : st .painted ≡ r .painted
