@@ -2,9 +2,11 @@
 use commitgraph::Layout;
 use commitgraph::rows;
 use commitgraph::rows::Position;
+use hash::Kind;
 use odb::Located;
 ghost use mathlib.Core.Path.{_≡_};
-ghost use Rattle.commit.specs.Find.{inStore, FindsCommit, partOf};
+ghost use Rattle.hash.specs.Bytes.{widthOf};
+ghost use Rattle.commit.specs.Find.{inGraph, inStore, FindsCommit, fromTo, partOf};
 
 // The commit-graph file, where one is used: where its chunks stand. (In the Rust an Option of the file.)
 pub enum Cache {
@@ -12,12 +14,30 @@ pub enum Cache {
     NoGraph,
 }
 
-// Which file has a commit, and where: the position of its row in the commit-graph file; or the first byte of its body in the commit
-// store, and the byte after its last. (The Rust holds the references themselves; `part` gives them.)
+// Which file has a commit, and where: the position of its row in the commit-graph file, and the row's bytes; or the bytes of its body in
+// the commit store. Bytes are told by the first and the one after the last. (The Rust holds the references themselves; `part` gives them.)
 pub enum Either {
-    CachedCommit(usize),
-    CommitRefIter { start: usize, end: usize },
+    CachedCommit {
+        position: usize,
+        start: usize,
+        end: usize,
+    },
+    CommitRefIter {
+        start: usize,
+        end: usize,
+    },
     Absent,
+}
+
+// The row at a position, as an answer.
+fn in_graph(kind: Kind, graph: &[u8], l: Layout, position: usize) -> Either
+    ensures { λ r. ⌜ r ≡ inGraph (widthOf kind) (now (graph .entry)) l position ⌝ }
+{
+    Either::CachedCommit {
+        position,
+        start: rows::start(kind, graph, l, position),
+        end: rows::end(kind, graph, l, position),
+    }
 }
 
 // What the store has, as an answer.
@@ -30,27 +50,38 @@ fn in_store(at: Located) -> Either
     }
 }
 
-// Which of the two files has a commit: the graph comes before the store.
-pub fn find(cache: Cache, graph: &[u8], store: &[u8], id: &[u8]) -> Either
-    ensures { λ r. ⌜ FindsCommit cache (now (graph .entry)) (now (store .entry)) (now (id .entry)) r ⌝ }
+// Which of the two files has a commit: the graph comes before the store. Its row may stand at position near, which is looked at first; on
+// good files any other number gives the same answer.
+pub fn find(kind: Kind, cache: Cache, graph: &[u8], store: &[u8], id: &[u8], near: usize) -> Either
+    ensures { λ r. ⌜ FindsCommit (widthOf kind) cache (now (graph .entry)) (now (store .entry)) (now (id .entry)) r ⌝ }
 {
     match cache {
-        Cache::Graph(l) => match rows::lookup(graph, l, id) {
-            Position::At(p) => Either::CachedCommit(p),
-            Position::Absent => in_store(odb::locate(store, id)),
+        Cache::Graph(l) => match rows::lookup_near(kind, graph, l, id, near) {
+            Position::At(p) => in_graph(kind, graph, l, p),
+            Position::Absent => in_store(odb::locate(kind, store, id)),
         },
-        Cache::NoGraph => in_store(odb::locate(store, id)),
+        Cache::NoGraph => in_store(odb::locate(kind, store, id)),
     }
+}
+
+// The bytes of a file from start up to end, as far as they stand in it.
+fn bytes(file: &[u8], start: usize, end: usize) -> &[u8]
+    ensures { λ r. ⌜ now r ≡ fromTo (now (file .entry)) start end ⌝ }
+{
+    if end < start {
+        return hash::part(file, start, 0);
+    }
+    hash::part(file, start, end - start)
 }
 
 // The part of a file that an answer names: a row of the commit-graph file or a body of the commit store, itself and not a copy; empty
 // where it names none.
-pub fn part<'a>(at: Either, l: Layout, graph: &'a [u8], store: &'a [u8]) -> &'a [u8]
-    ensures { λ r. ⌜ now r ≡ partOf at l (now (graph .entry)) (now (store .entry)) ⌝ }
+pub fn part<'a>(at: Either, graph: &'a [u8], store: &'a [u8]) -> &'a [u8]
+    ensures { λ r. ⌜ now r ≡ partOf at (now (graph .entry)) (now (store .entry)) ⌝ }
 {
     match at {
-        Either::CachedCommit(p) => rows::row(graph, l, p),
-        Either::CommitRefIter { start, end } => odb::body(store, Located::Body { start, end }),
-        Either::Absent => odb::body(store, Located::Absent),
+        Either::CachedCommit { start, end, .. } => bytes(graph, start, end),
+        Either::CommitRefIter { start, end } => bytes(store, start, end),
+        Either::Absent => bytes(store, 0, 0),
     }
 }

@@ -16,7 +16,7 @@ use Rattle.hash.proofs.Tests.{byCases}
 use Rattle.commitgraph.specs.declared.Layout.{Layout}
 use Rattle.commitgraph.specs.declared.parents.ParentList.{ParentList}
 use Rattle.commitgraph.specs.declared.parents.ParentList.the-variants.{Good, Corrupt}
-use Rattle.commitgraph.specs.Graph.{edgeIn, edgesFrom, afterFirst, parentsIn, graphParents, graphCount, layoutOf, rowIn, parentListOf, countedFrom, withParent, topBit, noParent, mostParents}
+use Rattle.commitgraph.specs.Graph.{edgeIn, edgesFrom, afterFirst, parentsIn, parentIn, graphParents, graphCount, layoutOf, rowIn, parentListOf, countedFrom, withParent, topBit, noParent, mostParents}
 
 -- ---- an entry of EDGE: it is none, the last, or one before others
 
@@ -139,8 +139,8 @@ edge-list g l (suc k) j es e =
     let s : v % topBit ∷ [] ≡ es = cc in
     subst (EdgeList g l (suc k) j) s (edge-cons g l k j [] (ltb-true _ _ t) (edge-nil g l k (suc j))))
     (λ u.
-    let w = with-some (v % topBit) (edgesFrom g l k (suc j)) es (sym (edge-more g l k j (ltb-true _ _ h) (ltb-true _ _ t) (leb-false _ _ u)) ∙ e) in
-    subst (EdgeList g l (suc k) j) (sym (w .2)) (edge-cons g l k j (w .0) (ltb-true _ _ t) (edge-list g l k (suc j) (w .0) (w .1)))))
+    let both = with-some (v % topBit) (edgesFrom g l k (suc j)) es (sym (edge-more g l k j (ltb-true _ _ h) (ltb-true _ _ t) (leb-false _ _ u)) ∙ e) in
+    subst (EdgeList g l (suc k) j) (sym (both .2)) (edge-cons g l k j (both .0) (ltb-true _ _ t) (edge-list g l k (suc j) (both .0) (both .1)))))
     (λ t. no-list es (sym (edge-high g l k j (ltb-false _ _ t)) ∙ e)))
     (λ h. no-list es (sym (edge-out g l k j (ltb-false _ _ h)) ∙ e))
   where
@@ -207,33 +207,33 @@ module _ (g : List ℕ) (l : Layout) (b : ℕ) where
       listed t r = record { few = r .few; below = r .below; second = λ s i h. absurd (omega arith); listed = λ s. r .each }
 
 -- a good parent list: how many, where each stands in the file, and that each is a position
-pub record GoodList (g : List ℕ) (l : Layout) (p : ℕ) (ps : List ℕ) : Type 0 where
+pub record GoodList (w : ℕ) (g : List ℕ) (l : Layout) (p : ℕ) (ps : List ℕ) : Type 0 where
   pub few : length ps ≤ mostParents
   pub below : (k : ℕ) → k < length ps → getD ps k 0 < l .count
-  pub first : 0 < length ps → getD ps 0 0 ≡ u32At (rowIn g l p) 20
-  pub second : u32At (rowIn g l p) 24 < topBit → (k : ℕ) → 0 < k → k < length ps → getD ps k 0 ≡ u32At (rowIn g l p) 24
-  pub listed : topBit ≤ u32At (rowIn g l p) 24 → (k : ℕ) → 0 < k → k < length ps
-      → getD ps k 0 ≡ edgeIn g l (u32At (rowIn g l p) 24 % topBit + (k - 1)) % topBit
+  pub first : 0 < length ps → getD ps 0 0 ≡ u32At (rowIn w g l p) w
+  pub second : u32At (rowIn w g l p) (w + 4) < topBit → (k : ℕ) → 0 < k → k < length ps → getD ps k 0 ≡ u32At (rowIn w g l p) (w + 4)
+  pub listed : topBit ≤ u32At (rowIn w g l p) (w + 4) → (k : ℕ) → 0 < k → k < length ps
+      → getD ps k 0 ≡ edgeIn g l (u32At (rowIn w g l p) (w + 4) % topBit + (k - 1)) % topBit
 
-module _ (g : List ℕ) (l : Layout) (p : ℕ) where
-  pub parents-root : u32At (rowIn g l p) 20 ≡ noParent → u32At (rowIn g l p) 24 ≡ noParent → parentsIn g l p ≡ some []
+module _ (w : ℕ) (g : List ℕ) (l : Layout) (p : ℕ) where
+  pub parents-root : u32At (rowIn w g l p) w ≡ noParent → u32At (rowIn w g l p) (w + 4) ≡ noParent → parentsIn w g l p ≡ some []
   unfolding parentsIn
   parents-root h k = rw (eq-eqb _ _ h, eq-eqb _ _ k)
 
-  pub parents-torn : u32At (rowIn g l p) 20 ≡ noParent → (u32At (rowIn g l p) 24 ≡ noParent → ⊥) → parentsIn g l p ≡ none
+  pub parents-torn : u32At (rowIn w g l p) w ≡ noParent → (u32At (rowIn w g l p) (w + 4) ≡ noParent → ⊥) → parentsIn w g l p ≡ none
   unfolding parentsIn
   parents-torn h k = rw (eq-eqb _ _ h, ne-eqb _ _ k)
 
-  module _ (ne : u32At (rowIn g l p) 20 ≡ noParent → ⊥) where
-    pub parents-high : l .count ≤ u32At (rowIn g l p) 20 → parentsIn g l p ≡ none
+  module _ (ne : u32At (rowIn w g l p) w ≡ noParent → ⊥) where
+    pub parents-high : l .count ≤ u32At (rowIn w g l p) w → parentsIn w g l p ≡ none
     unfolding parentsIn
     parents-high h = rw (ne-eqb _ _ ne, le-ltb _ _ h)
 
-    pub parents-some : u32At (rowIn g l p) 20 < l .count → parentsIn g l p ≡ withParent (u32At (rowIn g l p) 20) (afterFirst g l (u32At (rowIn g l p) 24))
+    pub parents-some : u32At (rowIn w g l p) w < l .count → parentsIn w g l p ≡ withParent (u32At (rowIn w g l p) w) (afterFirst g l (u32At (rowIn w g l p) (w + 4)))
     unfolding parentsIn
     parents-some h = rw (ne-eqb _ _ ne, lt-ltb _ _ h)
 
-  good-cons : (es : List ℕ) → u32At (rowIn g l p) 20 < l .count → After g l (u32At (rowIn g l p) 24) es → GoodList g l p (u32At (rowIn g l p) 20 ∷ es)
+  good-cons : (es : List ℕ) → u32At (rowIn w g l p) w < l .count → After g l (u32At (rowIn w g l p) (w + 4)) es → GoodList w g l p (u32At (rowIn w g l p) w ∷ es)
   good-cons es h r = record {
     few = omega (arith, r .few);
     below = below;
@@ -243,10 +243,10 @@ module _ (g : List ℕ) (l : Layout) (p : ℕ) where
   }
     where
       a : ℕ
-      a = u32At (rowIn g l p) 20
+      a = u32At (rowIn w g l p) w
 
       b : ℕ
-      b = u32At (rowIn g l p) 24
+      b = u32At (rowIn w g l p) (w + 4)
 
       later : (P : ℕ → ℕ → Type 0) → ((i : ℕ) → i < length es → P i (getD es i 0)) → (k : ℕ) → 0 < k → k < suc (length es) → P (k - 1) (getD (a ∷ es) k 0)
       later P f zero n m = absurd (omega arith)
@@ -256,7 +256,7 @@ module _ (g : List ℕ) (l : Layout) (p : ℕ) where
       below zero m = h
       below (suc k) m = r .below k (omega arith)
 
-  good-nil : GoodList g l p []
+  good-nil : GoodList w g l p []
   good-nil = record {
     few = omega arith;
     below = λ k h. absurd (omega arith);
@@ -265,39 +265,75 @@ module _ (g : List ℕ) (l : Layout) (p : ℕ) where
     listed = λ s k n h. absurd (omega arith);
   }
 
-  pub good-list : (ps : List ℕ) → parentsIn g l p ≡ some ps → GoodList g l p ps
+  pub good-list : (ps : List ℕ) → parentsIn w g l p ≡ some ps → GoodList w g l p ps
   good-list ps e =
       byCases (eqb a noParent)
       (λ h. byCases (eqb b noParent)
       (λ k.
       let o : some [] ≡ some ps = sym (parents-root (eqb-true _ _ h) (eqb-true _ _ k)) ∙ e in
       let s : [] ≡ ps = cc in
-      subst (GoodList g l p) s good-nil)
+      subst (GoodList w g l p) s good-nil)
       (λ k. no-list ps (sym (parents-torn (eqb-true _ _ h) (eqb-false _ _ k)) ∙ e)))
       (λ h. byCases (ltb a (l .count))
       (λ k.
-      let w = with-some a (afterFirst g l b) ps (sym (parents-some (eqb-false _ _ h) (ltb-true _ _ k)) ∙ e) in
-      subst (GoodList g l p) (sym (w .2)) (good-cons (w .0) (ltb-true _ _ k) (after-list g l b (w .0) (w .1))))
+      let both = with-some a (afterFirst g l b) ps (sym (parents-some (eqb-false _ _ h) (ltb-true _ _ k)) ∙ e) in
+      subst (GoodList w g l p) (sym (both .2)) (good-cons (both .0) (ltb-true _ _ k) (after-list g l b (both .0) (both .1))))
       (λ k. no-list ps (sym (parents-high (eqb-false _ _ h) (ltb-false _ _ k)) ∙ e)))
     where
       a : ℕ
-      a = u32At (rowIn g l p) 20
+      a = u32At (rowIn w g l p) w
 
       b : ℕ
-      b = u32At (rowIn g l p) 24
+      b = u32At (rowIn w g l p) (w + 4)
+
+-- ---- one parent by its place
+
+module _ (w : ℕ) (g : List ℕ) (l : Layout) (p : ℕ) where
+  pub parent-first : (k : ℕ) → k ≡ 0 → parentIn w g l p k ≡ u32At (rowIn w g l p) w
+  unfolding parentIn
+  parent-first k e = rw e
+
+  pub parent-second : (k : ℕ) → (k ≡ 0 → ⊥) → u32At (rowIn w g l p) (w + 4) < topBit → parentIn w g l p k ≡ u32At (rowIn w g l p) (w + 4)
+  unfolding parentIn
+  parent-second zero n h = absurd (n refl)
+  parent-second (suc k) n h = rw (lt-leb topBit _ h)
+
+  pub parent-edge : (k : ℕ) → (k ≡ 0 → ⊥) → topBit ≤ u32At (rowIn w g l p) (w + 4)
+      → parentIn w g l p k ≡ edgeIn g l (u32At (rowIn w g l p) (w + 4) % topBit + (k - 1)) % topBit
+  unfolding parentIn
+  parent-edge zero n h = absurd (n refl)
+  parent-edge (suc k) n h = let e : suc k - 1 ≡ k = omega arith in rw (le-leb topBit _ h, e)
+
+  -- parent k of a good list stands at its place
+  parent-there : (k : ℕ) (ps : List ℕ) → parentsIn w g l p ≡ some ps → k < length ps → parentIn w g l p k ≡ getD ps k 0
+  parent-there k ps e h =
+      let good = good-list w g l p ps e in
+      byCases (eqb k 0)
+      (λ z.
+      let n : k ≡ 0 = eqb-true _ _ z in
+      parent-first k n ∙ (sym (good .first (omega arith)) ∙ ap (λ (j : ℕ). getD ps j 0) (sym n)))
+      (λ z.
+      let n : k ≡ 0 → ⊥ = eqb-false _ _ z in
+      byCases (leb topBit (u32At (rowIn w g l p) (w + 4)))
+      (λ t. parent-edge k n (leb-true _ _ t) ∙ sym (good .listed (leb-true _ _ t) k (omega arith) h))
+      (λ t. parent-second k n (leb-false _ _ t) ∙ sym (good .second (leb-false _ _ t) k (omega arith) h)))
+
+-- a number read as parent k is parent k of the list, where the list is good and has so many: for readers that counted the parents before
+pub parent-listed : (w : ℕ) (g : List ℕ) (l : Layout) (p k : ℕ) {q : ℕ} → q ≡ parentIn w g l p k → (ps : List ℕ) → parentsIn w g l p ≡ some ps → k < length ps → q ≡ getD ps k 0
+parent-listed w g l p k r ps e h = r ∙ parent-there w g l p k ps e h
 
 -- ---- of the file's own layout
 
-module _ (g : List ℕ) (p : ℕ) (ps : List ℕ) (e : graphParents g p ≡ some ps) where
+module _ (w : ℕ) (g : List ℕ) (p : ℕ) (ps : List ℕ) (e : graphParents w g p ≡ some ps) where
   -- a good list has at most 256 parents
   pub parents-few : length ps ≤ mostParents
   unfolding graphParents
-  parents-few = good-list g (layoutOf g) p ps e .few
+  parents-few = good-list w g (layoutOf g) p ps e .few
 
   -- every position of a good list is below N
   pub parents-at-below : (k : ℕ) → k < length ps → getD ps k 0 < graphCount g
   unfolding graphParents layoutOf
-  parents-at-below = good-list g (layoutOf g) p ps e .below
+  parents-at-below = good-list w g (layoutOf g) p ps e .below
 
   pub parents-below : (q : ℕ) → List·Memᴰ q ps → q < graphCount g
   parents-below = members ps (λ q. q < graphCount g) parents-at-below

@@ -24,48 +24,48 @@ use Rattle.hash.proofs.Tests.{clash, byCases, not-yes, and-first, and-second, a
 
 -- ---- counting ids by their first byte
 
-pub count-le : (g : List ℕ) (x n : ℕ) → atMost g x n ≤ n
+pub count-le : (w : ℕ) (g : List ℕ) (x n : ℕ) → atMost w g x n ≤ n
 unfolding atMost
-count-le g x zero = omega arith
-count-le g x (suc n) = let h = count-le g x n in byCases (leb (firstByte g n) x) (λ e. rw e (omega arith)) (λ e. rw e (omega arith))
+count-le w g x zero = omega arith
+count-le w g x (suc n) = let h = count-le w g x n in byCases (leb (firstByte w g n) x) (λ e. rw e (omega arith)) (λ e. rw e (omega arith))
 
-pub count-all : (g : List ℕ) (x n : ℕ) → ((k : ℕ) → k < n → firstByte g k ≤ x) → atMost g x n ≡ n
+pub count-all : (w : ℕ) (g : List ℕ) (x n : ℕ) → ((k : ℕ) → k < n → firstByte w g k ≤ x) → atMost w g x n ≡ n
 unfolding atMost
-count-all g x zero h = refl
-count-all g x (suc n) h =
-    let r : atMost g x n ≡ n = count-all g x n (λ k l. h k (omega arith)) in
-    rw (le-leb (firstByte g n) x (h n (omega arith)), r) (omega arith)
+count-all w g x zero h = refl
+count-all w g x (suc n) h =
+    let r : atMost w g x n ≡ n = count-all w g x n (λ k l. h k (omega arith)) in
+    rw (le-leb (firstByte w g n) x (h n (omega arith)), r) (omega arith)
 
-pub count-none : (g : List ℕ) (x n d : ℕ) → ((k : ℕ) → n ≤ k → k < n + d → x < firstByte g k) → atMost g x (n + d) ≡ atMost g x n
+pub count-none : (w : ℕ) (g : List ℕ) (x n d : ℕ) → ((k : ℕ) → n ≤ k → k < n + d → x < firstByte w g k) → atMost w g x (n + d) ≡ atMost w g x n
 unfolding atMost
-count-none g x n zero h = let z : n + zero ≡ n = omega arith in rw z
-count-none g x n (suc d) h =
+count-none w g x n zero h = let z : n + zero ≡ n = omega arith in rw z
+count-none w g x n (suc d) h =
     let z : n + suc d ≡ suc (n + d) = omega arith in
-    let r : atMost g x (n + d) ≡ atMost g x n = count-none g x n d (λ k l m. h k l (omega arith)) in
-    rw (z, lt-leb (firstByte g (n + d)) x (h (n + d) (omega arith) (omega arith))) (omega arith)
+    let r : atMost w g x (n + d) ≡ atMost w g x n = count-none w g x n d (λ k l m. h k l (omega arith)) in
+    rw (z, lt-leb (firstByte w g (n + d)) x (h (n + d) (omega arith) (omega arith))) (omega arith)
 
 -- a greater byte counts more, and so do more ids
-pub count-up : (g : List ℕ) (x y n : ℕ) → x ≤ y → atMost g x n ≤ atMost g y n
+pub count-up : (w : ℕ) (g : List ℕ) (x y n : ℕ) → x ≤ y → atMost w g x n ≤ atMost w g y n
 unfolding atMost
-count-up g x y zero l = omega arith
-count-up g x y (suc n) l =
-    let h = count-up g x y n l in
-    byCases (leb (firstByte g n) x)
-    (λ e. rw (e, le-leb (firstByte g n) y (let k : firstByte g n ≤ x = leb-true (firstByte g n) x e in omega arith)) (omega arith))
+count-up w g x y zero l = omega arith
+count-up w g x y (suc n) l =
+    let h = count-up w g x y n l in
+    byCases (leb (firstByte w g n) x)
+    (λ e. rw (e, le-leb (firstByte w g n) y (let k : firstByte w g n ≤ x = leb-true (firstByte w g n) x e in omega arith)) (omega arith))
     (λ e. rw e (omega arith))
 
-pub count-more : (g : List ℕ) (x n d : ℕ) → atMost g x n ≤ atMost g x (n + d)
+pub count-more : (w : ℕ) (g : List ℕ) (x n d : ℕ) → atMost w g x n ≤ atMost w g x (n + d)
 unfolding atMost
-count-more g x n zero = let z : n + zero ≡ n = omega arith in rw z (omega arith)
-count-more g x n (suc d) = let z : n + suc d ≡ suc (n + d) = omega arith in let h = count-more g x n d in rw z (omega arith)
+count-more w g x n zero = let z : n + zero ≡ n = omega arith in rw z (omega arith)
+count-more w g x n (suc d) = let z : n + suc d ≡ suc (n + d) = omega arith in let h = count-more w g x n d in rw z (omega arith)
 
 -- ---- an id between its two entries
 
 -- id k stands at or past the entry before its first byte, and before the entry at its first byte
-pub record Between (g : List ℕ) (k : ℕ) : Type 0 where
-  pub small : firstByte g k < 256
-  pub past : (i : ℕ) → suc i ≡ firstByte g k → fanAt g i ≤ k
-  pub before : k < fanAt g (firstByte g k)
+pub record Between (w : ℕ) (g : List ℕ) (k : ℕ) : Type 0 where
+  pub small : firstByte w g k < 256
+  pub past : (i : ℕ) → suc i ≡ firstByte w g k → fanAt g i ≤ k
+  pub before : k < fanAt g (firstByte w g k)
 
 -- the entries never fall
 abbrev pub Rises : List ℕ → Type 0
@@ -89,72 +89,72 @@ pub entries-le : (g : List ℕ) → Rises g → (i j : ℕ) → i ≤ j → j < 
 entries-le g r i j l m = let z : i + (j - i) ≡ j = omega arith in rw z at (entries-up g r i (j - i) (omega arith))
 
 -- the ids before entry i are those whose first byte is at most i
-module _ (g : List ℕ) (last : fanAt g 255 ≡ graphCount g) (r : Rises g) (b : (k : ℕ) → k < graphCount g → Between g k) (i : ℕ) (l : i < 256) where
+module _ (w : ℕ) (g : List ℕ) (last : fanAt g 255 ≡ graphCount g) (r : Rises g) (b : (k : ℕ) → k < graphCount g → Between w g k) (i : ℕ) (l : i < 256) where
   within : fanAt g i ≤ graphCount g
   within = omega (arith, entries-le g r i 255 (omega arith) (omega arith))
 
-  counted : (k : ℕ) → k < fanAt g i → firstByte g k ≤ i
+  counted : (k : ℕ) → k < fanAt g i → firstByte w g k ≤ i
   counted k h =
       let t : k < graphCount g = omega (arith, within) in
-      byCases (leb (firstByte g k) i) (λ e. leb-true (firstByte g k) i e)
+      byCases (leb (firstByte w g k) i) (λ e. leb-true (firstByte w g k) i e)
       (λ e.
-      let m : i < firstByte g k = leb-false (firstByte g k) i e in
-      let p : fanAt g (firstByte g k - 1) ≤ k = b k t .past (firstByte g k - 1) (omega arith) in
-      let q : fanAt g i ≤ fanAt g (firstByte g k - 1) = entries-le g r i (firstByte g k - 1) (omega arith) (omega (arith, b k t .small)) in
+      let m : i < firstByte w g k = leb-false (firstByte w g k) i e in
+      let p : fanAt g (firstByte w g k - 1) ≤ k = b k t .past (firstByte w g k - 1) (omega arith) in
+      let q : fanAt g i ≤ fanAt g (firstByte w g k - 1) = entries-le g r i (firstByte w g k - 1) (omega arith) (omega (arith, b k t .small)) in
       absurd (omega arith))
 
-  uncounted : (k : ℕ) → fanAt g i ≤ k → k < graphCount g → i < firstByte g k
+  uncounted : (k : ℕ) → fanAt g i ≤ k → k < graphCount g → i < firstByte w g k
   uncounted k h t =
-      byCases (leb (firstByte g k) i)
+      byCases (leb (firstByte w g k) i)
       (λ e.
-      let m : firstByte g k ≤ i = leb-true (firstByte g k) i e in
-      let q : fanAt g (firstByte g k) ≤ fanAt g i = entries-le g r (firstByte g k) i m l in
+      let m : firstByte w g k ≤ i = leb-true (firstByte w g k) i e in
+      let q : fanAt g (firstByte w g k) ≤ fanAt g i = entries-le g r (firstByte w g k) i m l in
       absurd (omega (arith, b k t .before)))
-      (λ e. leb-false (firstByte g k) i e)
+      (λ e. leb-false (firstByte w g k) i e)
 
-  pub counts : fanAt g i ≡ atMost g i (graphCount g)
+  pub counts : fanAt g i ≡ atMost w g i (graphCount g)
   counts =
       let m = fanAt g i in
-      let w : m ≤ graphCount g = within in
+      let h : m ≤ graphCount g = within in
       let z : m + (graphCount g - m) ≡ graphCount g = omega arith in
-      let p : atMost g i m ≡ m = count-all g i m counted in
-      let q : atMost g i (m + (graphCount g - m)) ≡ atMost g i m = count-none g i m (graphCount g - m) (λ k h t. uncounted k h (omega arith)) in
-      let s : atMost g i (graphCount g) ≡ atMost g i m = rw z at q in
+      let p : atMost w g i m ≡ m = count-all w g i m counted in
+      let q : atMost w g i (m + (graphCount g - m)) ≡ atMost w g i m = count-none w g i m (graphCount g - m) (λ k h t. uncounted k h (omega arith)) in
+      let s : atMost w g i (graphCount g) ≡ atMost w g i m = rw z at q in
       sym (s ∙ p)
 
 -- the whole fan-out is right
-pub fan-right : (g : List ℕ) → fanAt g 255 ≡ graphCount g → Rises g → ((k : ℕ) → k < graphCount g → Between g k) → (n : ℕ) → n ≤ 256 → fanOk g n ≡ true
+pub fan-right : (w : ℕ) (g : List ℕ) → fanAt g 255 ≡ graphCount g → Rises g → ((k : ℕ) → k < graphCount g → Between w g k) → (n : ℕ) → n ≤ 256 → fanOk w g n ≡ true
 unfolding fanOk
-fan-right g last r b zero l = refl
-fan-right g last r b (suc n) l =
-    rw (fan-right g last r b n (omega arith), eq-eqb (fanAt g n) (atMost g n (graphCount g)) (counts g last r b n (omega arith)))
+fan-right w g last r b zero l = refl
+fan-right w g last r b (suc n) l =
+    rw (fan-right w g last r b n (omega arith), eq-eqb (fanAt g n) (atMost w g n (graphCount g)) (counts w g last r b n (omega arith)))
 
 -- ---- conversely: what a right fan-out tells
 
-pub fan-counts : (g : List ℕ) (n i : ℕ) → fanOk g n ≡ true → i < n → fanAt g i ≡ atMost g i (graphCount g)
+pub fan-counts : (w : ℕ) (g : List ℕ) (n i : ℕ) → fanOk w g n ≡ true → i < n → fanAt g i ≡ atMost w g i (graphCount g)
 unfolding fanOk
-fan-counts g zero i e l = absurd (omega arith)
-fan-counts g (suc n) i e l =
+fan-counts w g zero i e l = absurd (omega arith)
+fan-counts w g (suc n) i e l =
     byCases (eqb i n)
-    (λ h. let z : i ≡ n = eqb-true i n h in rw z (eqb-true (fanAt g n) (atMost g n (graphCount g)) (guarded (fanOk g n) _ e)))
-    (λ h. fan-counts g n i (guard-test (fanOk g n) _ e) (omega (arith, eqb-false i n h)))
+    (λ h. let z : i ≡ n = eqb-true i n h in rw z (eqb-true (fanAt g n) (atMost w g n (graphCount g)) (guarded (fanOk w g n) _ e)))
+    (λ h. fan-counts w g n i (guard-test (fanOk w g n) _ e) (omega (arith, eqb-false i n h)))
 
-pub fan-rises : (g : List ℕ) → fanOk g 256 ≡ true → Rises g
-fan-rises g e i l =
-    let p : fanAt g i ≡ atMost g i (graphCount g) = fan-counts g 256 i e (omega arith) in
-    let q : fanAt g (suc i) ≡ atMost g (suc i) (graphCount g) = fan-counts g 256 (suc i) e (omega arith) in
-    omega (arith, count-up g i (suc i) (graphCount g) (omega arith))
+pub fan-rises : (w : ℕ) (g : List ℕ) → fanOk w g 256 ≡ true → Rises g
+fan-rises w g e i l =
+    let p : fanAt g i ≡ atMost w g i (graphCount g) = fan-counts w g 256 i e (omega arith) in
+    let q : fanAt g (suc i) ≡ atMost w g (suc i) (graphCount g) = fan-counts w g 256 (suc i) e (omega arith) in
+    omega (arith, count-up w g i (suc i) (graphCount g) (omega arith))
 
 -- an entry that falls
-pub fan-falls : (g : List ℕ) (i : ℕ) → i < 255 → fanAt g (i + 1) < fanAt g i → fanOk g 256 ≡ false
-fan-falls g i l h = not-yes (λ e. let m : fanAt g (suc i) < fanAt g i = rw (add-one i) at h in omega (arith, fan-rises g e i l))
+pub fan-falls : (w : ℕ) (g : List ℕ) (i : ℕ) → i < 255 → fanAt g (i + 1) < fanAt g i → fanOk w g 256 ≡ false
+fan-falls w g i l h = not-yes (λ e. let m : fanAt g (suc i) < fanAt g i = rw (add-one i) at h in omega (arith, fan-rises w g e i l))
 
 -- the first byte of an id
-pub first-of-id : (g : List ℕ) (k : ℕ) → getD (idOf (graphIds g) k) 0 0 ≡ firstByte g k
+pub first-of-id : (w : ℕ) (g : List ℕ) (k : ℕ) → 0 < w → getD (idOf (graphIds w g) k) 0 0 ≡ firstByte w g k
 unfolding idOf graphIds firstByte at
-first-of-id g k =
-    let p = chunkStart g OIDL + 20 * k in
-    getD-take 20 (drop p g) 0 0 (omega arith) ∙ getD-drop p g 0 0 ∙ ap (λ (i : ℕ). getD g i 0) (add-zero p)
+first-of-id w g k h =
+    let p = chunkStart g OIDL + w * k in
+    getD-take w (drop p g) 0 0 (omega arith) ∙ getD-drop p g 0 0 ∙ ap (λ (i : ℕ). getD g i 0) (add-zero p)
 
 -- the first byte of a later id is no lower
 pub heads-up : (a b : Id) → ltId a b ≡ true → getD a 0 0 ≤ getD b 0 0
@@ -165,86 +165,96 @@ heads-up (x ∷ xs) (y ∷ ys) e =
     byCases (ltb x y) (λ h. omega (arith, ltb-true x y h))
     (λ h. byCases (eqb x y) (λ k. omega (arith, eqb-true x y k)) (λ k. clash (rw (h, k) at e) refl))
 
-bytes-up : (g : List ℕ) (n j d : ℕ) → rising (graphIds g) n ≡ true → j + d < n → firstByte g j ≤ firstByte g (j + d)
-bytes-up g n j zero e l = let z : j + zero ≡ j = omega arith in rw z (omega arith)
-bytes-up g n j (suc d) e l =
+-- ids of no bytes do not rise
+no-bytes : (g : List ℕ) (k : ℕ) → ltId (idOf (graphIds 0 g) k) (idOf (graphIds 0 g) (suc k)) ≡ true → ⊥
+unfolding idOf graphIds at ltId
+no-bytes g k e = clash e refl
+
+byte-up : (w : ℕ) (g : List ℕ) (k : ℕ) → ltId (idOf (graphIds w g) k) (idOf (graphIds w g) (suc k)) ≡ true → firstByte w g k ≤ firstByte w g (suc k)
+byte-up zero g k e = absurd (no-bytes g k e)
+byte-up (suc w) g k e =
+    rw (first-of-id (suc w) g k (omega arith), first-of-id (suc w) g (suc k) (omega arith)) at (heads-up (idOf (graphIds (suc w) g) k) (idOf (graphIds (suc w) g) (suc k)) e)
+
+bytes-up : (w : ℕ) (g : List ℕ) (n j d : ℕ) → rising (graphIds w g) n ≡ true → j + d < n → firstByte w g j ≤ firstByte w g (j + d)
+bytes-up w g n j zero e l = let z : j + zero ≡ j = omega arith in rw z (omega arith)
+bytes-up w g n j (suc d) e l =
     let z : j + suc d ≡ suc (j + d) = omega arith in
-    let h : firstByte g j ≤ firstByte g (j + d) = bytes-up g n j d e (omega arith) in
-    let s : ltId (idOf (graphIds g) (j + d)) (idOf (graphIds g) (suc (j + d))) ≡ true = rises (graphIds g) n (j + d) (suc (j + d)) e (omega arith) (omega arith) in
-    let t : firstByte g (j + d) ≤ firstByte g (suc (j + d)) = rw (first-of-id g (j + d), first-of-id g (suc (j + d))) at (heads-up _ _ s) in
+    let h : firstByte w g j ≤ firstByte w g (j + d) = bytes-up w g n j d e (omega arith) in
+    let s : ltId (idOf (graphIds w g) (j + d)) (idOf (graphIds w g) (suc (j + d))) ≡ true = rises (graphIds w g) n (j + d) (suc (j + d)) e (omega arith) (omega arith) in
+    let t : firstByte w g (j + d) ≤ firstByte w g (suc (j + d)) = byte-up w g (j + d) s in
     rw z (omega arith)
 
 -- the first byte of an id and of a later one
-pub bytes-le : (g : List ℕ) (n j k : ℕ) → rising (graphIds g) n ≡ true → j ≤ k → k < n → firstByte g j ≤ firstByte g k
-bytes-le g n j k e l m = let z : j + (k - j) ≡ k = omega arith in rw z at (bytes-up g n j (k - j) e (omega arith))
+pub bytes-le : (w : ℕ) (g : List ℕ) (n j k : ℕ) → rising (graphIds w g) n ≡ true → j ≤ k → k < n → firstByte w g j ≤ firstByte w g k
+bytes-le w g n j k e l m = let z : j + (k - j) ≡ k = omega arith in rw z at (bytes-up w g n j (k - j) e (omega arith))
 
 -- each id stands between its two entries
-pub between : (g : List ℕ) (k : ℕ) → fanOk g 256 ≡ true → rising (graphIds g) (graphCount g) ≡ true → k < graphCount g → firstByte g k < 256 → Between g k
-between g k f r l s = record { small = s; past = past; before = before }
+pub between : (w : ℕ) (g : List ℕ) (k : ℕ) → fanOk w g 256 ≡ true → rising (graphIds w g) (graphCount g) ≡ true → k < graphCount g → firstByte w g k < 256 → Between w g k
+between w g k f r l s = record { small = s; past = past; before = before }
   where
-    past : (i : ℕ) → suc i ≡ firstByte g k → fanAt g i ≤ k
+    past : (i : ℕ) → suc i ≡ firstByte w g k → fanAt g i ≤ k
     past i e =
         let z : k + (graphCount g - k) ≡ graphCount g = omega arith in
-        let p : fanAt g i ≡ atMost g i (graphCount g) = fan-counts g 256 i f (omega arith) in
-        let q : atMost g i (k + (graphCount g - k)) ≡ atMost g i k =
-        count-none g i k (graphCount g - k) (λ j h t. let m : firstByte g k ≤ firstByte g j = bytes-le g (graphCount g) k j r h (omega arith) in omega arith) in
-        let t : atMost g i (graphCount g) ≡ atMost g i k = rw z at q in
-        omega (arith, count-le g i k)
+        let p : fanAt g i ≡ atMost w g i (graphCount g) = fan-counts w g 256 i f (omega arith) in
+        let q : atMost w g i (k + (graphCount g - k)) ≡ atMost w g i k =
+        count-none w g i k (graphCount g - k) (λ j h t. let m : firstByte w g k ≤ firstByte w g j = bytes-le w g (graphCount g) k j r h (omega arith) in omega arith) in
+        let t : atMost w g i (graphCount g) ≡ atMost w g i k = rw z at q in
+        omega (arith, count-le w g i k)
 
-    before : k < fanAt g (firstByte g k)
+    before : k < fanAt g (firstByte w g k)
     before =
-        let b = firstByte g k in
+        let b = firstByte w g k in
         let z : suc k + (graphCount g - suc k) ≡ graphCount g = omega arith in
-        let p : fanAt g b ≡ atMost g b (graphCount g) = fan-counts g 256 b f s in
-        let q : atMost g b (suc k) ≡ suc k = count-all g b (suc k) (λ j h. bytes-le g (graphCount g) j k r (omega arith) l) in
-        let t : atMost g b (suc k) ≤ atMost g b (graphCount g) = rw z at (count-more g b (suc k) (graphCount g - suc k)) in
+        let p : fanAt g b ≡ atMost w g b (graphCount g) = fan-counts w g 256 b f s in
+        let q : atMost w g b (suc k) ≡ suc k = count-all w g b (suc k) (λ j h. bytes-le w g (graphCount g) j k r (omega arith) l) in
+        let t : atMost w g b (suc k) ≤ atMost w g b (graphCount g) = rw z at (count-more w g b (suc k) (graphCount g - suc k)) in
         omega arith
 
 -- ---- the tests of one id
 
 -- that an id stands between its two entries, as a test
-abbrev pub inFan : List ℕ → ℕ → Bool
-inFan g k = leb (cond (eqb (firstByte g k) 0) 0 (fanAt g (firstByte g k - 1))) k && ltb k (fanAt g (firstByte g k))
+abbrev pub inFan : ℕ → List ℕ → ℕ → Bool
+inFan w g k = leb (cond (eqb (firstByte w g k) 0) 0 (fanAt g (firstByte w g k - 1))) k && ltb k (fanAt g (firstByte w g k))
 
 -- what a test that passes tells
-pub between-of : (g : List ℕ) (k : ℕ) {r : Bool} → firstByte g k < 256 → r ≡ inFan g k → r ≡ true → Between g k
-between-of g k s q t =
-    let e : inFan g k ≡ true = sym q ∙ t in
-    let low = cond (eqb (firstByte g k) 0) 0 (fanAt g (firstByte g k - 1)) in
-    let p : low ≤ k = leb-true low k (and-first (leb low k) (ltb k (fanAt g (firstByte g k))) e) in
+pub between-of : (w : ℕ) (g : List ℕ) (k : ℕ) {r : Bool} → firstByte w g k < 256 → r ≡ inFan w g k → r ≡ true → Between w g k
+between-of w g k s q t =
+    let e : inFan w g k ≡ true = sym q ∙ t in
+    let low = cond (eqb (firstByte w g k) 0) 0 (fanAt g (firstByte w g k - 1)) in
+    let p : low ≤ k = leb-true low k (and-first (leb low k) (ltb k (fanAt g (firstByte w g k))) e) in
     record {
       small = s;
       past = λ i q.
-          let z : firstByte g k - 1 ≡ i = omega arith in
-          let n : eqb (firstByte g k) 0 ≡ false = ne-eqb (firstByte g k) 0 (λ y. omega arith) in
+          let z : firstByte w g k - 1 ≡ i = omega arith in
+          let n : eqb (firstByte w g k) 0 ≡ false = ne-eqb (firstByte w g k) 0 (λ y. omega arith) in
           rw (n, z) at p;
-      before = ltb-true k (fanAt g (firstByte g k)) (and-second (leb low k) (ltb k (fanAt g (firstByte g k))) e);
+      before = ltb-true k (fanAt g (firstByte w g k)) (and-second (leb low k) (ltb k (fanAt g (firstByte w g k))) e);
     }
 
 -- where it holds the test passes
-pub in-fan-of : (g : List ℕ) (k : ℕ) → Between g k → inFan g k ≡ true
-in-fan-of g k b = and-of low (lt-ltb k (fanAt g (firstByte g k)) (b .before))
+pub in-fan-of : (w : ℕ) (g : List ℕ) (k : ℕ) → Between w g k → inFan w g k ≡ true
+in-fan-of w g k b = and-of low (lt-ltb k (fanAt g (firstByte w g k)) (b .before))
   where
-    low : leb (cond (eqb (firstByte g k) 0) 0 (fanAt g (firstByte g k - 1))) k ≡ true
+    low : leb (cond (eqb (firstByte w g k) 0) 0 (fanAt g (firstByte w g k - 1))) k ≡ true
     low =
-        byCases (eqb (firstByte g k) 0) (λ e. rw e (le-leb 0 k (omega arith)))
-        (λ e. rw e (le-leb (fanAt g (firstByte g k - 1)) k (b .past (firstByte g k - 1) (nonzero (eqb-false (firstByte g k) 0 e)))))
+        byCases (eqb (firstByte w g k) 0) (λ e. rw e (le-leb 0 k (omega arith)))
+        (λ e. rw e (le-leb (fanAt g (firstByte w g k - 1)) k (b .past (firstByte w g k - 1) (nonzero (eqb-false (firstByte w g k) 0 e)))))
       where
-        nonzero : (firstByte g k ≡ 0 → ⊥) → suc (firstByte g k - 1) ≡ firstByte g k
+        nonzero : (firstByte w g k ≡ 0 → ⊥) → suc (firstByte w g k - 1) ≡ firstByte w g k
         nonzero n = omega arith
 
 -- an id that does not stand between its entries, or not above the one before it, spoils the whole
-pub not-in-fan : (g : List ℕ) (k : ℕ) {r : Bool} → k < graphCount g → firstByte g k < 256 → r ≡ inFan g k → r ≡ false
-    → (fanOk g 256 && rising (graphIds g) (graphCount g)) ≡ false
-not-in-fan g k l s q t = not-yes (λ h. clash (q ∙ in-fan-of g k (between g k (and-first _ (rising (graphIds g) (graphCount g)) h) (and-second (fanOk g 256) _ h) l s)) t)
+pub not-in-fan : (w : ℕ) (g : List ℕ) (k : ℕ) {r : Bool} → k < graphCount g → firstByte w g k < 256 → r ≡ inFan w g k → r ≡ false
+    → (fanOk w g 256 && rising (graphIds w g) (graphCount g)) ≡ false
+not-in-fan w g k l s q t = not-yes (λ h. clash (q ∙ in-fan-of w g k (between w g k (and-first _ (rising (graphIds w g) (graphCount g)) h) (and-second (fanOk w g 256) _ h) l s)) t)
 
-pub not-above : (g : List ℕ) (k : ℕ) {r : Bool} → k < graphCount g → r ≡ risesAt (graphIds g) k → r ≡ false
-    → (fanOk g 256 && rising (graphIds g) (graphCount g)) ≡ false
-not-above g k l q t = not-yes (λ h. clash (q ∙ rising-less (graphIds g) k (rising-first (graphIds g) (suc k) (graphCount g) l (and-second (fanOk g 256) _ h)) .1) t)
+pub not-above : (w : ℕ) (g : List ℕ) (k : ℕ) {r : Bool} → k < graphCount g → r ≡ risesAt (graphIds w g) k → r ≡ false
+    → (fanOk w g 256 && rising (graphIds w g) (graphCount g)) ≡ false
+not-above w g k l q t = not-yes (λ h. clash (q ∙ rising-less (graphIds w g) k (rising-first (graphIds w g) (suc k) (graphCount g) l (and-second (fanOk w g 256) _ h)) .1) t)
 
 -- one id more
-pub between-more : (g : List ℕ) (k : ℕ) → ((j : ℕ) → j < k → Between g j) → Between g k → (j : ℕ) → j < k + 1 → Between g j
-between-more g k v b j l = byCases (eqb j k) (λ e. rw (eqb-true j k e) b) (λ e. v j (omega (arith, eqb-false j k e)))
+pub between-more : (w : ℕ) (g : List ℕ) (k : ℕ) → ((j : ℕ) → j < k → Between w g j) → Between w g k → (j : ℕ) → j < k + 1 → Between w g j
+between-more w g k v b j l = byCases (eqb j k) (λ e. rw (eqb-true j k e) b) (λ e. v j (omega (arith, eqb-false j k e)))
 
 -- how the id at a place stands to the one before it, and whether id k rises
 abbrev pub isLess : Order → Bool
@@ -257,10 +267,10 @@ unfolding compareId
 less-lt a b =
     byCases (ltId a b) (λ e. rw e) (λ e. rw e (byCases (eqId a b) (λ f. rw f) (λ f. rw f)))
 
-pub order-rises : (g : List ℕ) (k ids : ℕ) (o : Order) → ids ≡ chunkStart g OIDL → (k ≡ 0 → ⊥)
-    → o ≡ compareId (at g (ids + 20 * k - 20) 20) (at g (ids + 20 * k) 20) → isLess o ≡ risesAt (graphIds g) k
+pub order-rises : (w : ℕ) (g : List ℕ) (k ids : ℕ) (o : Order) → ids ≡ chunkStart g OIDL → (k ≡ 0 → ⊥)
+    → o ≡ compareId (at g (ids + w * (k - 1)) w) (at g (ids + w * k) w) → isLess o ≡ risesAt (graphIds w g) k
 unfolding risesAt idOf graphIds
-order-rises g zero ids o e n h = absurd (n refl)
-order-rises g (suc j) ids o e n h =
-    let z : ids + 20 * suc j - 20 ≡ ids + 20 * j = omega arith in
+order-rises w g zero ids o e n h = absurd (n refl)
+order-rises w g (suc j) ids o e n h =
+    let z : suc j - 1 ≡ j = omega arith in
     ap isLess h ∙ less-lt _ _ ∙ rw (z, e)

@@ -24,11 +24,11 @@ all-four true true false d e = clash e refl
 all-four true false c d e = clash e refl
 all-four false b c d e = clash e refl
 
--- a test of a number and the same test of both sides plus 20
-pub eqb-past : (a b : ℕ) → 20 ≤ b → eqb a (b - 20) ≡ eqb (a + 20) b
-eqb-past a b h =
-    byCases (eqb a (b - 20)) (λ e. let z : a ≡ b - 20 = eqb-true a (b - 20) e in e ∙ sym (eq-eqb (a + 20) b (omega arith)))
-    (λ e. e ∙ sym (ne-eqb (a + 20) b (λ q. eqb-false a (b - 20) e (omega arith))))
+-- a test of a number and the same test of both sides plus a third
+pub eqb-past : (n a b : ℕ) → n ≤ b → eqb a (b - n) ≡ eqb (a + n) b
+eqb-past n a b h =
+    byCases (eqb a (b - n)) (λ e. let z : a ≡ b - n = eqb-true a (b - n) e in e ∙ sym (eq-eqb (a + n) b (omega arith)))
+    (λ e. e ∙ sym (ne-eqb (a + n) b (λ q. eqb-false a (b - n) e (omega arith))))
 
 -- ---- the first chunk with an id
 
@@ -128,30 +128,30 @@ offsets-up g k (suc d) e =
     rw z (omega (arith, offsets-step g (k + d) f))
 
 -- what a right table tells
-pub record RightTable (g : List ℕ) : Type 0 where
-  pub room : 8 + 12 * (chunkCount g + 1) + 20 ≤ length g
+pub record RightTable (w : ℕ) (g : List ℕ) : Type 0 where
+  pub room : 8 + 12 * (chunkCount g + 1) + w ≤ length g
   pub lastId : chunkId g (chunkCount g) ≡ 0
   pub first : chunkOffset g 0 ≡ 8 + 12 * (chunkCount g + 1)
-  pub last : chunkOffset g (chunkCount g) + 20 ≡ length g
+  pub last : chunkOffset g (chunkCount g) + w ≡ length g
   pub rise : offsetsRise g (chunkCount g) ≡ true
   pub oneFan : chunksOf g OIDF (chunkCount g) ≡ 1
   pub oneIds : chunksOf g OIDL (chunkCount g) ≡ 1
   pub oneRows : chunksOf g CDAT (chunkCount g) ≡ 1
   pub fewEdges : chunksOf g EDGE (chunkCount g) ≤ 1
 
-pub table-right : (g : List ℕ) → tableOk g ≡ true → RightTable g
+pub table-right : (w : ℕ) (g : List ℕ) → tableOk w g ≡ true → RightTable w g
 unfolding tableOk
-table-right g e =
+table-right w g e =
     let n = chunkCount g in
     let a : Bool = eqb (chunkId g n) 0 in
     let b : Bool = eqb (chunkOffset g 0) (8 + 12 * (n + 1)) in
-    let c : Bool = eqb (chunkOffset g n + 20) (length g) in
+    let c : Bool = eqb (chunkOffset g n + w) (length g) in
     let d : Bool = offsetsRise g n in
     let f : Bool = eqb (chunksOf g OIDF n) 1 in
-    let r = all-four (a && b && c && d && f) (eqb (chunksOf g OIDL n) 1) (eqb (chunksOf g CDAT n) 1) (leb (chunksOf g EDGE n) 1) (guarded (leb (8 + 12 * (n + 1) + 20) (length g)) _ e) in
+    let r = all-four (a && b && c && d && f) (eqb (chunksOf g OIDL n) 1) (eqb (chunksOf g CDAT n) 1) (leb (chunksOf g EDGE n) 1) (guarded (leb (8 + 12 * (n + 1) + w) (length g)) _ e) in
     let q = all-four (a && b) c d f (r .0) in
     record {
-      room = leb-true _ _ (guard-test (leb (8 + 12 * (n + 1) + 20) (length g)) _ e);
+      room = leb-true _ _ (guard-test (leb (8 + 12 * (n + 1) + w) (length g)) _ e);
       lastId = eqb-true _ _ (and-first a b (q .0));
       first = eqb-true _ _ (and-second a b (q .0));
       last = eqb-true _ _ (q .1);
@@ -163,19 +163,18 @@ table-right g e =
     }
 
 -- a chunk ends where the next starts, before the checksum
-pub chunk-inside : (g : List ℕ) (c : ℕ) → RightTable g → chunkStart g c + chunkSize g c + 20 ≤ length g
+pub chunk-inside : (w : ℕ) (g : List ℕ) (c : ℕ) → RightTable w g → chunkStart g c + chunkSize g c + w ≤ length g
 unfolding chunkStart chunkSize
-chunk-inside g c t = go (chunkIn g c (chunkCount g)) refl
+chunk-inside w g c t = go (chunkIn g c (chunkCount g)) refl
   where
     go : (o : Option ℕ) → chunkIn g c (chunkCount g) ≡ o
-        → ifSome o 0 (λ k. chunkOffset g k) + ifSome o 0 (λ k. chunkOffset g (suc k) - chunkOffset g k) + 20 ≤ length g
+        → ifSome o 0 (λ k. chunkOffset g k) + ifSome o 0 (λ k. chunkOffset g (suc k) - chunkOffset g k) + w ≤ length g
     go none e = omega (arith, t .room)
     go (some k) e =
         let n = chunkCount g in
         let l : k < n = first-below g c n k e in
         let z : k + 1 ≡ suc k = omega arith in
         let y : suc k + (n - suc k) ≡ n = omega arith in
-        let w : k + 1 + (n - suc k) ≡ n = omega arith in
         let s : chunkOffset g k ≤ chunkOffset g (suc k) = offsets-step g k (offsets-less g (suc k) (n - suc k) (rw y (t .rise))) in
         let u : chunkOffset g (suc k) ≤ chunkOffset g n = rw y at (offsets-up g (suc k) (n - suc k) (rw y (t .rise))) in
         omega (arith, t .last)

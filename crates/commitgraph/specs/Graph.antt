@@ -1,14 +1,16 @@
 -- The commit-graph file (document 01: the graph file; git's gitformat-commit-graph): its layout, its rows and its parent lists.
--- All numbers are big-endian. Assumes nothing.
+-- All numbers are big-endian. Document 02, card 13: ids are w bytes wide; rows and the checksum follow them. Assumes nothing.
 use mathlib.Core.Path.{_≡_}
-use Prim.Native.Nat.{ℕ, zero, suc, _+_, _*_, _-_, _/_, _%_, _<_}
+use Prim.Native.Nat.{ℕ, zero, suc, _+_, _*_, _-_, _/_, _%_, _≤_, _<_, min}
 use mathlib.Core.Bool.{Bool, true, false, cond, _&&_}
 use mathlib.Core.Option.{Option, none, some}
 use mathlib.Core.List.{List, [], _∷_}
 use lib.ListN.{length, take, drop, getD}
 use lib.Dec.{eqb, ltb, leb}
 use lib.IntN.{ℤ, pos}
-use Rattle.hash.specs.Bytes.{Id, idBytes, eqId, at, u32At, u64At, ifSome}
+use Rattle.hash.specs.Bytes.{Id, eqId, at, u32At, u64At, ifSome}
+use Rattle.hash.specs.declared.Kind.{Kind}
+use Rattle.hash.specs.declared.Kind.the-variants.{Sha1, Sha256}
 use Rattle.idlist.specs.IdList.{IdList, idOf, rising, findIn}
 use Rattle.commitgraph.specs.declared.Layout.{Layout}
 use Rattle.commitgraph.specs.declared.rows.Position.{Position}
@@ -18,10 +20,15 @@ use Rattle.commitgraph.specs.declared.parents.ParentList.the-variants.{G
 
 -- ---- the header (refusal 5) and the table of chunks
 
--- "`CGPH`, version 1, hash version 1, chunk count C, base count 0": the first 8 bytes, C being free
-unfoldable pub graphHead : List ℕ → Bool
-graphHead g =
-    let r : Bool = eqId (take 6 g) (67 ∷ 71 ∷ 80 ∷ 72 ∷ 1 ∷ 1 ∷ []) && eqb (getD g 7 0) 0 in
+-- "hash version 1"; card 13: "graph hash version 2 … belongs to" SHA-256
+abbrev pub hashVersion : Kind → ℕ
+hashVersion Sha1 = 1
+hashVersion Sha256 = 2
+
+-- "`CGPH`, version 1, hash version [v], chunk count C, base count 0": the first 8 bytes, C being free
+unfoldable pub graphHead : ℕ → List ℕ → Bool
+graphHead v g =
+    let r : Bool = eqId (take 6 g) (67 ∷ 71 ∷ 80 ∷ 72 ∷ 1 ∷ v ∷ []) && eqb (getD g 7 0) 0 in
     cond (leb 8 (length g)) r false
 
 unfoldable pub chunkCount : List ℕ → ℕ
@@ -70,15 +77,15 @@ chunkStart g c = ifSome (chunkIn g c (chunkCount g)) 0 (λ k. chunkOffset g k)
 unfoldable pub chunkSize : List ℕ → ℕ → ℕ
 chunkSize g c = ifSome (chunkIn g c (chunkCount g)) 0 (λ k. chunkOffset g (suc k) - chunkOffset g k)
 
--- "the last id 0 … the first [offset] is 8+12·(C+1), the last is length − 20 … `OIDF`, `OIDL`, `CDAT` once each, `EDGE` at most once,
--- others skipped". The first test guards the others: only where it holds does the table stand in the file.
-unfoldable pub tableOk : List ℕ → Bool
-tableOk g =
+-- "the last id 0 … the first [offset] is 8+12·(C+1), the last is length − 20 [the checksum, w bytes] … `OIDF`, `OIDL`, `CDAT`
+-- once each, `EDGE` at most once, others skipped". The first test guards the others: only where it holds does the table stand in the file.
+unfoldable pub tableOk : ℕ → List ℕ → Bool
+tableOk w g =
     let c = chunkCount g in
     let r : Bool =
-    eqb (chunkId g c) 0 && eqb (chunkOffset g 0) (8 + 12 * (c + 1)) && eqb (chunkOffset g c + 20) (length g) && offsetsRise g c
+    eqb (chunkId g c) 0 && eqb (chunkOffset g 0) (8 + 12 * (c + 1)) && eqb (chunkOffset g c + w) (length g) && offsetsRise g c
     && eqb (chunksOf g OIDF c) 1 && eqb (chunksOf g OIDL c) 1 && eqb (chunksOf g CDAT c) 1 && leb (chunksOf g EDGE c) 1 in
-    cond (leb (8 + 12 * (c + 1) + 20) (length g)) r false
+    cond (leb (8 + 12 * (c + 1) + w) (length g)) r false
 
 -- ---- the four chunks
 
@@ -92,36 +99,40 @@ graphCount [] = 0
 graphCount (x ∷ g) = fanAt (x ∷ g) 255
 
 -- the ids of OIDL
-unfoldable pub graphIds : List ℕ → IdList
-graphIds g = record { bytes = g; width = idBytes; base = chunkStart g OIDL; stride = 20 }
+unfoldable pub graphIds : ℕ → List ℕ → IdList
+graphIds w g = record { bytes = g; width = w; base = chunkStart g OIDL; stride = w }
 
-unfoldable pub graphId : List ℕ → ℕ → Id
-graphId g p = idOf (graphIds g) p
+unfoldable pub graphId : ℕ → List ℕ → ℕ → Id
+graphId w g p = idOf (graphIds w g) p
 
 -- the first byte of id p
-unfoldable pub firstByte : List ℕ → ℕ → ℕ
-firstByte g p = getD g (chunkStart g OIDL + 20 * p) 0
+unfoldable pub firstByte : ℕ → List ℕ → ℕ → ℕ
+firstByte w g p = getD g (chunkStart g OIDL + w * p) 0
 
 -- how many of the first n ids begin with a byte of at most x
-unfoldable pub atMost : List ℕ → ℕ → ℕ → ℕ
-atMost g x zero = 0
-atMost g x (suc n) = atMost g x n + cond (leb (firstByte g n) x) 1 0
+unfoldable pub atMost : ℕ → List ℕ → ℕ → ℕ → ℕ
+atMost w g x zero = 0
+atMost w g x (suc n) = atMost w g x n + cond (leb (firstByte w g n) x) 1 0
 
 -- "OIDF: 256 u32, the i-th counting ids whose first byte is at most i": its first k entries
-unfoldable pub fanOk : List ℕ → ℕ → Bool
-fanOk g zero = true
-fanOk g (suc k) = let r = eqb (fanAt g k) (atMost g k (graphCount g)) in cond (fanOk g k) r false
+unfoldable pub fanOk : ℕ → List ℕ → ℕ → Bool
+fanOk w g zero = true
+fanOk w g (suc k) = let r = eqb (fanAt g k) (atMost w g k (graphCount g)) in cond (fanOk w g k) r false
 
--- 256 u32, N ids strictly rising, N rows of 36 bytes, whole u32s. The first tests guard the others
-unfoldable pub chunksOk : List ℕ → Bool
-chunksOk g =
+-- a row: the tree's id and four u32
+abbrev pub rowSize : ℕ → ℕ
+rowSize w = w + 16
+
+-- 256 u32, N ids strictly rising, N rows, whole u32s. The first tests guard the others
+unfoldable pub chunksOk : ℕ → List ℕ → Bool
+chunksOk w g =
     let n = graphCount g in
-    let r : Bool = fanOk g 256 && rising (graphIds g) n in
-    cond (eqb (chunkSize g OIDF) 1024 && eqb (chunkSize g OIDL) (20 * n) && eqb (chunkSize g CDAT) (36 * n) && eqb (chunkSize g EDGE % 4) 0) r false
+    let r : Bool = fanOk w g 256 && rising (graphIds w g) n in
+    cond (eqb (chunkSize g OIDF) 1024 && eqb (chunkSize g OIDL) (w * n) && eqb (chunkSize g CDAT) (rowSize w * n) && eqb (chunkSize g EDGE % 4) 0) r false
 
 -- the rest of the layout (refusal 6)
-unfoldable pub graphOk : List ℕ → Bool
-graphOk g = let r : Bool = chunksOk g in cond (tableOk g) r false
+unfoldable pub graphOk : ℕ → List ℕ → Bool
+graphOk w g = let r : Bool = chunksOk w g in cond (tableOk w g) r false
 
 -- where the chunks stand, found by one reading of the table
 unfoldable pub layoutOf : List ℕ → Layout
@@ -137,46 +148,57 @@ layoutOf g = record {
 -- ---- lookup and rows
 
 -- the position of an id
-unfoldable pub graphFind : List ℕ → Id → Option ℕ
-graphFind g x = findIn (graphIds g) x (graphCount g)
+unfoldable pub graphFind : ℕ → List ℕ → Id → Option ℕ
+graphFind w g x = findIn (graphIds w g) x (graphCount g)
 
 abbrev pub positionOf : Option ℕ → Position
 positionOf none = Absent
 positionOf (some p) = At p
 
 -- id p where a layout has it
-unfoldable pub idIn : List ℕ → Layout → ℕ → Id
-idIn g l p = at g (l .ids + idBytes * p) idBytes
+unfoldable pub idIn : ℕ → List ℕ → Layout → ℕ → Id
+idIn w g l p = at g (l .ids + w * p) w
 
 -- how many ids begin with a byte below i, as the fan-out tells
 unfoldable pub idsBelow : List ℕ → Layout → ℕ → ℕ
 idsBelow g l i = cond (eqb i 0) 0 (u32At g (l .fan + 4 * (i - 1)))
 
--- what a lookup of x answers: in a right file the position of x, and on any bytes a hit is x's
-pub record Looks (g : List ℕ) (l : Layout) (x : Id) (r : Position) : Type 0 where
-  pub right : graphOk g ≡ true → l ≡ layoutOf g → r ≡ positionOf (graphFind g x)
-  pub hit : (p : ℕ) → r ≡ At p → (p < l .count) × (idIn g l p ≡ x)
+-- what a lookup of x answers. In a right file it is the position of x. On any bytes and any layout an id of another width is absent, and
+-- what is found is x, below N and whole in the file. The premise of `right` stays: among ids that do not rise a search may miss one that
+-- stands there, and which ones it misses only the search itself would tell.
+pub record Looks (w : ℕ) (g : List ℕ) (l : Layout) (x : Id) (r : Position) : Type 0 where
+  pub right : graphOk w g ≡ true → l ≡ layoutOf g → r ≡ positionOf (graphFind w g x)
+  pub hit : (p : ℕ) → r ≡ At p → (p < l .count) × (idIn w g l p ≡ x)
+  pub inside : (p : ℕ) → r ≡ At p → l .ids + w * p + w ≤ length g
+  pub foreign : (length x ≡ w → ⊥) → r ≡ Absent
 
 -- row p where a layout has it. "CDAT: N rows of 36 bytes: tree id, two u32 parents, then a u32 whose high 30 bits are the level and
--- whose low 2 bits are the high bits of the 34-bit seconds, then their low 32"
-unfoldable pub rowIn : List ℕ → Layout → ℕ → List ℕ
-rowIn g l p = at g (l .rows + 36 * p) 36
+-- whose low 2 bits are the high bits of the 34-bit seconds, then their low 32": the numbers stand at w, w + 4, w + 8 and w + 12
+unfoldable pub rowIn : ℕ → List ℕ → Layout → ℕ → List ℕ
+rowIn w g l p = at g (l .rows + rowSize w * p) (rowSize w)
 
-unfoldable pub levelIn : List ℕ → Layout → ℕ → ℕ
-levelIn g l p = u32At (rowIn g l p) 28 / 4
+-- its first byte, and the byte after its last; the end of the file where they are past it
+unfoldable pub rowStart : ℕ → List ℕ → Layout → ℕ → ℕ
+rowStart w g l p = min (l .rows + rowSize w * p) (length g)
 
-unfoldable pub secondsIn : List ℕ → Layout → ℕ → ℤ
-secondsIn g l p = pos (u32At (rowIn g l p) 28 % 4 * 0x100000000 + u32At (rowIn g l p) 32)
+unfoldable pub rowEnd : ℕ → List ℕ → Layout → ℕ → ℕ
+rowEnd w g l p = min (l .rows + rowSize w * p + rowSize w) (length g)
 
-unfoldable pub graphRow : List ℕ → ℕ → List ℕ
-graphRow g p = rowIn g (layoutOf g) p
+unfoldable pub levelIn : ℕ → List ℕ → Layout → ℕ → ℕ
+levelIn w g l p = u32At (rowIn w g l p) (w + 8) / 4
+
+unfoldable pub secondsIn : ℕ → List ℕ → Layout → ℕ → ℤ
+secondsIn w g l p = pos (u32At (rowIn w g l p) (w + 8) % 4 * 0x100000000 + u32At (rowIn w g l p) (w + 12))
+
+unfoldable pub graphRow : ℕ → List ℕ → ℕ → List ℕ
+graphRow w g p = rowIn w g (layoutOf g) p
 
 -- generation (document 01: level)
-unfoldable pub generation : List ℕ → ℕ → ℕ
-generation g p = levelIn g (layoutOf g) p
+unfoldable pub generation : ℕ → List ℕ → ℕ → ℕ
+generation w g p = levelIn w g (layoutOf g) p
 
-unfoldable pub graphSeconds : List ℕ → ℕ → ℤ
-graphSeconds g p = secondsIn g (layoutOf g) p
+unfoldable pub graphSeconds : ℕ → List ℕ → ℕ → ℤ
+graphSeconds w g p = secondsIn w g (layoutOf g) p
 
 -- ---- parent lists
 
@@ -219,15 +241,22 @@ afterFirst g l b =
 
 -- the positions of a row's parents, in order; none where the list is corrupt: "a position is at least N, the first parent is none or
 -- has the top bit while a second stands, EDGE runs out, or over 256 parents come"
-unfoldable pub parentsIn : List ℕ → Layout → ℕ → Option (List ℕ)
-parentsIn g l p =
-    let a = u32At (rowIn g l p) 20 in
-    let b = u32At (rowIn g l p) 24 in
+unfoldable pub parentsIn : ℕ → List ℕ → Layout → ℕ → Option (List ℕ)
+parentsIn w g l p =
+    let a = u32At (rowIn w g l p) w in
+    let b = u32At (rowIn w g l p) (w + 4) in
     let root : Option (List ℕ) = cond (eqb b noParent) (some []) none in
     cond (eqb a noParent) root (cond (ltb a (l .count)) (withParent a (afterFirst g l b)) none)
 
-unfoldable pub graphParents : List ℕ → ℕ → Option (List ℕ)
-graphParents g p = parentsIn g (layoutOf g) p
+-- parent k of a row by its place alone, on any bytes: "A second parent with the top bit set points, by the rest, into EDGE … there the list
+-- holds the second parent onward". Where the row has no such parent its number is `noParent`, as the row has it; where k is past the
+-- end of the list this is no parent but what stands at that place
+unfoldable pub parentIn : ℕ → List ℕ → Layout → ℕ → ℕ → ℕ
+parentIn w g l p zero = u32At (rowIn w g l p) w
+parentIn w g l p (suc k) = let b = u32At (rowIn w g l p) (w + 4) in cond (leb topBit b) (edgeIn g l (b % topBit + k) % topBit) b
+
+unfoldable pub graphParents : ℕ → List ℕ → ℕ → Option (List ℕ)
+graphParents w g p = parentsIn w g (layoutOf g) p
 
 -- what reading a parent list answers: how many parents it has
 abbrev pub parentListOf : Option (List ℕ) → ParentList
@@ -240,5 +269,5 @@ countedFrom c none = Corrupt
 countedFrom c (some ps) = Good (c + length ps)
 
 unfoldable pub graphAll : Unit {0}
-unfolding graphHead chunkCount chunkId chunkOffset offsetsRise chunksOf chunkIn chunkStart chunkSize tableOk fanAt graphCount graphIds graphId firstByte atMost fanOk chunksOk graphOk layoutOf graphFind idIn idsBelow rowIn levelIn secondsIn graphRow generation graphSeconds edgeIn edgesFrom afterFirst parentsIn graphParents
+unfolding graphHead chunkCount chunkId chunkOffset offsetsRise chunksOf chunkIn chunkStart chunkSize tableOk fanAt graphCount graphIds graphId firstByte atMost fanOk chunksOk graphOk layoutOf graphFind idIn idsBelow rowIn rowStart rowEnd levelIn secondsIn graphRow generation graphSeconds edgeIn edgesFrom afterFirst parentsIn parentIn graphParents
 graphAll = tt

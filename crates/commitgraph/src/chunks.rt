@@ -1,5 +1,7 @@
 // The layout of a commit-graph file: its header, its table of chunks, and the chunks themselves.
 use crate::Layout;
+use crate::rows;
+use hash::Kind;
 use hash::Order;
 ghost use mathlib.Core.Path.{_≡_};
 ghost use mathlib.Core.Bool.{true, false, _&&_, cond};
@@ -7,9 +9,9 @@ ghost use mathlib.Core.Option.{none, some};
 ghost use Prim.Native.Nat.{ℕ, suc, _+_, _-_, _*_, _%_, _<_, _≤_};
 ghost use lib.ListN.{length};
 ghost use lib.Dec.{eqb, ltb, leb};
-ghost use Rattle.hash.specs.Bytes.{u32At};
+ghost use Rattle.hash.specs.Bytes.{u32At, widthOf};
 ghost use Rattle.idlist.specs.IdList.{rising, risesAt};
-ghost use Rattle.commitgraph.specs.Graph.{graphHead, chunkCount, chunkId, chunkOffset, offsetsRise, chunksOf, chunkIn, chunkStart, chunkSize, OIDF, OIDL, CDAT, EDGE, tableOk, fanAt, graphCount, graphIds, firstByte, fanOk, graphOk, layoutOf};
+ghost use Rattle.commitgraph.specs.Graph.{hashVersion, graphHead, chunkCount, chunkId, chunkOffset, offsetsRise, chunksOf, chunkIn, chunkStart, chunkSize, OIDF, OIDL, CDAT, EDGE, tableOk, rowSize, fanAt, graphCount, graphIds, firstByte, fanOk, graphOk, layoutOf};
 
 // The ids of the chunks that are read.
 const FAN_OUT: u32 = 0x4f494446;
@@ -44,14 +46,24 @@ fn wide_offset(x: u64) -> usize
     x as usize
 }
 
-// Whether the file starts with `CGPH`, version 1, hash version 1, any number of chunks, base count 0.
-pub fn has_header(graph: &[u8]) -> bool
-    ensures { λ r. ⌜ r ≡ graphHead (now (graph .entry)) ⌝ }
+// The number of a hash function in a file's header.
+fn hash_version(kind: Kind) -> u8
+    ensures { λ r. ⌜ r ≡ hashVersion kind ⌝ }
+{
+    match kind {
+        Kind::Sha1 => 1,
+        Kind::Sha256 => 2,
+    }
+}
+
+// Whether the file starts with `CGPH`, version 1, the hash version of this kind, any number of chunks, base count 0.
+pub fn has_header(kind: Kind, graph: &[u8]) -> bool
+    ensures { λ r. ⌜ r ≡ graphHead (hashVersion kind) (now (graph .entry)) ⌝ }
 {
     if graph.len() < 8 {
         return false;
     }
-    let want: [u8; 6] = [67, 71, 80, 72, 1, 1];
+    let want: [u8; 6] = [67, 71, 80, 72, 1, hash_version(kind)];
     if !hash::same(hash::part(graph, 0, 6), &want) {
         return false;
     }
@@ -169,10 +181,11 @@ pub fn parse(graph: &[u8]) -> Layout
     }
 }
 
-// Whether the last row has id 0, the first offset is just past the table, and the last is 20 bytes before the file's end.
-fn table_ends(graph: &[u8], count: usize) -> bool
-    requires { ⌜ (count < 256) × (8 + 12 * (count + 1) + 20 ≤ length (now graph)) ⌝ }
-    ensures { λ r. ⌜ (let g = now (graph .entry) in r ≡ (eqb (chunkId g count) 0 && eqb (chunkOffset g 0) (8 + 12 * (count + 1)) && eqb (chunkOffset g count + 20) (length g))) ⌝ }
+// Whether the last row has id 0, the first offset is just past the table, and the last is where the checksum starts, w bytes before the
+// file's end.
+fn table_ends(w: usize, graph: &[u8], count: usize) -> bool
+    requires { ⌜ (count < 256) × (8 + 12 * (count + 1) + w ≤ length (now graph)) ⌝ }
+    ensures { λ r. ⌜ (let g = now (graph .entry) in r ≡ (eqb (chunkId g count) 0 && eqb (chunkOffset g 0) (8 + 12 * (count + 1)) && eqb (chunkOffset g count + w) (length g))) ⌝ }
 {
     if row_id(graph, count) != 0 {
         return false;
@@ -180,7 +193,7 @@ fn table_ends(graph: &[u8], count: usize) -> bool
     if row_offset(graph, 0) != 8 + 12 * (count + 1) {
         return false;
     }
-    row_offset(graph, count) == graph.len() - 20
+    row_offset(graph, count) == graph.len() - w
 }
 
 // Whether the offsets of the first rows never fall, up to the next row's.
@@ -232,14 +245,15 @@ fn chunks_once(graph: &[u8], count: usize) -> bool
 }
 
 // Whether the table of chunks is right.
-fn has_table(graph: &[u8]) -> bool
-    ensures { λ r. ⌜ r ≡ tableOk (now (graph .entry)) ⌝ }
+fn has_table(w: usize, graph: &[u8]) -> bool
+    requires { ⌜ w ≤ 32 ⌝ }
+    ensures { λ r. ⌜ r ≡ tableOk w (now (graph .entry)) ⌝ }
 {
     let count = chunk_count(graph);
-    if graph.len() < 8 + 12 * (count + 1) + 20 {
+    if graph.len() < 8 + 12 * (count + 1) + w {
         return false;
     }
-    if !table_ends(graph, count) {
+    if !table_ends(w, graph, count) {
         return false;
     }
     if !offsets_rise(graph, count) {
@@ -249,8 +263,9 @@ fn has_table(graph: &[u8]) -> bool
 }
 
 // Whether the chunks have the sizes that N tells.
-fn has_sizes(graph: &[u8]) -> bool
-    ensures { λ r. ⌜ (let g = now (graph .entry) in r ≡ (eqb (chunkSize g OIDF) 1024 && eqb (chunkSize g OIDL) (20 * graphCount g) && eqb (chunkSize g CDAT) (36 * graphCount g) && eqb (chunkSize g EDGE % 4) 0)) ⌝ }
+fn has_sizes(w: usize, graph: &[u8]) -> bool
+    requires { ⌜ w ≤ 32 ⌝ }
+    ensures { λ r. ⌜ (let g = now (graph .entry) in r ≡ (eqb (chunkSize g OIDF) 1024 && eqb (chunkSize g OIDL) (w * graphCount g) && eqb (chunkSize g CDAT) (rowSize w * graphCount g) && eqb (chunkSize g EDGE % 4) 0)) ⌝ }
 {
     let fan = find_chunk(graph, FAN_OUT);
     let count = last_entry(graph, fan.start);
@@ -258,11 +273,11 @@ fn has_sizes(graph: &[u8]) -> bool
         return false;
     }
     let ids = find_chunk(graph, OBJECT_IDS);
-    if ids.size != 20 * count {
+    if ids.size != w * count {
         return false;
     }
-    let rows = find_chunk(graph, COMMIT_DATA);
-    if rows.size != 36 * count {
+    let data = find_chunk(graph, COMMIT_DATA);
+    if data.size != rows::size(w) * count {
         return false;
     }
     let edge = find_chunk(graph, EXTRA_EDGES);
@@ -289,9 +304,9 @@ fn entry_before(graph: &[u8], fan: usize, b: usize) -> usize
 }
 
 // Whether the 256 entries of the fan-out never fall. Where one does, it cannot count the ids.
-fn fan_rises(graph: &[u8], fan: usize) -> bool
+fn fan_rises(w: usize, graph: &[u8], fan: usize) -> bool
     requires { ⌜ (fan ≡ chunkStart (now graph) OIDF) × (fan + 1024 ≤ length (now graph)) ⌝ }
-    ensures { λ r. ⌜ (let g = now (graph .entry) in (r ≡ true → (i : ℕ) → i < 255 → fanAt g i ≤ fanAt g (suc i)) × (r ≡ false → fanOk g 256 ≡ false)) ⌝ }
+    ensures { λ r. ⌜ (let g = now (graph .entry) in (r ≡ true → (i : ℕ) → i < 255 → fanAt g i ≤ fanAt g (suc i)) × (r ≡ false → fanOk w g 256 ≡ false)) ⌝ }
 {
     let mut i = 0;
     while i < 255 {
@@ -304,11 +319,11 @@ fn fan_rises(graph: &[u8], fan: usize) -> bool
 }
 
 // Whether id k stands where the fan-out puts ids with its first byte.
-fn id_in_fan(graph: &[u8], fan: usize, ids: usize, k: usize) -> bool
-    requires { ⌜ (let g = now graph in (fan ≡ chunkStart g OIDF) × (fan + 1024 ≤ length g) × (ids ≡ chunkStart g OIDL) × (ids + 20 * k < length g)) ⌝ }
-    ensures { λ r. ⌜ (let g = now (graph .entry) in let b = firstByte g k in (b < 256) × (r ≡ (leb (cond (eqb b 0) 0 (fanAt g (b - 1))) k && ltb k (fanAt g b)))) ⌝ }
+fn id_in_fan(w: usize, graph: &[u8], fan: usize, ids: usize, k: usize) -> bool
+    requires { ⌜ (let g = now graph in (fan ≡ chunkStart g OIDF) × (fan + 1024 ≤ length g) × (ids ≡ chunkStart g OIDL) × (ids + w * k < length g)) ⌝ }
+    ensures { λ r. ⌜ (let g = now (graph .entry) in let b = firstByte w g k in (b < 256) × (r ≡ (leb (cond (eqb b 0) 0 (fanAt g (b - 1))) k && ltb k (fanAt g b)))) ⌝ }
 {
-    let b = wide_byte(hash::byte_at(graph, ids + 20 * k));
+    let b = wide_byte(hash::byte_at(graph, ids + w * k));
     if k < entry_before(graph, fan, b) {
         return false;
     }
@@ -316,15 +331,16 @@ fn id_in_fan(graph: &[u8], fan: usize, ids: usize, k: usize) -> bool
 }
 
 // Whether id k is above the id before it.
-fn id_rises(graph: &[u8], ids: usize, k: usize) -> bool
-    requires { ⌜ (ids ≡ chunkStart (now graph) OIDL) × (ids + 20 * k < length (now graph)) ⌝ }
-    ensures { λ r. ⌜ r ≡ risesAt (graphIds (now (graph .entry))) k ⌝ }
+fn id_rises(w: usize, graph: &[u8], ids: usize, k: usize) -> bool
+    requires { ⌜ (ids ≡ chunkStart (now graph) OIDL) × (ids + w * k < length (now graph)) ⌝ }
+    ensures { λ r. ⌜ r ≡ risesAt (graphIds w (now (graph .entry))) k ⌝ }
 {
     if k == 0 {
         return true;
     }
-    let here = ids + 20 * k;
-    match hash::compare_at(graph, here - 20, graph, here) {
+    let prior = hash::part(graph, ids + w * (k - 1), w);
+    let here = hash::part(graph, ids + w * k, w);
+    match hash::compare(prior, here) {
         Order::Less => true,
         Order::Equal => false,
         Order::Greater => false,
@@ -332,16 +348,16 @@ fn id_rises(graph: &[u8], ids: usize, k: usize) -> bool
 }
 
 // Whether the fan-out counts the ids and the ids rise, in one pass over the ids; the fan-out never falls.
-fn ids_fit(graph: &[u8], fan: usize, ids: usize, count: usize) -> bool
-    requires { ⌜ (let g = now graph in (fan ≡ chunkStart g OIDF) × (fan + 1024 ≤ length g) × (ids ≡ chunkStart g OIDL) × (count ≡ graphCount g) × (ids + 20 * count ≤ length g) × ((i : ℕ) → i < 255 → fanAt g i ≤ fanAt g (suc i))) ⌝ }
-    ensures { λ r. ⌜ (let g = now (graph .entry) in r ≡ (fanOk g 256 && rising (graphIds g) (graphCount g))) ⌝ }
+fn ids_fit(w: usize, graph: &[u8], fan: usize, ids: usize, count: usize) -> bool
+    requires { ⌜ (let g = now graph in (fan ≡ chunkStart g OIDF) × (fan + 1024 ≤ length g) × (ids ≡ chunkStart g OIDL) × (count ≡ graphCount g) × (ids + w * count ≤ length g) × ((i : ℕ) → i < 255 → fanAt g i ≤ fanAt g (suc i)) × (0 < w)) ⌝ }
+    ensures { λ r. ⌜ (let g = now (graph .entry) in r ≡ (fanOk w g 256 && rising (graphIds w g) (graphCount g))) ⌝ }
 {
     let mut k = 0;
     while k < count {
-        if !id_in_fan(graph, fan, ids, k) {
+        if !id_in_fan(w, graph, fan, ids, k) {
             return false;
         }
-        if !id_rises(graph, ids, k) {
+        if !id_rises(w, graph, ids, k) {
             return false;
         }
         k += 1;
@@ -350,18 +366,19 @@ fn ids_fit(graph: &[u8], fan: usize, ids: usize, count: usize) -> bool
 }
 
 // Whether the layout of a file is right, after its header.
-pub fn is_good(graph: &[u8]) -> bool
-    ensures { λ r. ⌜ r ≡ graphOk (now (graph .entry)) ⌝ }
+pub fn is_good(kind: Kind, graph: &[u8]) -> bool
+    ensures { λ r. ⌜ r ≡ graphOk (widthOf kind) (now (graph .entry)) ⌝ }
 {
-    if !has_table(graph) {
+    let w = hash::width(kind);
+    if !has_table(w, graph) {
         return false;
     }
-    if !has_sizes(graph) {
+    if !has_sizes(w, graph) {
         return false;
     }
     let l = parse(graph);
-    if !fan_rises(graph, l.fan) {
+    if !fan_rises(w, graph, l.fan) {
         return false;
     }
-    ids_fit(graph, l.fan, l.ids, l.count)
+    ids_fit(w, graph, l.fan, l.ids, l.count)
 }

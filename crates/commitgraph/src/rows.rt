@@ -3,16 +3,26 @@
 use crate::Layout;
 use crate::Level;
 use date::Seconds;
+use hash::Kind;
 use idlist::Found;
 ghost use mathlib.Core.Path.{_≡_};
-ghost use Prim.Native.Nat.{_+_, _*_, _<_, min};
+ghost use Prim.Native.Nat.{_+_, _*_, _<_, _≤_, min};
 ghost use lib.ListN.{getD};
-ghost use Rattle.commitgraph.specs.Graph.{idIn, idsBelow, Looks, rowIn, levelIn, secondsIn};
+ghost use Rattle.hash.specs.Bytes.{at, widthOf};
+ghost use Rattle.commitgraph.specs.Graph.{idIn, idsBelow, Looks, rowSize, rowIn, rowStart, rowEnd, levelIn, secondsIn};
 
 // Where an id stands among those of the file.
 pub enum Position {
     At(usize),
     Absent,
+}
+
+// The size of a row: the tree's id and four u32.
+pub(crate) fn size(w: usize) -> usize
+    requires { ⌜ w ≤ 32 ⌝ }
+    ensures { λ r. ⌜ r ≡ rowSize w ⌝ }
+{
+    w + 16
 }
 
 // The place of thing p, where things of this width stand in a row from start on; len, the end of the file, where that is past it.
@@ -29,25 +39,94 @@ pub(crate) fn place(len: usize, start: usize, width: usize, p: usize) -> usize
     start + width * p
 }
 
+// The functions over the width w are called with the width of each kind by name, so that the compiled code divides and multiplies by
+// constants: they read each commit of a walk.
+
 // The id at position p: a part of the file.
-pub fn id_at<'a>(graph: &'a [u8], l: Layout, p: usize) -> &'a [u8]
-    ensures { λ r. ⌜ now r ≡ idIn (now (graph .entry)) l p ⌝ }
+fn id_in(w: usize, graph: &[u8], l: Layout, p: usize) -> &[u8]
+    requires { ⌜ 0 < w ⌝ }
+    ensures { λ r. ⌜ now r ≡ idIn w (now (graph .entry)) l p ⌝ }
 {
-    hash::id_at(graph, place(graph.len(), l.ids, hash::ID_BYTES, p))
+    hash::part(graph, place(graph.len(), l.ids, w, p), w)
+}
+
+pub fn id_at<'a>(kind: Kind, graph: &'a [u8], l: Layout, p: usize) -> &'a [u8]
+    ensures { λ r. ⌜ now r ≡ idIn (widthOf kind) (now (graph .entry)) l p ⌝ }
+{
+    match kind {
+        Kind::Sha1 => id_in(hash::width(Kind::Sha1), graph, l, p),
+        Kind::Sha256 => id_in(hash::width(Kind::Sha256), graph, l, p),
+    }
+}
+
+// Where the row at position p starts in the file.
+fn start_in(w: usize, len: usize, l: Layout, p: usize) -> usize
+    requires { ⌜ w ≤ 32 ⌝ }
+    ensures { λ r. ⌜ r ≡ min (l .rows + rowSize w * p) len ⌝ }
+{
+    place(len, l.rows, size(w), p)
+}
+
+pub fn start(kind: Kind, graph: &[u8], l: Layout, p: usize) -> usize
+    ensures { λ r. ⌜ r ≡ rowStart (widthOf kind) (now (graph .entry)) l p ⌝ }
+{
+    match kind {
+        Kind::Sha1 => start_in(hash::width(Kind::Sha1), graph.len(), l, p),
+        Kind::Sha256 => start_in(hash::width(Kind::Sha256), graph.len(), l, p),
+    }
+}
+
+// Where it ends: the byte after its last.
+pub fn end(kind: Kind, graph: &[u8], l: Layout, p: usize) -> usize
+    ensures { λ r. ⌜ r ≡ rowEnd (widthOf kind) (now (graph .entry)) l p ⌝ }
+{
+    let from = start(kind, graph, l, p);
+    let size = size(hash::width(kind));
+    if graph.len() - from < size {
+        return graph.len();
+    }
+    from + size
 }
 
 // The row at position p: a part of the file.
-pub fn row<'a>(graph: &'a [u8], l: Layout, p: usize) -> &'a [u8]
-    ensures { λ r. ⌜ now r ≡ rowIn (now (graph .entry)) l p ⌝ }
+fn row_in(w: usize, graph: &[u8], l: Layout, p: usize) -> &[u8]
+    requires { ⌜ w ≤ 32 ⌝ }
+    ensures { λ r. ⌜ now r ≡ rowIn w (now (graph .entry)) l p ⌝ }
 {
-    hash::part(graph, place(graph.len(), l.rows, 36, p), 36)
+    hash::part(graph, start_in(w, graph.len(), l, p), size(w))
+}
+
+pub fn row<'a>(kind: Kind, graph: &'a [u8], l: Layout, p: usize) -> &'a [u8]
+    ensures { λ r. ⌜ now r ≡ rowIn (widthOf kind) (now (graph .entry)) l p ⌝ }
+{
+    match kind {
+        Kind::Sha1 => row_in(hash::width(Kind::Sha1), graph, l, p),
+        Kind::Sha256 => row_in(hash::width(Kind::Sha256), graph, l, p),
+    }
+}
+
+// Its four numbers, which stand after the tree's id.
+fn numbers_in(w: usize, graph: &[u8], l: Layout, p: usize) -> &[u8]
+    requires { ⌜ w ≤ 32 ⌝ }
+    ensures { λ r. ⌜ now r ≡ at (rowIn w (now (graph .entry)) l p) w 16 ⌝ }
+{
+    hash::part(row_in(w, graph, l, p), w, 16)
+}
+
+pub(crate) fn numbers(kind: Kind, graph: &[u8], l: Layout, p: usize) -> &[u8]
+    ensures { λ r. ⌜ now r ≡ at (rowIn (widthOf kind) (now (graph .entry)) l p) (widthOf kind) 16 ⌝ }
+{
+    match kind {
+        Kind::Sha1 => numbers_in(hash::width(Kind::Sha1), graph, l, p),
+        Kind::Sha256 => numbers_in(hash::width(Kind::Sha256), graph, l, p),
+    }
 }
 
 // The level at position p: the high 30 bits of a row's third number.
-pub fn level(graph: &[u8], l: Layout, p: usize) -> Level
-    ensures { λ r. ⌜ r .0 ≡ levelIn (now (graph .entry)) l p ⌝ }
+pub fn level(kind: Kind, graph: &[u8], l: Layout, p: usize) -> Level
+    ensures { λ r. ⌜ r .0 ≡ levelIn (widthOf kind) (now (graph .entry)) l p ⌝ }
 {
-    Level(hash::be32(row(graph, l, p), 28) / 4)
+    Level(hash::be32(numbers(kind, graph, l, p), 8) / 4)
 }
 
 pub(crate) fn wide(x: u32) -> usize
@@ -57,12 +136,12 @@ pub(crate) fn wide(x: u32) -> usize
 }
 
 // The committer time at position p: 34 bits, of which the third number has the highest two.
-pub fn seconds(graph: &[u8], l: Layout, p: usize) -> Seconds
-    ensures { λ r. ⌜ r .0 ≡ secondsIn (now (graph .entry)) l p ⌝ }
+pub fn seconds(kind: Kind, graph: &[u8], l: Layout, p: usize) -> Seconds
+    ensures { λ r. ⌜ r .0 ≡ secondsIn (widthOf kind) (now (graph .entry)) l p ⌝ }
 {
-    let part = row(graph, l, p);
-    let high = wide(hash::be32(part, 28) % 4);
-    let low = wide(hash::be32(part, 32));
+    let part = numbers(kind, graph, l, p);
+    let high = wide(hash::be32(part, 8) % 4);
+    let low = wide(hash::be32(part, 12));
     Seconds((high * 4294967296 + low) as i64)
 }
 
@@ -83,10 +162,11 @@ fn first_byte(id: &[u8]) -> usize
 }
 
 // The position of an id, looked for among the ids that begin with the same byte.
-pub fn lookup(graph: &[u8], l: Layout, id: &[u8]) -> Position
-    ensures { λ r. ⌜ Looks (now (graph .entry)) l (now (id .entry)) r ⌝ }
+pub fn lookup(kind: Kind, graph: &[u8], l: Layout, id: &[u8]) -> Position
+    ensures { λ r. ⌜ Looks (widthOf kind) (now (graph .entry)) l (now (id .entry)) r ⌝ }
 {
-    if id.len() != hash::ID_BYTES {
+    let w = hash::width(kind);
+    if id.len() != w {
         return Position::Absent;
     }
     let b = first_byte(id);
@@ -96,29 +176,20 @@ pub fn lookup(graph: &[u8], l: Layout, id: &[u8]) -> Position
         return Position::Absent;
     }
     let low = (b as u32) * 16777216;
-    match idlist::find_between(
-        graph,
-        l.ids,
-        hash::ID_BYTES,
-        lo,
-        hi,
-        low,
-        low + 16777215,
-        id,
-    ) {
+    match idlist::find_between(graph, l.ids, w, lo, hi, low, low + 16777215, id) {
         Found::At(p) => Position::At(p),
         Found::Absent => Position::Absent,
     }
 }
 
 // The position of an id that may stand at position near: that position is looked at first.
-pub fn lookup_near(graph: &[u8], l: Layout, id: &[u8], near: usize) -> Position
-    ensures { λ r. ⌜ Looks (now (graph .entry)) l (now (id .entry)) r ⌝ }
+pub fn lookup_near(kind: Kind, graph: &[u8], l: Layout, id: &[u8], near: usize) -> Position
+    ensures { λ r. ⌜ Looks (widthOf kind) (now (graph .entry)) l (now (id .entry)) r ⌝ }
 {
     if near < l.count {
-        if hash::same(id_at(graph, l, near), id) {
+        if hash::same_id(kind, id_at(kind, graph, l, near), id) {
             return Position::At(near);
         }
     }
-    lookup(graph, l, id)
+    lookup(kind, graph, l, id)
 }

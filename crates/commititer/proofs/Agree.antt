@@ -1,5 +1,6 @@
--- The two readings of a header agree: the header that crate `object` reads is what the tokens come to. At a place past the tree line the
--- tokens go on with parents as long as good parent lines stand there, since no line begins with two words. Assumes nothing.
+-- The two readings of a header agree: the header that crate `object` reads is what the tokens come to, since at a place where parents may
+-- stand the tokens go on with parents as long as good parent lines stand there. And the tokens meet no bad line and reach a committer just
+-- where the header's four parts are good, since a place lets no other line stand. Assumes nothing.
 use mathlib.Core.Path.{_≡_, refl, sym, _∙_, ap, subst}
 use Prim.Native.Nat.{ℕ, zero, suc, _+_, _-_, _≤_}
 use mathlib.Core.Bool.{Bool, true, false, _&&_}
@@ -12,18 +13,21 @@ use lib.IntN.{ℤ}
 use lib.Dec.{eqb, ltb, leb}
 use borrow.Author.Tests.{eqb-true, ltb-true, ltb-false, leb-true, leb-false, lt-ltb, le-ltb, le-leb, lt-leb}
 use Rattle.hash.specs.Bytes.{Id, pick}
-use Rattle.hash.proofs.Tests.{byCases, no-some, some-in, some-of}
-use Rattle.object.specs.Header.{isSome, strip, idLine, treeWord, parentWord, committerWord, wordLine, authorLine, committerLine, parentLines, skipParents, afterAuthor, secondsOf, most, Header, withTree, withParents, header}
-use Rattle.object.specs.Person.{line, lineSeconds}
-use Rattle.object.specs.Read.{idRead}
-use Rattle.object.proofs.Lines.{idLine-some, no-word, too-short}
+use Rattle.hash.proofs.Tests.{byCases, no-some, some-in}
+use Rattle.object.specs.Ids.{idRoom, idIn}
+use Rattle.object.specs.Header.{treeSize, parentSize, isSome, strip, idLine, treeWord, parentWord, wordLine, authorLine, committerLine, parentLines, skipParents, afterAuthor, afterTree, secondsOf, most, Header, withTree, withParents, header}
+use Rattle.object.specs.Read.{readAs, readingOf}
+use Rattle.object.specs.declared.Reading.the-variants.{Bad as BadHeader}
+use Rattle.object.proofs.IdBytes.{id-in}
+use Rattle.object.proofs.Lines.{idLine-some, too-short}
 use Rattle.object.proofs.Parents.{skip-stops, skip-line}
 use Rattle.object.proofs.PersonLines.{author-ends}
-use Rattle.commititer.specs.Token.{bare, parentToken, Told, treeTold, committerTold, authorTold, parentTold, lineAt, tokenOf, placeAfter, tokenAt, afterToken}
-use Rattle.commititer.specs.Tokens.{tokensFrom, tokens, isTree, isParent, isAuthor, secondsTold, parentsOf, pastParents, authorNext, committerNext, personsNext, afterTreeToken, headerOf, Agrees, parentRead, firstParent}
+use Rattle.commititer.specs.Token.{here, start, bare, parentToken, committerTold, authorTold, lineIn, lineAt, missing, tokenOf, ended, placeOf, tokenAt, afterToken}
+use Rattle.commititer.specs.Tokens.{tokensFrom, tokens, isTree, isParent, isAuthor, secondsTold, parentsOf, pastParents, authorNext, committerNext, personsNext, afterTreeToken, headerOf, Agrees, noBad, hasCommitter, allGood, GoodTokens, isReadable, ReadableTokens}
 use Rattle.commititer.specs.declared.TokenRead.{TokenRead}
+use Rattle.commititer.specs.declared.State.the-variants.{Parents as ParentLines, Committer as CommitterLine, Done}
+use Rattle.commititer.specs.declared.Token.{Token}
 use Rattle.commititer.specs.declared.Token.the-variants.{Tree, Bad, End}
-use Rattle.commititer.proofs.Told.{at-start, later, at-parent, at-person}
 
 -- ---- no line begins with two words
 
@@ -35,43 +39,9 @@ two-words p q ps qs (x ∷ xs) r n e =
     (λ h. let z : p ≡ x = eqb-true p x h in let m : eqb q x ≡ false = subst (λ (y : ℕ). eqb q y ≡ false) z n in rw m)
     (λ h. no-some (rw h at e))
 
-parent-no-author : (b : List ℕ) (t : Id × List ℕ) → idLine parentWord b ≡ some t → authorLine b ≡ none
+parent-no-author : (w : ℕ) (b : List ℕ) (t : Id × List ℕ) → idLine w parentWord b ≡ some t → authorLine b ≡ none
 unfolding authorLine wordLine
-parent-no-author b t e = rw (two-words 112 97 _ _ b _ refl (idLine-some parentWord b t e .word))
-
-committer-alone : (b : List ℕ) (s : ℤ) → committerLine b ≡ some s → (idLine parentWord b ≡ none) × (authorLine b ≡ none)
-unfolding authorLine committerLine wordLine
-committer-alone b s e =
-    let l = some-of (wordLine committerWord b) (λ (t : List ℕ × List ℕ). lineSeconds (t .0)) s e in
-    let w = some-of (strip committerWord b) line (l .0) (l .1) in
-    (no-word parentWord b 0 (ap isSome (two-words 99 112 _ _ b _ refl (w .1))), rw (two-words 99 97 _ _ b _ refl (w .1)))
-
--- ---- the token where no parent line stands
-
-not-told : (t : Bool) → (isParent (pick t Bad End) ≡ false) × (isAuthor (pick t Bad End) ≡ false) × (secondsTold (pick t Bad End) ≡ none)
-not-told true = (refl, refl, refl)
-not-told false = (refl, refl, refl)
-
-module _ (b : List ℕ) (i : ℕ) where
-  no-parent : (p : Option (List ℕ)) (q : Option ℤ) → isParent (tokenOf b i (authorTold p (committerTold q)) .token) ≡ false
-  no-parent none none = not-told (ltb i (length b)) .0
-  no-parent none (some s) = refl
-  no-parent (some r) q = refl
-
-  is-author : (p : Option (List ℕ)) (q : Option ℤ) → isAuthor (tokenOf b i (authorTold p (committerTold q)) .token) ≡ isSome p
-  is-author none none = not-told (ltb i (length b)) .1
-  is-author none (some s) = refl
-  is-author (some r) q = refl
-
-  -- the seconds are those of the committer line, whatever other line might stand there
-  is-committer : (o : Option (Id × List ℕ)) (p : Option (List ℕ)) (q : Option ℤ) → ((s : ℤ) → q ≡ some s → (o ≡ none) × (p ≡ none))
-      → secondsTold (tokenOf b i (parentTold o (authorTold p (committerTold q))) .token) ≡ q
-  is-committer none none none h = not-told (ltb i (length b)) .2
-  is-committer none none (some s) h = refl
-  is-committer none (some r) none h = refl
-  is-committer none (some r) (some s) h = no-some (sym (h s refl .1))
-  is-committer (some t) p none h = refl
-  is-committer (some t) p (some s) h = no-some (sym (h s refl .0))
+parent-no-author w b t e = rw (two-words 112 97 _ _ b _ refl (idLine-some w parentWord b t e .word))
 
 -- ---- tests and lists
 
@@ -85,194 +55,311 @@ ltb-both m n = byCases (ltb m n) (λ h. rw h (lt-ltb (suc m) (suc n) (omega (ari
 leb-both : (m n : ℕ) → leb (suc m) (suc n) ≡ leb m n
 leb-both m n = byCases (leb m n) (λ h. rw h (le-leb (suc m) (suc n) (omega (arith, leb-true m n h)))) (λ h. rw h (lt-leb (suc m) (suc n) (omega (arith, leb-false m n h))))
 
--- ---- the tokens from a place on
+-- where no good line stands: neither of the four
+pub record Missing (t : Token) : Type 0 where
+  pub tree : isTree t ≡ false
+  pub parent : isParent t ≡ false
+  pub author : isAuthor t ≡ false
+  pub seconds : secondsTold t ≡ none
+
+pub is-missing : (b : List ℕ) (i : ℕ) → Missing (missing b i)
+is-missing b i =
+    byCases (ltb i (length b))
+    (λ h. subst (λ (c : Bool). Missing (pick c Bad End)) (sym h) (record { tree = refl; parent = refl; author = refl; seconds = refl }))
+    (λ h. subst (λ (c : Bool). Missing (pick c Bad End)) (sym h) (record { tree = refl; parent = refl; author = refl; seconds = refl }))
 
 -- nothing is left past the end
 past-end : (b : List ℕ) (i : ℕ) → length b ≤ i + 0 → drop i b ≡ []
 past-end b i h = let l : length b ≤ i = omega arith in drop-of-length-le b l
 
-module _ (b : List ℕ) (i : ℕ) (e : i ≡ 0 → ⊥) where
-  committer-next : (n : ℕ) → length b ≤ i + n → committerNext (tokensFrom n b i) ≡ committerLine (drop i b)
-  unfolding tokensFrom tokenAt committerLine wordLine strip
-  committer-next zero h = rw (past-end b i h)
-  committer-next (suc n) h =
-      ap (λ (o : Told). secondsTold (tokenOf b i o .token)) (later b i e)
-      ∙ is-committer b i (idLine parentWord (drop i b)) (authorLine (drop i b)) (committerLine (drop i b)) (committer-alone (drop i b))
+-- ---- the tokens from a place on, by the line that may stand there
 
--- a list of tokens ts and the lines c that it comes from: up to m parents, and what follows them all
-record Same (m : ℕ) (c : List ℕ) (ts : List TokenRead) : Type 0 where
-  ids : parentLines m c .ids ≡ take m (parentsOf ts)
-  more : parentLines m c .more ≡ ltb m (length (parentsOf ts))
-  author : isSome (authorLine (parentLines m c .rest)) ≡ (leb (length (parentsOf ts)) m && authorNext (pastParents ts))
-  seconds : (k : ℕ) → length c ≤ k → afterAuthor (authorLine (skipParents k c)) ≡ personsNext (pastParents ts)
+module _ (w : ℕ) (b : List ℕ) where
+  -- where none may stand there is no bad line and no committer
+  done-clean : (n i : ℕ) → noBad (tokensFrom n w b (here i Done)) ≡ true
+  unfolding tokensFrom noBad tokenAt afterToken lineAt lineIn
+  done-clean zero i = refl
+  done-clean (suc n) i = done-clean n (length b)
+
+  done-empty : (n i : ℕ) → hasCommitter (tokensFrom n w b (here i Done)) ≡ false
+  unfolding tokensFrom hasCommitter tokenAt afterToken lineAt lineIn
+  done-empty zero i = refl
+  done-empty (suc n) i = done-empty n (length b)
+
+  -- nor after a line that is not there
+  stopped : (n i : ℕ) → allGood (bare (missing b i) ∷ tokensFrom n w b (ended b)) ≡ false
+  unfolding noBad hasCommitter
+  stopped n i =
+      byCases (ltb i (length b))
+      (λ h. rw h)
+      (λ h. rw (h, done-clean n (length b), done-empty n (length b)))
+
+  -- the committer line
+  committer-next : (n i : ℕ) → length b ≤ i + n → committerNext (tokensFrom n w b (here i CommitterLine)) ≡ committerLine (drop i b)
+  unfolding tokensFrom tokenAt lineAt lineIn committerLine wordLine strip
+  committer-next zero i h = rw (past-end b i h)
+  committer-next (suc n) i h = go (committerLine (drop i b))
+    where
+      go : (o : Option ℤ) → secondsTold (tokenOf b (here i CommitterLine) (committerTold o) .token) ≡ o
+      go none = is-missing b i .seconds
+      go (some s) = refl
+
+  committer-good : (n i : ℕ) → allGood (tokensFrom n w b (here i CommitterLine)) ≡ isSome (committerNext (tokensFrom n w b (here i CommitterLine)))
+  unfolding tokensFrom tokenAt afterToken lineAt lineIn noBad hasCommitter
+  committer-good zero i = refl
+  committer-good (suc n) i = go (committerLine (drop i b))
+    where
+      go : (o : Option ℤ) → allGood (tokenOf b (here i CommitterLine) (committerTold o) ∷ tokensFrom n w b (placeOf b (committerTold o))) ≡ isSome (secondsTold (tokenOf b (here i CommitterLine) (committerTold o) .token))
+      go none = stopped n i ∙ sym (ap isSome (is-missing b i .seconds))
+      go (some s) = rw (done-clean n (length b - 0))
+
+  -- a parent line: its token, and the place after it
+  parent-step : (n i : ℕ) (t : Id × List ℕ) → idLine w parentWord (drop i b) ≡ some t
+      → (tokensFrom (suc n) w b (here i ParentLines) ≡ parentToken (t .0) ∷ tokensFrom n w b (here (i + parentSize w) ParentLines)) × (t .1 ≡ drop (i + parentSize w) b) × (i + parentSize w ≤ length b)
+  unfolding tokensFrom tokenAt afterToken lineAt lineIn
+  parent-step n i t g =
+      let l = idLine-some w parentWord (drop i b) t g in
+      let d : length (drop i b) ≡ length b - i = length-drop i b in
+      let k : length b - length (t .1) ≡ i + parentSize w = omega (arith, l .long) in
+      (rw (g, k), l .rest ∙ drop-drop (parentSize w) i b, omega (arith, l .long))
+
+  -- the author line where no parent line stands: its token, and the committer's after it
+  module _ (n i : ℕ) (g : idLine w parentWord (drop i b) ≡ none) where
+    not-parent : isParent (tokenAt w b (here i ParentLines) .token) ≡ false
+    unfolding tokenAt lineAt lineIn
+    not-parent = rw g (go (authorLine (drop i b)))
+      where
+        go : (o : Option (List ℕ)) → isParent (tokenOf b (here i ParentLines) (authorTold o) .token) ≡ false
+        go none = is-missing b i .parent
+        go (some r) = refl
+
+    author-here : isAuthor (tokenAt w b (here i ParentLines) .token) ≡ isSome (authorLine (drop i b))
+    unfolding tokenAt lineAt lineIn
+    author-here = rw g (go (authorLine (drop i b)))
+      where
+        go : (o : Option (List ℕ)) → isAuthor (tokenOf b (here i ParentLines) (authorTold o) .token) ≡ isSome o
+        go none = is-missing b i .author
+        go (some r) = refl
+
+    persons-step : length b ≤ i + suc n → personsNext (tokensFrom (suc n) w b (here i ParentLines)) ≡ afterAuthor (authorLine (drop i b))
+    unfolding tokensFrom tokenAt afterToken lineAt lineIn
+    persons-step h = rw g (go (authorLine (drop i b)) refl)
+      where
+        go : (o : Option (List ℕ)) → authorLine (drop i b) ≡ o
+            → pick (isAuthor (tokenOf b (here i ParentLines) (authorTold o) .token)) (committerNext (tokensFrom n w b (placeOf b (authorTold o)))) none ≡ afterAuthor o
+        go none f = rw (is-missing b i .author)
+        go (some r) f =
+            let a = author-ends b i r f in
+            let k : ℕ = a .0 in
+            let later-on = a .1 .later in
+            let inside = a .1 .inside in
+            let same-rest : r ≡ drop k b = some-in (sym f ∙ a .1 .rest) in
+            let place : length b - length r ≡ k = omega (arith, ap length same-rest ∙ length-drop k b) in
+            ap (λ (j : ℕ). committerNext (tokensFrom n w b (here j CommitterLine))) place
+            ∙ committer-next n k (omega arith)
+            ∙ ap committerLine (sym same-rest)
+
+    persons-good : allGood (tokensFrom (suc n) w b (here i ParentLines)) ≡ isSome (personsNext (tokensFrom (suc n) w b (here i ParentLines)))
+    unfolding tokensFrom tokenAt afterToken lineAt lineIn noBad hasCommitter
+    persons-good = rw g (go (authorLine (drop i b)))
+      where
+        go : (o : Option (List ℕ))
+            → allGood (tokenOf b (here i ParentLines) (authorTold o) ∷ tokensFrom n w b (placeOf b (authorTold o)))
+            ≡ isSome (pick (isAuthor (tokenOf b (here i ParentLines) (authorTold o) .token)) (committerNext (tokensFrom n w b (placeOf b (authorTold o)))) none)
+        go none = stopped n i ∙ sym (ap (λ (c : Bool). isSome (pick c (committerNext (tokensFrom n w b (ended b))) none)) (is-missing b i .author))
+        go (some r) = committer-good n (length b - length r)
+
+  -- where parents may stand: the tokens are all good just where an author and then a committer follow the parents
+  parents-good : (n i : ℕ) → allGood (tokensFrom n w b (here i ParentLines)) ≡ isSome (personsNext (pastParents (tokensFrom n w b (here i ParentLines))))
+  unfolding tokensFrom pastParents noBad hasCommitter
+  parents-good zero i = refl
+  parents-good (suc n) i = go (λ j. parents-good n j) (idLine w parentWord (drop i b)) refl
+    where
+      go : ((j : ℕ) → allGood (tokensFrom n w b (here j ParentLines)) ≡ isSome (personsNext (pastParents (tokensFrom n w b (here j ParentLines))))) → (o : Option (Id × List ℕ)) → idLine w parentWord (drop i b) ≡ o
+          → allGood (tokensFrom (suc n) w b (here i ParentLines)) ≡ isSome (personsNext (pastParents (tokensFrom (suc n) w b (here i ParentLines))))
+      go rec none g =
+          let all : pastParents (tokensFrom (suc n) w b (here i ParentLines)) ≡ tokensFrom (suc n) w b (here i ParentLines) = rw (not-parent n i g) in
+          persons-good n i g ∙ ap (λ (ts : List TokenRead). isSome (personsNext ts)) (sym all)
+      go rec (some t) g = subst (λ (ts : List TokenRead). allGood ts ≡ isSome (personsNext (pastParents ts))) (sym (parent-step n i t g .0)) (rec (i + parentSize w))
+
+-- ---- a list of tokens ts and the lines c that it comes from: up to m parents, and what follows them all
+
+record Same (w m : ℕ) (c : List ℕ) (ts : List TokenRead) : Type 0 where
+  ids : parentLines w m c .ids ≡ take m (parentsOf w ts)
+  more : parentLines w m c .more ≡ ltb m (length (parentsOf w ts))
+  author : isSome (authorLine (parentLines w m c .rest)) ≡ (leb (length (parentsOf w ts)) m && authorNext (pastParents ts))
+  seconds : (k : ℕ) → length c ≤ k → afterAuthor (authorLine (skipParents w k c)) ≡ personsNext (pastParents ts)
 
 -- where no parent line stands
-module _ (c : List ℕ) (ts : List TokenRead) (stop : idLine parentWord c ≡ none) (none-of : parentsOf ts ≡ []) (all-of : pastParents ts ≡ ts) where
-  stop-lines : (m : ℕ) → parentLines m c ≡ record { ids = []; rest = c; more = false }
+module _ (w : ℕ) (c : List ℕ) (ts : List TokenRead) (stop : idLine w parentWord c ≡ none) (none-of : parentsOf w ts ≡ []) (all-of : pastParents ts ≡ ts) where
+  stop-lines : (m : ℕ) → parentLines w m c ≡ record { ids = []; rest = c; more = false }
   unfolding parentLines
   stop-lines zero = rw stop
   stop-lines (suc m) = rw stop
 
-  same-stop : (m : ℕ) → authorNext ts ≡ isSome (authorLine c) → personsNext ts ≡ afterAuthor (authorLine c) → Same m c ts
+  same-stop : (m : ℕ) → authorNext ts ≡ isSome (authorLine c) → personsNext ts ≡ afterAuthor (authorLine c) → Same w m c ts
   same-stop m f g =
       record {
         ids = rw (stop-lines m, none-of) (sym (take-none m));
         more = rw (stop-lines m, none-of) (sym (le-ltb m 0 (omega arith)));
         author = rw (stop-lines m, none-of, all-of, f, le-leb 0 m (omega arith));
-        seconds = λ k h. rw (skip-stops k c stop, all-of) (sym g);
+        seconds = λ k h. rw (skip-stops w k c stop, all-of) (sym g);
       }
 
 -- where one stands, and the lines after it
-module _ (c : List ℕ) (t : Id × List ℕ) (e : idLine parentWord c ≡ some t) (ts : List TokenRead) (further : (m : ℕ) → Same m (t .1) ts) where
-  same-more : (m : ℕ) → Same m c (parentToken (t .0) ∷ ts)
+module _ (w : ℕ) (small : w ≤ idRoom) (c : List ℕ) (t : Id × List ℕ) (e : idLine w parentWord c ≡ some t) (ts : List TokenRead) (further : (m : ℕ) → Same w m (t .1) ts) where
+  its-id : idIn w (parentToken (t .0) .id .bytes) ≡ t .0
+  its-id = id-in w (t .0) (idLine-some w parentWord c t e .width) small
+
+  same-more : (m : ℕ) → Same w m c (parentToken (t .0) ∷ ts)
   unfolding parentLines parentsOf pastParents
   same-more zero =
       record {
         ids = refl;
-        more = rw e (sym (lt-ltb 0 (suc (length (parentsOf ts))) (omega arith)));
-        author = rw (parent-no-author c t e, lt-leb (suc (length (parentsOf ts))) 0 (omega arith));
+        more = rw e (sym (lt-ltb 0 (suc (length (parentsOf w ts))) (omega arith)));
+        author = rw (parent-no-author w c t e, lt-leb (suc (length (parentsOf w ts))) 0 (omega arith));
         seconds = after;
       }
     where
-      after : (k : ℕ) → length c ≤ k → afterAuthor (authorLine (skipParents k c)) ≡ personsNext (pastParents ts)
-      after k h = rw (skip-line k c t h e) (further 0 .seconds k (omega (arith, idLine-some parentWord c t e .long)))
+      after : (k : ℕ) → length c ≤ k → afterAuthor (authorLine (skipParents w k c)) ≡ personsNext (pastParents ts)
+      after k h = rw (skip-line w k c t h e) (further 0 .seconds k (omega (arith, idLine-some w parentWord c t e .long)))
   same-more (suc m) =
       record {
-        ids = rw e (ap (λ (l : List Id). t .0 ∷ l) (further m .ids));
-        more = rw (e, ltb-both m (length (parentsOf ts))) (further m .more);
-        author = rw (e, leb-both (length (parentsOf ts)) m) (further m .author);
-        seconds = λ k h. rw (skip-line k c t h e) (further 0 .seconds k (omega (arith, idLine-some parentWord c t e .long)));
+        ids = rw (e, its-id) (ap (λ (l : List Id). t .0 ∷ l) (further m .ids));
+        more = rw (e, ltb-both m (length (parentsOf w ts))) (further m .more);
+        author = rw (e, leb-both (length (parentsOf w ts)) m) (further m .author);
+        seconds = λ k h. rw (skip-line w k c t h e) (further 0 .seconds k (omega (arith, idLine-some w parentWord c t e .long)));
       }
 
-module _ (b : List ℕ) where
-  -- a parent's token, and the place after it
-  parent-step : (n i : ℕ) → (i ≡ 0 → ⊥) → (t : Id × List ℕ) → idLine parentWord (drop i b) ≡ some t
-      → (tokensFrom (suc n) b i ≡ parentToken (t .0) ∷ tokensFrom n b (i + 48)) × (t .1 ≡ drop (i + 48) b) × (i + 48 ≤ length b)
-  unfolding tokensFrom tokenAt afterToken
-  parent-step n i e t g =
-      let l = idLine-some parentWord (drop i b) t g in
-      let a = at-parent b i e t g in
-      let d : length (drop i b) ≡ length b - i = length-drop i b in
-      let k : length b - length (t .1) ≡ i + 48 = omega (arith, l .long) in
-      (rw (a, k), l .rest ∙ drop-drop 48 i b, omega (arith, l .long))
-
-  -- a person's token where no parent line stands: an author is followed by what stands after its line
-  persons-step : (n i : ℕ) → (i ≡ 0 → ⊥) → length b ≤ i + suc n → idLine parentWord (drop i b) ≡ none
-      → personsNext (tokensFrom (suc n) b i) ≡ afterAuthor (authorLine (drop i b))
-  unfolding tokensFrom tokenAt afterToken
-  persons-step n i e h g = rw (at-person b i e g) (go (authorLine (drop i b)) refl)
+module _ (w : ℕ) (small : w ≤ idRoom) (b : List ℕ) where
+  same : (n i : ℕ) → length b ≤ i + n → (m : ℕ) → Same w m (drop i b) (tokensFrom n w b (here i ParentLines))
+  unfolding tokensFrom parentsOf pastParents authorLine wordLine strip
+  same zero i h m =
+      same-stop w (drop i b) [] (too-short w parentWord b i (omega arith)) refl refl m (rw (past-end b i h)) (rw (past-end b i h))
+  same (suc n) i h m = go (λ j l. same n j l) (idLine w parentWord (drop i b)) refl
     where
-      go : (o : Option (List ℕ)) → authorLine (drop i b) ≡ o
-          → pick (isAuthor (tokenOf b i (authorTold o (committerTold (committerLine (drop i b)))) .token)) (committerNext (tokensFrom n b (placeAfter b i (authorTold o (committerTold (committerLine (drop i b))))))) none
-          ≡ afterAuthor o
-      go none f = rw (is-author b i none (committerLine (drop i b)))
-      go (some r) f =
-          let a = author-ends b i r f in
-          let k : ℕ = a .0 in
-          let later-on = a .1 .later in
-          let inside = a .1 .inside in
-          let same-rest : r ≡ drop k b = some-in (sym f ∙ a .1 .rest) in
-          let place : length b - length r ≡ k = omega (arith, ap length same-rest ∙ length-drop k b) in
-          ap (λ (j : ℕ). committerNext (tokensFrom n b j)) place
-          ∙ committer-next b k (λ z. omega arith) n (omega arith)
-          ∙ ap committerLine (sym same-rest)
-
-  same : (n i : ℕ) → (i ≡ 0 → ⊥) → length b ≤ i + n → (m : ℕ) → Same m (drop i b) (tokensFrom n b i)
-  unfolding tokensFrom tokenAt parentsOf pastParents authorLine wordLine strip
-  same zero i e h m =
-      same-stop (drop i b) [] (too-short parentWord b i (omega arith)) refl refl m (rw (past-end b i h)) (rw (past-end b i h))
-  same (suc n) i e h m = go (λ j f l. same n j f l) (idLine parentWord (drop i b)) refl
-    where
-      go : ((j : ℕ) → (j ≡ 0 → ⊥) → length b ≤ j + n → (m : ℕ) → Same m (drop j b) (tokensFrom n b j)) → (o : Option (Id × List ℕ))
-          → idLine parentWord (drop i b) ≡ o → Same m (drop i b) (tokensFrom (suc n) b i)
+      go : ((j : ℕ) → length b ≤ j + n → (m : ℕ) → Same w m (drop j b) (tokensFrom n w b (here j ParentLines))) → (o : Option (Id × List ℕ))
+          → idLine w parentWord (drop i b) ≡ o → Same w m (drop i b) (tokensFrom (suc n) w b (here i ParentLines))
       go rec none g =
-          let a : tokenAt b i ≡ tokenOf b i (authorTold (authorLine (drop i b)) (committerTold (committerLine (drop i b)))) = ap (tokenOf b i) (at-person b i e g) in
-          let p : isParent (tokenAt b i .token) ≡ false = rw a (no-parent b i (authorLine (drop i b)) (committerLine (drop i b))) in
-          let q : isAuthor (tokenAt b i .token) ≡ isSome (authorLine (drop i b)) = rw a (is-author b i (authorLine (drop i b)) (committerLine (drop i b))) in
-          same-stop (drop i b) (tokensFrom (suc n) b i) g (rw p) (rw p) m q (persons-step n i e h g)
+          let p = not-parent w b n i g in
+          same-stop w (drop i b) (tokensFrom (suc n) w b (here i ParentLines)) g (rw p) (rw p) m (author-here w b n i g) (persons-step w b n i g h)
       go rec (some t) g =
-          let p = parent-step n i e t g in
+          let p = parent-step w b n i t g in
           let fits = p .2 in
-          let further : (k : ℕ) → Same k (t .1) (tokensFrom n b (i + 48)) = λ k.
-          subst (λ (c : List ℕ). Same k c (tokensFrom n b (i + 48))) (sym (p .1)) (rec (i + 48) (λ z. omega arith) (omega arith) k) in
-          subst (λ (ts : List TokenRead). Same m (drop i b) ts) (sym (p .0)) (same-more (drop i b) t g (tokensFrom n b (i + 48)) further m)
+          let further : (k : ℕ) → Same w k (t .1) (tokensFrom n w b (here (i + parentSize w) ParentLines)) = λ k.
+          subst (λ (c : List ℕ). Same w k c (tokensFrom n w b (here (i + parentSize w) ParentLines))) (sym (p .1)) (rec (i + parentSize w) (omega arith) k) in
+          subst (λ (ts : List TokenRead). Same w m (drop i b) ts) (sym (p .0)) (same-more w small (drop i b) t g (tokensFrom n w b (here (i + parentSize w) ParentLines)) further m)
 
 -- ---- the whole header
 
--- the tokens after a good tree line
-pub after-tree : (b : List ℕ) (t : Id × List ℕ) → idLine treeWord b ≡ some t → header b ≡ afterTreeToken (tokensFrom (length b - 1) b 46)
-unfolding header secondsOf
-after-tree b t e =
-    let l = idLine-some treeWord b t e in
-    let w : t .1 ≡ drop 46 b = l .rest in
-    let s : Same most (drop 46 b) (tokensFrom (length b - 1) b 46) = same b (length b - 1) 46 (λ z. omega arith) (omega arith) most in
-    let z : secondsOf b ≡ personsNext (pastParents (tokensFrom (length b - 1) b 46)) =
-    rw (e, w) (s .seconds (length b) (simp length-drop (omega arith))) in
-    ap (withTree b) e
-    ∙ ap (λ (c : List ℕ). withParents b (parentLines most c)) w
+-- the tree line: its token, and the place after it
+pub tree-step : (w : ℕ) (b : List ℕ) (t : Id × List ℕ) → idLine w treeWord b ≡ some t → (tokenAt w b start ≡ bare Tree) × (afterToken w b start ≡ here (treeSize w) ParentLines)
+unfolding tokenAt afterToken lineAt lineIn
+tree-step w b t e =
+    let n : length b - length (t .1) ≡ treeSize w = omega (arith, idLine-some w treeWord b t e .long) in
+    (rw e, rw (e, n))
+
+pub no-tree : (w : ℕ) (b : List ℕ) → idLine w treeWord b ≡ none → (tokenAt w b start ≡ bare (missing b 0)) × (afterToken w b start ≡ ended b)
+unfolding tokenAt afterToken lineAt lineIn
+no-tree w b e = (rw e, rw e)
+
+-- the seconds by the tokens after a good tree line
+seconds-after : (w : ℕ) → w ≤ idRoom → (b : List ℕ) (t : Id × List ℕ) → idLine w treeWord b ≡ some t → secondsOf w b ≡ personsNext (pastParents (tokensFrom (length b - 1) w b (here (treeSize w) ParentLines)))
+unfolding secondsOf
+seconds-after w small b t e =
+    let l = idLine-some w treeWord b t e in
+    let rest : t .1 ≡ drop (treeSize w) b = l .rest in
+    let s = same w small b (length b - 1) (treeSize w) (omega arith) most in
+    rw (e, rest) (s .seconds (length b) (simp length-drop (omega arith)))
+
+pub after-tree : (w : ℕ) → w ≤ idRoom → (b : List ℕ) (t : Id × List ℕ) → idLine w treeWord b ≡ some t → header w b ≡ afterTreeToken w (tokensFrom (length b - 1) w b (here (treeSize w) ParentLines))
+unfolding header
+after-tree w small b t e =
+    let rest : t .1 ≡ drop (treeSize w) b = idLine-some w treeWord b t e .rest in
+    let s : Same w most (drop (treeSize w) b) (tokensFrom (length b - 1) w b (here (treeSize w) ParentLines)) = same w small b (length b - 1) (treeSize w) (omega arith) most in
+    let z = seconds-after w small b t e in
+    ap (withTree w b) e
+    ∙ ap (λ (c : List ℕ). withParents w b (parentLines w most c)) rest
     ∙ (λ k. record { tree = true; ids = s .ids k; crowded = s .more k; author = s .author k; seconds = z k })
 
--- the tree's token, and the place after it
-tree-step : (b : List ℕ) (t : Id × List ℕ) → idLine treeWord b ≡ some t → (tokenAt b 0 ≡ bare Tree) × (afterToken b 0 ≡ 46)
-unfolding tokenAt afterToken
-tree-step b t e =
-    let a : lineAt b 0 ≡ some (bare Tree, t .1) = at-start b 0 refl ∙ ap treeTold e in
-    (rw a, rw a (omega (arith, idLine-some treeWord b t e .long)))
-
-not-tree : (t : Bool) → isTree (pick t Bad End) ≡ false
-not-tree true = refl
-not-tree false = refl
-
-no-tree : (b : List ℕ) → idLine treeWord b ≡ none → isTree (tokenAt b 0 .token) ≡ false
-unfolding tokenAt
-no-tree b e = let a : lineAt b 0 ≡ none = at-start b 0 refl ∙ ap treeTold e in rw a (not-tree (ltb 0 (length b)))
-
-pub header-by-tokens : (b : List ℕ) → Agrees b
+pub header-by-tokens : (w : ℕ) → w ≤ idRoom → (b : List ℕ) → Agrees w b
 unfolding tokens tokensFrom header idLine strip
-header-by-tokens [] = refl
-header-by-tokens (x ∷ xs) = go (idLine treeWord (x ∷ xs)) refl
+header-by-tokens w small [] = refl
+header-by-tokens w small (x ∷ xs) = go (idLine w treeWord (x ∷ xs)) refl
   where
-    go : (o : Option (Id × List ℕ)) → idLine treeWord (x ∷ xs) ≡ o → headerOf (tokens (x ∷ xs)) ≡ header (x ∷ xs)
-    go none e = rw (no-tree (x ∷ xs) e) (sym (ap (withTree (x ∷ xs)) e))
+    go : (o : Option (Id × List ℕ)) → idLine w treeWord (x ∷ xs) ≡ o → headerOf w (tokens w (x ∷ xs)) ≡ header w (x ∷ xs)
+    go none e = rw (no-tree w (x ∷ xs) e .0, is-missing (x ∷ xs) 0 .tree) (sym (ap (withTree w (x ∷ xs)) e))
     go (some t) e =
-        let s = tree-step (x ∷ xs) t e in
+        let s = tree-step w (x ∷ xs) t e in
         let n : suc (length xs) - 1 ≡ length xs = omega arith in
-        rw (s .0, s .1) (sym (rw n at (after-tree (x ∷ xs) t e)))
+        rw (s .0, s .1) (sym (rw n at (after-tree w small (x ∷ xs) t e)))
 
--- ---- the first parent
-
--- past the end no parent stands
-no-parent-past : (b : List ℕ) (j : ℕ) → length b ≤ j → (j ≡ 0 → idLine treeWord b ≡ none) → isParent (tokenAt b j .token) ≡ false
-unfolding tokenAt
-no-parent-past b zero h f = let a : lineAt b 0 ≡ none = at-start b 0 refl ∙ ap treeTold (f refl) in rw a (not-told (ltb 0 (length b)) .0)
-no-parent-past b (suc j) h f =
-    let n : suc j ≡ 0 → ⊥ = λ z. omega arith in
-    rw (at-person b (suc j) n (too-short parentWord b (suc j) (omega arith))) (no-parent b (suc j) (authorLine (drop (suc j) b)) (committerLine (drop (suc j) b)))
-
--- after a bad tree line the place is past the end
-after-no-tree : (b : List ℕ) → idLine treeWord b ≡ none → length b ≤ afterToken b 0
-unfolding afterToken
-after-no-tree b e =
-    let a : lineAt b 0 ≡ none = at-start b 0 refl ∙ ap treeTold e in
-    rw a (byCases (ltb 0 (length b)) (λ h. rw h (omega arith)) (λ h. rw h (omega (arith, ltb-false 0 (length b) h))))
-
-one-of : (p : Bool) (t : TokenRead) (r : List Id) → firstParent (take most (pick p (t .id .bytes ∷ r) [])) ≡ pick p (record { good = true; id = t .id }) (idRead none)
-one-of true t r = refl
-one-of false t r = refl
-
--- the second token tells the first parent of the header
-pub first-told : (b : List ℕ) → firstParent (header b .ids) ≡ parentRead (tokenAt b (afterToken b 0))
-unfolding header tokensFrom parentsOf
-first-told b = go (idLine treeWord b) refl
+pub good-tokens : (w : ℕ) → w ≤ idRoom → (b : List ℕ) → GoodTokens w b
+unfolding tokens tokensFrom noBad hasCommitter secondsOf idLine strip
+good-tokens w small [] = refl
+good-tokens w small (x ∷ xs) = go (idLine w treeWord (x ∷ xs)) refl
   where
-    go : (o : Option (Id × List ℕ)) → idLine treeWord b ≡ o → firstParent (header b .ids) ≡ parentRead (tokenAt b (afterToken b 0))
-    go none e =
-        let p : isParent (tokenAt b (afterToken b 0) .token) ≡ false = no-parent-past b (afterToken b 0) (after-no-tree b e) (λ _. e) in
-        ap (λ (h : Header). firstParent (h .ids)) (ap (withTree b) e)
-        ∙ sym (ap (λ (q : Bool). pick q (record { good = true; id = tokenAt b (afterToken b 0) .id }) (idRead none)) p)
+    go : (o : Option (Id × List ℕ)) → idLine w treeWord (x ∷ xs) ≡ o → allGood (tokens w (x ∷ xs)) ≡ isSome (secondsOf w (x ∷ xs))
+    go none e = let s = no-tree w (x ∷ xs) e in rw (s .0, s .1) (stopped w (x ∷ xs) (length xs) 0 ∙ sym (ap (λ (o : Option (Id × List ℕ)). isSome (afterTree w (suc (length xs)) o)) e))
     go (some t) e =
-        let n : length b - 1 ≡ suc (length b - 2) = omega (arith, idLine-some treeWord b t e .long) in
-        let g : header b ≡ afterTreeToken (tokensFrom (suc (length b - 2)) b 46) = after-tree b t e ∙ ap (λ (k : ℕ). afterTreeToken (tokensFrom k b 46)) n in
-        ap (λ (h : Header). firstParent (h .ids)) g
-        ∙ one-of (isParent (tokenAt b 46 .token)) (tokenAt b 46) (parentsOf (tokensFrom (length b - 2) b (afterToken b 46)))
-        ∙ ap (λ (i : ℕ). parentRead (tokenAt b i)) (sym (tree-step b t e .1))
+        let s = tree-step w (x ∷ xs) t e in
+        let n : suc (length xs) - 1 ≡ length xs = omega arith in
+        rw (s .0, s .1) (parents-good w (x ∷ xs) (length xs) (treeSize w) ∙ sym (ap isSome (rw n at (seconds-after w small (x ∷ xs) t e))))
+
+-- ---- readable, by the tokens
+
+-- where an author and a committer come next, an author does
+persons-author : (ts : List TokenRead) → (authorNext ts && isSome (personsNext ts)) ≡ isSome (personsNext ts)
+persons-author [] = refl
+persons-author (t ∷ ts) = byCases (isAuthor (t .token)) (λ h. rw h) (λ h. rw h)
+
+read-some : (n : ℕ) (a : Bool) (o : Option ℤ) → isReadable (pick a (readAs n o) BadHeader) ≡ (a && isSome o)
+read-some n true none = refl
+read-some n true (some s) = refl
+read-some n false o = refl
+
+and-no : (a : Bool) → (a && false) ≡ false
+and-no true = refl
+and-no false = refl
+
+and-yes : (a : Bool) → (a && true) ≡ a
+and-yes true = refl
+and-yes false = refl
+
+module _ (w : ℕ) (ts : List TokenRead) where
+  few : ltb most (length (parentsOf w ts)) ≡ false → leb (length (parentsOf w ts)) most ≡ true
+  few h = le-leb (length (parentsOf w ts)) most (ltb-false most (length (parentsOf w ts)) h)
+
+  many : ltb most (length (parentsOf w ts)) ≡ true → leb (length (parentsOf w ts)) most ≡ false
+  many h = lt-leb (length (parentsOf w ts)) most (ltb-true most (length (parentsOf w ts)) h)
+
+  readable-of : isReadable (readingOf (afterTreeToken w ts)) ≡ (isSome (personsNext (pastParents ts)) && leb (length (parentsOf w ts)) most)
+  unfolding readingOf
+  readable-of =
+      byCases (ltb most (length (parentsOf w ts)))
+      (λ h. rw (h, many h) (sym (and-no (isSome (personsNext (pastParents ts))))))
+      (λ h.
+      rw (h, few h)
+      (read-some (length (take most (parentsOf w ts))) (authorNext (pastParents ts)) (personsNext (pastParents ts))
+      ∙ persons-author (pastParents ts)
+      ∙ sym (and-yes (isSome (personsNext (pastParents ts))))))
+
+pub readable-by-tokens : (w : ℕ) → w ≤ idRoom → (b : List ℕ) → ReadableTokens w b
+unfolding tokens tokensFrom readingOf header secondsOf idLine strip noBad hasCommitter
+readable-by-tokens w small [] = refl
+readable-by-tokens w small (x ∷ xs) = go (idLine w treeWord (x ∷ xs)) refl
+  where
+    go : (o : Option (Id × List ℕ)) → idLine w treeWord (x ∷ xs) ≡ o → ReadableTokens w (x ∷ xs)
+    go none e =
+        let a : allGood (tokens w (x ∷ xs)) ≡ false = good-tokens w small (x ∷ xs) ∙ ap (λ (o : Option (Id × List ℕ)). isSome (afterTree w (suc (length xs)) o)) e in
+        ap (λ (o : Option (Id × List ℕ)). isReadable (readingOf (withTree w (x ∷ xs) o))) e
+        ∙ sym (ap (λ (c : Bool). c && leb (length (parentsOf w (drop 1 (tokens w (x ∷ xs))))) most) a)
+    go (some t) e =
+        let ts : List TokenRead = tokensFrom (length xs) w (x ∷ xs) (here (treeSize w) ParentLines) in
+        let n : suc (length xs) - 1 ≡ length xs = omega arith in
+        let h : header w (x ∷ xs) ≡ afterTreeToken w ts = rw n at (after-tree w small (x ∷ xs) t e) in
+        let a : allGood (tokens w (x ∷ xs)) ≡ isSome (personsNext (pastParents ts)) = good-tokens w small (x ∷ xs) ∙ ap isSome (rw n at (seconds-after w small (x ∷ xs) t e)) in
+        let r : drop 1 (tokens w (x ∷ xs)) ≡ ts = ap (tokensFrom (length xs) w (x ∷ xs)) (tree-step w (x ∷ xs) t e .1) in
+        ap (λ (k : Header). isReadable (readingOf k)) h
+        ∙ readable-of w ts
+        ∙ sym (ap (λ (c : Bool). c && leb (length (parentsOf w (drop 1 (tokens w (x ∷ xs))))) most) a ∙ ap (λ (us : List TokenRead). isSome (personsNext (pastParents ts)) && leb (length (parentsOf w us)) most) r)

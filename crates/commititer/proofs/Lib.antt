@@ -1,3 +1,5 @@
 pub mod Told
+pub mod ParentsPlace
 pub mod Agree
-pub mod Places
+pub mod ByHeader
+pub mod Forward

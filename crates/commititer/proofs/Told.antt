@@ -1,50 +1,71 @@
--- What an answer of crate `object`'s readers tells of the token at a place: a good line's token is its own and ends where the answer
--- says, and with a bad line the next kind of line is asked. Assumes nothing.
-use mathlib.Core.Path.{_≡_, refl, ap, _∙_}
-use Prim.Native.Nat.{ℕ, _-_, _≤_}
-use mathlib.Core.Bool.{Bool, true}
+-- What crate `object` answers of a line, in the terms of tokens: a good line's token and the place after it, and that a bad one is none.
+-- Assumes nothing.
+use mathlib.Core.Path.{_≡_, refl, sym, _∙_, ap}
+use Prim.Native.Nat.{ℕ, _+_, _-_}
+use mathlib.Core.Bool.{true, false}
 use mathlib.Core.Option.{Option, none, some}
 use mathlib.Core.List.{List, []}
 use native.Mathlib.Omega.{arith}
-use lib.ListN.{length, drop, drop-of-length-le}
+use lib.ListN.{length, drop, length-drop}
 use lib.IntN.{ℤ}
-use lib.Dec.{ltb}
-use borrow.Author.Tests.{eq-eqb, ne-eqb, ltb-false}
-use Rattle.hash.specs.Bytes.{Id, pick}
-use Rattle.hash.proofs.Tests.{byCases}
+use Rattle.hash.specs.Bytes.{Id}
+use Rattle.hash.proofs.Tests.{clash}
 use Rattle.date.specs.declared.Seconds.{Seconds}
-use Rattle.object.specs.Header.{idLine, treeWord, parentWord, wordLine, strip, authorLine, committerLine}
-use Rattle.object.specs.Read.{lineRead, secondsRead, afterId}
+use Rattle.object.specs.Header.{parentSize, idLine, parentWord}
+use Rattle.object.specs.Read.{lineRead, secondsRead, afterId, idRead, parentAt}
+use Rattle.object.specs.declared.ParentLine.{ParentLine}
 use Rattle.object.specs.declared.Line.the-variants.{Good as GoodLine, Bad as BadLine}
 use Rattle.object.specs.declared.SecondsRead.the-variants.{Good as GoodSeconds, Bad as BadSeconds}
-use Rattle.commititer.specs.Token.{bare, parentToken, Told, treeTold, committerTold, authorTold, parentTold, lineAfterTree, lineAt, tokenOf, placeAfter}
-use Rattle.commititer.specs.declared.Token.the-variants.{Tree, Author, Committer}
+use Rattle.object.proofs.Parents.{parent-good, parent-fits}
+use Rattle.commititer.specs.Token.{here, bare, Told, treeTold, committerTold, authorTold, parentTold, tokenOf, ended, placeOf}
+use Rattle.commititer.specs.declared.Place.{Place}
+use Rattle.commititer.specs.declared.State.the-variants.{Parents as ParentLines, Committer as CommitterLine, Done}
+use Rattle.commititer.specs.declared.Token.the-variants.{Tree, Parent, Author, Committer}
 use Rattle.commititer.specs.declared.TokenRead.{TokenRead}
 
--- the two halves of what a good line tells: its token, and the place after it
-pub record Tells (b : List ℕ) (i : ℕ) (o : Told) (t : TokenRead) (p : ℕ) : Type 0 where
-  pub token : tokenOf b i o ≡ t
-  pub after : placeAfter b i o ≡ p
+-- what a good line tells, wherever it stands: its token, and the place after it
+pub record Tells (b : List ℕ) (o : Told) (t : TokenRead) (p : Place) : Type 0 where
+  pub token : (q : Place) → tokenOf b q o ≡ t
+  pub next : placeOf b o ≡ p
 
 -- ---- the tree line
 
-pub tree-good : (b : List ℕ) (o : Option (Id × List ℕ)) (p : ℕ) → lineRead b (afterId o) ≡ GoodLine p → Tells b 0 (treeTold o) (bare Tree) p
+pub tree-good : (b : List ℕ) (o : Option (Id × List ℕ)) (p : ℕ) → lineRead b (afterId o) ≡ GoodLine p → Tells b (treeTold o) (bare Tree) (here p ParentLines)
 tree-good b none p e = let z : _≡_ {A = ℕ} 0 1 = cc in absurd (omega arith)
-tree-good b (some t) p e = record { token = refl; after = cc }
+tree-good b (some t) p e = let n : length b - length (t .1) ≡ p = cc in record { token = λ q. refl; next = ap (λ (i : ℕ). here i ParentLines) n }
 
 pub tree-bad : (b : List ℕ) (o : Option (Id × List ℕ)) → lineRead b (afterId o) ≡ BadLine → treeTold o ≡ none
 tree-bad b none e = refl
 tree-bad b (some t) e = let z : _≡_ {A = ℕ} 0 1 = cc in absurd (omega arith)
 
+-- ---- a parent line: its reading r, and the test r of it
+
+pub parent-there : {r : ParentLine} (o : Option (Id × List ℕ)) (other : Told) (b : List ℕ) (q : Place) → r ≡ idRead o → r .good ≡ true
+    → record { token = Parent; id = r .id } ≡ tokenOf b q (parentTold o other)
+parent-there none other b q e g = clash g (ap (λ (l : ParentLine). l .good) e)
+parent-there (some t) other b q e g = λ k. record { token = Parent; id = e k .id }
+
+pub parent-not : {r : ParentLine} (o : Option (Id × List ℕ)) (other : Told) → r ≡ idRead o → r .good ≡ false → parentTold o other ≡ other
+parent-not none other e g = refl
+parent-not (some t) other e g = clash (ap (λ (l : ParentLine). l .good) e) g
+
+pub parent-next : (w : ℕ) (b : List ℕ) (i : ℕ) (other : Told) {r : _} → r ≡ parentAt w b i .good → r ≡ true
+    → here (i + parentSize w) ParentLines ≡ placeOf b (parentTold (idLine w parentWord (drop i b)) other)
+parent-next w b i other e g =
+    let t = parent-good w b i e g in
+    let fits = parent-fits w b i e g in
+    let n : length b - length (drop (i + parentSize w) b) ≡ i + parentSize w = simp length-drop (omega arith) in
+    ap (λ (j : ℕ). here j ParentLines) (sym n) ∙ ap (λ (o : Option (Id × List ℕ)). placeOf b (parentTold o other)) (sym (t .1))
+
 -- ---- the author line
 
-pub author-good : (b : List ℕ) (i : ℕ) (o : Option (List ℕ)) (other : Told) (p : ℕ) → lineRead b o ≡ GoodLine p → Tells b i (authorTold o other) (bare Author) p
-author-good b i none other p e = let z : _≡_ {A = ℕ} 0 1 = cc in absurd (omega arith)
-author-good b i (some r) other p e = record { token = refl; after = cc }
+pub author-good : (b : List ℕ) (o : Option (List ℕ)) (p : ℕ) → lineRead b o ≡ GoodLine p → Tells b (authorTold o) (bare Author) (here p CommitterLine)
+author-good b none p e = let z : _≡_ {A = ℕ} 0 1 = cc in absurd (omega arith)
+author-good b (some r) p e = let n : length b - length r ≡ p = cc in record { token = λ q. refl; next = ap (λ (i : ℕ). here i CommitterLine) n }
 
-pub author-bad : (b : List ℕ) (o : Option (List ℕ)) (other : Told) → lineRead b o ≡ BadLine → authorTold o other ≡ other
-author-bad b none other e = refl
-author-bad b (some r) other e = let z : _≡_ {A = ℕ} 0 1 = cc in absurd (omega arith)
+pub author-bad : (b : List ℕ) (o : Option (List ℕ)) → lineRead b o ≡ BadLine → authorTold o ≡ none
+author-bad b none e = refl
+author-bad b (some r) e = let z : _≡_ {A = ℕ} 0 1 = cc in absurd (omega arith)
 
 -- ---- the committer line
 
@@ -56,47 +77,7 @@ pub committer-bad : (o : Option ℤ) → secondsRead o ≡ BadSeconds → commit
 committer-bad none e = refl
 committer-bad (some v) e = let z : _≡_ {A = ℕ} 0 1 = cc in absurd (omega arith)
 
--- it holds bytes, so it stands inside
-pub committer-inside : (b : List ℕ) (i : ℕ) (s : ℤ) → committerLine (drop i b) ≡ some s → ltb i (length b) ≡ true
-unfolding committerLine wordLine strip
-committer-inside b i s e =
-    byCases (ltb i (length b))
-    (λ h. h)
-    (λ h.
-    let g : length b ≤ i = omega (arith, ltb-false i (length b) h) in
-    let n : drop i b ≡ [] = drop-of-length-le b g in
-    let f : none ≡ some s = rw n at e in
-    let z : _≡_ {A = ℕ} 0 1 = cc in
-    absurd (omega arith))
-
 -- with or without it nothing more is read
-pub committer-last : (b : List ℕ) (i : ℕ) → placeAfter b i (committerTold (committerLine (drop i b))) ≡ placeAfter b i none
-committer-last b i = go (committerLine (drop i b)) refl
-  where
-    go : (o : Option ℤ) → committerLine (drop i b) ≡ o → placeAfter b i (committerTold o) ≡ placeAfter b i none
-    go none e = refl
-    go (some s) e = rw (committer-inside b i s e) (omega arith)
-
--- ---- the line at a place
-
-module _ (b : List ℕ) (i : ℕ) where
-  -- at the start
-  pub at-start : i ≡ 0 → lineAt b i ≡ treeTold (idLine treeWord b)
-  unfolding lineAt
-  at-start e = ap (λ (t : Bool). pick t (treeTold (idLine treeWord b)) (lineAfterTree (drop i b))) (eq-eqb i 0 e)
-
-  -- further on a parent line, or one of a person
-  module _ (e : i ≡ 0 → ⊥) where
-    pub later : lineAt b i ≡ parentTold (idLine parentWord (drop i b)) (authorTold (authorLine (drop i b)) (committerTold (committerLine (drop i b))))
-    unfolding lineAt lineAfterTree
-    later = ap (λ (t : Bool). pick t (treeTold (idLine treeWord b)) (lineAfterTree (drop i b))) (ne-eqb i 0 e)
-
-    pub at-parent : (t : Id × List ℕ) → idLine parentWord (drop i b) ≡ some t → lineAt b i ≡ some (parentToken (t .0), t .1)
-    at-parent t g =
-        later
-        ∙ ap (λ (o : Option (Id × List ℕ)). parentTold o (authorTold (authorLine (drop i b)) (committerTold (committerLine (drop i b))))) g
-
-    pub at-person : idLine parentWord (drop i b) ≡ none → lineAt b i ≡ authorTold (authorLine (drop i b)) (committerTold (committerLine (drop i b)))
-    at-person g =
-        later
-        ∙ ap (λ (o : Option (Id × List ℕ)). parentTold o (authorTold (authorLine (drop i b)) (committerTold (committerLine (drop i b))))) g
+pub committer-last : (b : List ℕ) (o : Option ℤ) → placeOf b (committerTold o) ≡ ended b
+committer-last b none = refl
+committer-last b (some s) = let n : length b - 0 ≡ length b = omega arith in ap (λ (i : ℕ). here i Done) n

@@ -1,20 +1,36 @@
-// The header lines of one commit one by one, as gix_object::CommitRefIter gives them: a struct of the commit's body and a place in it,
-// and thin functions over functions on the body and the place.
+// The header lines of one commit one by one, as gix_object::CommitRefIter gives them: a struct of the commit's body, a place in it and the
+// id kind. The place says which line may stand there, so that only tree, parents, author and committer in this order are good. The
+// functions over the struct are thin; above them stand functions with plain parameters, for whoever reads a commit.
 use date::Seconds;
+use hash::Kind;
 use object::Line;
 use object::ObjectId;
-use object::ParentLine;
 use object::SecondsRead;
 use object::person;
 ghost use mathlib.Core.Path.{_≡_};
-ghost use Rattle.commititer.specs.Token.{bare, treeTold, committerTold, authorTold, tokenOf, placeAfter, tokenAt, afterToken, movedOn};
-ghost use Rattle.commititer.specs.Tokens.{firstParent};
-ghost use Rattle.object.specs.Header.{idLine, treeWord, authorLine, committerLine, header};
 ghost use lib.ListN.{drop};
-ghost use mathlib.Core.Option.{none};
+ghost use Rattle.hash.specs.Bytes.{widthOf};
+ghost use Rattle.object.specs.Header.{authorLine, committerLine};
+ghost use Rattle.commititer.specs.Token.{
+  here,
+  bare,
+  authorTold,
+  committerTold,
+  missing,
+  tokenOf,
+  isDone,
+  ended,
+  placeOf,
+  tokenAt,
+  afterToken,
+  start,
+  parentsPlace,
+  movedOn,
+};
 
-// What stands at a place of a header: one of the four kinds of line, the committer's with its seconds; a line that is none of them; or
-// nothing more to read. It has what a walk over commits asks of a line and no more, so a tree's id and an author's bytes are left out.
+// What stands at a place of a header: one of the four kinds of line, the committer's with its seconds; a line that is not the one that may
+// stand there, or is bad; or nothing more to read. It has what a walk over commits asks of a line and no more, so a tree's id and an
+// author's bytes are left out.
 pub enum Token {
     Tree,
     Parent,
@@ -30,14 +46,26 @@ pub struct TokenRead {
     pub id: ObjectId,
 }
 
-// One commit's body, and the place of the line that is read next.
-pub struct CommitRefIter<'a> {
-    pub data: &'a [u8],
-    pub at: usize,
+// Which line may stand at a place: the tree line; a parent line, else the author line; the committer line; none, since nothing more is read.
+pub enum State {
+    Tree,
+    Parents,
+    Committer,
+    Done,
 }
 
-// The length of a parent line, newline included.
-const PARENT_LINE: usize = 48;
+// A place of a header.
+pub struct Place {
+    pub at: usize,
+    pub state: State,
+}
+
+// One commit's body, the place of the line that is read next, and the kind of the ids in it.
+pub struct CommitRefIter<'a> {
+    pub data: &'a [u8],
+    pub place: Place,
+    pub kind: Kind,
+}
 
 // A token with no id.
 fn without_id(token: Token) -> TokenRead
@@ -45,13 +73,13 @@ fn without_id(token: Token) -> TokenRead
 {
     TokenRead {
         token,
-        id: ObjectId { bytes: [0u8; 20] },
+        id: ObjectId { bytes: [0u8; 32] },
     }
 }
 
-// The token at a place where no good line stands.
+// The token at a place where a line may stand and no good one does.
 fn no_line(data: &[u8], at: usize) -> TokenRead
-    ensures { λ r. ⌜ r ≡ tokenOf (now («data» .entry)) at none ⌝ }
+    ensures { λ r. ⌜ r ≡ bare (missing (now («data» .entry)) at) ⌝ }
 {
     if at < data.len() {
         without_id(Token::Bad)
@@ -60,44 +88,31 @@ fn no_line(data: &[u8], at: usize) -> TokenRead
     }
 }
 
-// The token at the start, where the tree line stands.
-fn tree_token(data: &[u8]) -> TokenRead
-    ensures { λ r. ⌜ r ≡ tokenOf (now («data» .entry)) 0 (treeTold (idLine treeWord (now («data» .entry)))) ⌝ }
+// The token where the tree line may stand.
+fn tree_token(kind: Kind, data: &[u8], at: usize) -> TokenRead
+    ensures { λ r. ⌜ r ≡ tokenAt (widthOf kind) (now («data» .entry)) (here at State.Tree) ⌝ }
 {
-    match object::tree_line(data, 0) {
+    match object::tree_line(kind, data, at) {
         Line::Good(_) => without_id(Token::Tree),
-        Line::Bad => no_line(data, 0),
+        Line::Bad => no_line(data, at),
     }
 }
 
-// The token at a place where no author line stands.
-fn committer_token(data: &[u8], at: usize) -> TokenRead
-    ensures { λ r. ⌜ r ≡ tokenOf (now («data» .entry)) at (committerTold (committerLine (drop at (now («data» .entry))))) ⌝ }
-{
-    match person::committer_line(data, at) {
-        SecondsRead::Good(seconds) => without_id(Token::Committer(seconds)),
-        SecondsRead::Bad => no_line(data, at),
-    }
-}
-
-// The token at a place where no parent line stands.
-fn person_token(data: &[u8], at: usize) -> TokenRead
-    ensures { λ r. ⌜ r ≡ tokenOf (now («data» .entry)) at (authorTold (authorLine (drop at (now («data» .entry)))) (committerTold (committerLine (drop at (now («data» .entry)))))) ⌝ }
+// The token where the author line may stand, and no parent line does.
+fn author_token(data: &[u8], at: usize) -> TokenRead
+    ensures { λ r. ⌜ r ≡ tokenOf (now («data» .entry)) (here at State.Parents) (authorTold (authorLine (drop at (now («data» .entry))))) ⌝ }
 {
     match person::author_line(data, at) {
         Line::Good(_) => without_id(Token::Author),
-        Line::Bad => committer_token(data, at),
+        Line::Bad => no_line(data, at),
     }
 }
 
-// The token that stands at a place.
-pub fn token_at(data: &[u8], at: usize) -> TokenRead
-    ensures { λ r. ⌜ r ≡ tokenAt (now («data» .entry)) at ⌝ }
+// The token where a parent line may stand, else the author line.
+fn parent_token(kind: Kind, data: &[u8], at: usize) -> TokenRead
+    ensures { λ r. ⌜ r ≡ tokenAt (widthOf kind) (now («data» .entry)) (here at State.Parents) ⌝ }
 {
-    if at == 0 {
-        return tree_token(data);
-    }
-    let parent = object::parent_line(data, at);
+    let parent = object::parent_line(kind, data, at);
     if parent.good {
         let id = parent.id;
         return TokenRead {
@@ -105,92 +120,192 @@ pub fn token_at(data: &[u8], at: usize) -> TokenRead
             id,
         };
     }
-    person_token(data, at)
+    author_token(data, at)
 }
 
-// The place after a line where nothing more is read.
-fn no_more(data: &[u8], at: usize) -> usize
-    ensures { λ r. ⌜ r ≡ placeAfter (now («data» .entry)) at none ⌝ }
+// The token where the committer line may stand.
+fn committer_token(data: &[u8], at: usize) -> TokenRead
+    ensures { λ r. ⌜ r ≡ tokenOf (now («data» .entry)) (here at State.Committer) (committerTold (committerLine (drop at (now («data» .entry))))) ⌝ }
 {
-    if at < data.len() { data.len() } else { at }
+    match person::committer_line(data, at) {
+        SecondsRead::Good(seconds) => without_id(Token::Committer(seconds)),
+        SecondsRead::Bad => no_line(data, at),
+    }
 }
 
-// The place after the token that stands at a place; the committer line is the last that is read, and so is a bad one.
-pub fn after_token(data: &[u8], at: usize) -> usize
-    ensures { λ r. ⌜ r ≡ afterToken (now («data» .entry)) at ⌝ }
+// The token that stands at a place.
+fn token_at(data: &[u8], place: Place, kind: Kind) -> TokenRead
+    ensures { λ r. ⌜ r ≡ tokenAt (widthOf kind) (now («data» .entry)) place ⌝ }
 {
-    if at == 0 {
-        return match object::tree_line(data, 0) {
-            Line::Good(next) => next,
-            Line::Bad => no_more(data, 0),
+    let at = place.at;
+    let state = place.state;
+    match state {
+        State::Tree => tree_token(kind, data, at),
+        State::Parents => parent_token(kind, data, at),
+        State::Committer => committer_token(data, at),
+        State::Done => without_id(Token::End),
+    }
+}
+
+// The place where nothing more is read.
+fn no_more(data: &[u8]) -> Place
+    ensures { λ r. ⌜ r ≡ ended (now («data» .entry)) ⌝ }
+{
+    Place {
+        at: data.len(),
+        state: State::Done,
+    }
+}
+
+// The place after the tree line, where it may stand.
+fn after_tree(kind: Kind, data: &[u8], at: usize) -> Place
+    ensures { λ r. ⌜ r ≡ afterToken (widthOf kind) (now («data» .entry)) (here at State.Tree) ⌝ }
+{
+    match object::tree_line(kind, data, at) {
+        Line::Good(next) => Place {
+            at: next,
+            state: State::Parents,
+        },
+        Line::Bad => no_more(data),
+    }
+}
+
+// The place after the author line, where it may stand and no parent line does.
+fn after_author(data: &[u8], at: usize) -> Place
+    ensures { λ r. ⌜ r ≡ placeOf (now («data» .entry)) (authorTold (authorLine (drop at (now («data» .entry))))) ⌝ }
+{
+    match person::author_line(data, at) {
+        Line::Good(next) => Place {
+            at: next,
+            state: State::Committer,
+        },
+        Line::Bad => no_more(data),
+    }
+}
+
+// The place after a parent line, else after the author line.
+fn after_parent(kind: Kind, data: &[u8], at: usize) -> Place
+    ensures { λ r. ⌜ r ≡ afterToken (widthOf kind) (now («data» .entry)) (here at State.Parents) ⌝ }
+{
+    if object::is_parent_line(kind, data, at) {
+        return Place {
+            at: at + object::parent_size(kind),
+            state: State::Parents,
         };
     }
-    if object::is_parent_line(data, at) {
-        return at + PARENT_LINE;
-    }
-    match person::author_line(data, at) {
-        Line::Good(next) => next,
-        Line::Bad => no_more(data, at),
+    after_author(data, at)
+}
+
+// The place after the token that stands at a place. The committer line is the last that is read, so it need not be looked at.
+fn after_token(data: &[u8], place: Place, kind: Kind) -> Place
+    ensures { λ r. ⌜ r ≡ afterToken (widthOf kind) (now («data» .entry)) place ⌝ }
+{
+    let at = place.at;
+    let state = place.state;
+    match state {
+        State::Tree => after_tree(kind, data, at),
+        State::Parents => after_parent(kind, data, at),
+        State::Committer => no_more(data),
+        State::Done => no_more(data),
     }
 }
 
 // The struct at the start of a commit's body.
-pub fn from_bytes<'a>(data: &'a [u8]) -> CommitRefIter<'a>
-    ensures { λ r. ⌜ (r .data ≡ «data» .entry) × (r .at ≡ 0) ⌝ }
+pub fn from_bytes<'a>(kind: Kind, data: &'a [u8]) -> CommitRefIter<'a>
+    ensures { λ r. ⌜ (r .data ≡ «data» .entry) × (r .place ≡ start) × (r .kind ≡ kind) ⌝ }
 {
-    CommitRefIter { data, at: 0 }
+    CommitRefIter {
+        data,
+        place: Place {
+            at: 0,
+            state: State::Tree,
+        },
+        kind,
+    }
 }
 
 // The token at the struct's place.
 pub fn next<'a>(it: CommitRefIter<'a>) -> TokenRead
-    ensures { λ t. ⌜ t ≡ tokenAt (now (it .entry .data)) (it .entry .at) ⌝ }
+    ensures { λ t. ⌜ t ≡ tokenAt (widthOf (it .entry .kind)) (now (it .entry .data)) (it .entry .place) ⌝ }
 {
-    token_at(it.data, it.at)
+    token_at(it.data, it.place, it.kind)
 }
 
 // The struct at the place after its token.
 pub fn advanced<'a>(it: CommitRefIter<'a>) -> CommitRefIter<'a>
-    ensures { λ r. ⌜ (r .data ≡ it .entry .data) × (r .at ≡ afterToken (now (it .entry .data)) (it .entry .at)) ⌝ }
+    ensures { λ r. ⌜ (r .data ≡ it .entry .data) × (r .place ≡ afterToken (widthOf (it .entry .kind)) (now (it .entry .data)) (it .entry .place)) × (r .kind ≡ it .entry .kind) ⌝ }
 {
-    let at = after_token(it.data, it.at);
-    CommitRefIter { data: it.data, at }
-}
-
-// The first token of a commit's body: a good tree line, or not.
-pub fn first_token(data: &[u8]) -> TokenRead
-    ensures { λ t. ⌜ t ≡ tokenAt (now («data» .entry)) 0 ⌝ }
-{
-    next(from_bytes(data))
-}
-
-// The second token of a commit's body: of a commit whose tree line is good the first parent, if it has one.
-pub fn second_token(data: &[u8]) -> TokenRead
-    ensures { λ t. ⌜ t ≡ tokenAt (now («data» .entry)) (afterToken (now («data» .entry)) 0) ⌝ }
-{
-    next(advanced(from_bytes(data)))
-}
-
-// The first parent of a commit, as its header has it; not good where it has none.
-pub fn first_parent(data: &[u8]) -> ParentLine
-    ensures { λ r. ⌜ r ≡ firstParent (header (now («data» .entry)) .ids) ⌝ }
-{
-    let read = second_token(data);
-    let token = read.token;
-    let id = read.id;
-    match token {
-        Token::Parent => ParentLine { good: true, id },
-        _ => ParentLine {
-            good: false,
-            id: ObjectId { bytes: [0u8; 20] },
-        },
+    let place = after_token(it.data, it.place, it.kind);
+    CommitRefIter {
+        data: it.data,
+        place,
+        kind: it.kind,
     }
 }
 
 // An iterator's `next`: the struct is lent, the token at its place is answered, and the place moves on.
 pub fn pull<'s, 'a>(it: &'s mut CommitRefIter<'a>) -> TokenRead
-    ensures { λ t. ⌜ (t ≡ tokenAt (now (now (it .entry) .data)) (now (it .entry) .at)) × (now (it .exit) ≡ movedOn (now (it .entry))) ⌝ }
+    ensures { λ t. ⌜ (t ≡ tokenAt (widthOf (now (it .entry) .kind)) (now (now (it .entry) .data)) (now (it .entry) .place)) × (now (it .exit) ≡ movedOn (now (it .entry))) ⌝ }
 {
     let old = *it;
     *it = advanced(old);
     next(old)
+}
+
+// The token at a place of a body, read by the struct.
+pub fn read_token(kind: Kind, data: &[u8], place: Place) -> TokenRead
+    ensures { λ t. ⌜ t ≡ tokenAt (widthOf kind) (now («data» .entry)) place ⌝ }
+{
+    next(CommitRefIter { data, place, kind })
+}
+
+// The place after it, by the struct.
+pub fn place_after(kind: Kind, data: &[u8], place: Place) -> Place
+    ensures { λ r. ⌜ r ≡ afterToken (widthOf kind) (now («data» .entry)) place ⌝ }
+{
+    let it = advanced(CommitRefIter { data, place, kind });
+    it.place
+}
+
+// Whether nothing more is read at a place.
+pub fn is_done(place: Place) -> bool
+    ensures { λ r. ⌜ r ≡ isDone (place .state) ⌝ }
+{
+    let state = place.state;
+    match state {
+        State::Tree => false,
+        State::Parents => false,
+        State::Committer => false,
+        State::Done => true,
+    }
+}
+
+// The farthest place of a body.
+const LAST: usize = 18446744073709551615;
+
+// The place after the tree line and k parent lines, where the next parent stands, or the author where there are no more; the farthest
+// place where that one is past it.
+pub fn parents_place(kind: Kind, k: usize) -> Place
+    ensures { λ r. ⌜ r ≡ parentsPlace (widthOf kind) k ⌝ }
+{
+    let at = match kind {
+        Kind::Sha1 => {
+            if 384307168202282324 < k {
+                LAST
+            } else {
+                46 + 48 * k
+            }
+        }
+        Kind::Sha256 => {
+            if 256204778801521549 < k {
+                LAST
+            } else {
+                70 + 72 * k
+            }
+        }
+    };
+    Place {
+        at,
+        state: State::Parents,
+    }
 }

@@ -25,6 +25,7 @@ use Rattle.revwalk.proofs.QueueSlots.{line-good, same-front}
 use Rattle.walk.specs.Painting.{insertId, sorted}
 use Rattle.frontier.specs.Prepare.{Collected, Collects}
 use Rattle.frontier.proofs.SortedIds.{insert-nil, insert-cons, ranked, sorted-ranked}
+use Rattle.hash.specs.Bytes.{idBytes}
 
 -- the queue's places are as they were where its memory is
 place-kept : {q : Queue} {times : List ℤ} {line : List ℕ} (line′ : List ℕ) → GoodQueue q times line → ((k : ℕ) → k < q .cap + q .cap → at line k ≡ at line′ k) → (i : ℕ) → i < q .count
@@ -42,7 +43,7 @@ place-kept {q} {times} {line} line′ g same i h =
 
 -- after i slots
 pub record Rank (names line : List ℕ) (q : Queue) (from : ℕ) (line′ : List ℕ) (i : ℕ) : Type 0 where
-  pub ids : map (idOf names) (slice from (from + i) line′) ≡ ranked (λ k. idOf names (placeOf q line k)) i
+  pub ids : map (idOf idBytes names) (slice from (from + i) line′) ≡ ranked (λ k. idOf idBytes names (placeOf q line k)) i
   pub slots : (s : ℕ) → In s (slice from (from + i) line′) → Place (placeOf q line) i s
 
 pub record Collecting (names line : List ℕ) (q : Queue) (from n : ℕ) (line′ : List ℕ) (i : ℕ) : Type 0 where
@@ -60,7 +61,7 @@ collect-first names line q from n = record {
   upto = omega arith;
   long = refl;
   below = refl;
-  right = λ times g a b. record { ids = ap (map (idOf names)) (none-yet line from); slots = λ s h. absurd (subst (In s) (none-yet line from) h) };
+  right = λ times g a b. record { ids = ap (map (idOf idBytes names)) (none-yet line from); slots = λ s h. absurd (subst (In s) (none-yet line from) h) };
 }
 
 pub collect-next : {names line : List ℕ} {q : Queue} {from n : ℕ} {line₁ line₂ : List ℕ} {i slot : ℕ} {b : Bool} → Collecting names line q from n line₁ i → i < n → n ≡ q .count
@@ -79,11 +80,11 @@ collect-next {names} {line} {q} {from} {n} {line₁} {line₂} {i} {slot} v l z 
       let part : slice from (from + (i + 1)) line₂ ≡ insertBy (notAbove names) slot (slice from (from + i) line₁) =
       ap (λ (j : ℕ). slice from j line₂) w ∙ o .entered (omega (arith, v .long)) .1 in
       record {
-        ids = ap (map (idOf names)) part
+        ids = ap (map (idOf idBytes names)) part
             ∙ insert-ids names insertId insert-nil insert-cons slot (slice from (from + i) line₁)
-            ∙ ap (λ (x : Id). insertId x (map (idOf names) (slice from (from + i) line₁))) (ap (idOf names) e)
-            ∙ ap (insertId (idOf names (placeOf q line i))) (k .ids)
-            ∙ sym (ap (ranked (λ j. idOf names (placeOf q line j))) (add-one i));
+            ∙ ap (λ (x : Id). insertId x (map (idOf idBytes names) (slice from (from + i) line₁))) (ap (idOf idBytes names) e)
+            ∙ ap (insertId (idOf idBytes names (placeOf q line i))) (k .ids)
+            ∙ sym (ap (ranked (λ j. idOf idBytes names (placeOf q line j))) (add-one i));
         slots = λ s h.
             ⊎-elim (λ p. record { k = i; low = omega arith; is = sym (p ∙ e) }) (λ p. let y = k .slots s p in record { k = y .k; low = omega (arith, y .low); is = y .is })
             (in-insert (notAbove names) slot s (slice from (from + i) line₁) (subst (In s) part h));
@@ -99,7 +100,7 @@ collect-last {names} {line} {q} {from} {n} {line′} {i} v l z = record {
       let e : i ≡ q .count = omega (arith, v .upto) in
       let k = subst (λ (j : ℕ). Rank names line q from line′ j) e (v .right times g a b) in
       record {
-        ids = k .ids ∙ sym (sorted-ranked (idOf names) (turnOf q times line) (placeOf q line) (q .count));
+        ids = k .ids ∙ sym (sorted-ranked (idOf idBytes names) (turnOf q times line) (placeOf q line) (q .count));
         slots = λ s h. let y = k .slots s h in slots-in q times line s (y .k) (y .low) (y .is);
       };
 }

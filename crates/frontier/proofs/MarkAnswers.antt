@@ -33,6 +33,7 @@ use Rattle.frontier.specs.Slots.{mostSlots, Gained, ToldAdded, AddsMark}
 use Rattle.frontier.specs.Paint.{Lent, lent, Files, Ends}
 use Rattle.frontier.specs.Mark.{PairSet, ToldLearned, Learns, Paired, ToldPlaced, Places, Queues, MayStep, Takes}
 use Rattle.frontier.proofs.MarkStep.{has-slot, stops-here, has-room, goes-here}
+use Rattle.hash.specs.Bytes.{idBytes}
 
 -- ---- a commit is read
 
@@ -59,7 +60,7 @@ module _ {c : Cache} {g s : List ℕ} {x : Id} {d : Commit} (r : ReadsCommit c g
 -- ---- an id gains marks
 
 module _ {names marks names′ marks′ : List ℕ} {cap : ℕ} {x : Id} {bits : ℕ} {a : Added} (w : AddsMark names marks names′ marks′ cap x bits a) where
-  added : {b : Added} → a ≡ b → Table false names marks cap → isPainted bits ≡ true → cap ≤ mostSlots → ToldAdded names marks names′ marks′ cap x bits b
+  added : {b : Added} → a ≡ b → Table idBytes false names marks cap → isPainted bits ≡ true → cap ≤ mostSlots → ToldAdded names marks names′ marks′ cap x bits b
   added e t b l = subst (λ (d : Added). ToldAdded names marks names′ marks′ cap x bits d) e (w .right t b l)
 
   module _ {c : Cache} {g s levels : List ℕ} {times : List ℤ} where

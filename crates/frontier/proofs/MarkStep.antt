@@ -36,6 +36,7 @@ use Rattle.frontier.specs.Slots.{Gained}
 use Rattle.frontier.specs.Paint.{Lent, lent, entryAt, IsKnown, PaintReads, Spares, Named, Goes, Stops}
 use Rattle.frontier.specs.Mark.{PairSet, Paired, MayStep}
 use Rattle.frontier.proofs.PaintBits.{visible-withBits, hidden-withBits, stale-withBits, seen-withBits, painted-live, painted-withBits}
+use Rattle.hash.specs.Bytes.{idBytes}
 
 -- ---- nothing changed, and one change after another
 
@@ -60,29 +61,29 @@ also-here false f x y e = refl
 -- ---- an id has gained marks
 
 module _ {names marks names′ marks′ : List ℕ} {cap : ℕ} {x : Id} {bits k : ℕ} (g : Gained names marks names′ marks′ cap x bits k) where
-  this-mark : (y : Id) → eqId y x ≡ true → markFor false names′ marks′ cap y ≡ withBits bits (markFor false names marks cap y)
+  this-mark : (y : Id) → eqId y x ≡ true → markFor idBytes false names′ marks′ cap y ≡ withBits bits (markFor idBytes false names marks cap y)
   this-mark y e =
       let q : y ≡ x = eqId-eq y x e in
-      ap (markFor false names′ marks′ cap) q ∙ g .this ∙ ap (λ (z : Id). withBits bits (markFor false names marks cap z)) (sym q)
+      ap (markFor idBytes false names′ marks′ cap) q ∙ g .this ∙ ap (λ (z : Id). withBits bits (markFor idBytes false names marks cap z)) (sym q)
 
-  other-id : (y : Id) → eqId y x ≡ false → markFor false names′ marks′ cap y ≡ markFor false names marks cap y
+  other-id : (y : Id) → eqId y x ≡ false → markFor idBytes false names′ marks′ cap y ≡ markFor idBytes false names marks cap y
   other-id y e = g .other y (λ q. clash (eqId-same y x q) e)
 
   -- a bit P: the set of the ids that have it gains x where `bits` has it
-  gained-bit : (P : ℕ → Bool) → ((b n : ℕ) → P (withBits b n) ≡ (P b || P n)) → (f : Id → Bool) → ((y : Id) → f y ≡ P (markFor false names marks cap y))
-      → (y : Id) → also (P bits) f x y ≡ P (markFor false names′ marks′ cap y)
+  gained-bit : (P : ℕ → Bool) → ((b n : ℕ) → P (withBits b n) ≡ (P b || P n)) → (f : Id → Bool) → ((y : Id) → f y ≡ P (markFor idBytes false names marks cap y))
+      → (y : Id) → also (P bits) f x y ≡ P (markFor idBytes false names′ marks′ cap y)
   gained-bit P law f is y =
       byCases (eqId y x)
       (λ e.
       also-here (P bits) f x y e
       ∙ ap (λ (t : Bool). P bits || t) (is y)
-      ∙ sym (law bits (markFor false names marks cap y))
+      ∙ sym (law bits (markFor idBytes false names marks cap y))
       ∙ ap P (sym (this-mark y e)))
       (λ e. also-other (P bits) f x y e ∙ is y ∙ ap P (sym (other-id y e)))
 
-  seen-kept : (y : Id) → seen (markFor false names′ marks′ cap y) ≡ seen (markFor false names marks cap y)
+  seen-kept : (y : Id) → seen (markFor idBytes false names′ marks′ cap y) ≡ seen (markFor idBytes false names marks cap y)
   seen-kept y =
-      byCases (eqId y x) (λ e. ap seen (this-mark y e) ∙ seen-withBits bits (markFor false names marks cap y)) (λ e. ap seen (other-id y e))
+      byCases (eqId y x) (λ e. ap seen (this-mark y e) ∙ seen-withBits bits (markFor idBytes false names marks cap y)) (λ e. ap seen (other-id y e))
 
   -- the mark of the slot
   slot-mark : getD marks′ k 0 ≡ withBits bits (getD marks k 0)
@@ -173,7 +174,7 @@ pending-cons b c l = refl
 
 -- slots are set against each other as their pairs are, by definition
 insert-entries : (names levels : List ℕ) (times : List ℤ) (k : ℕ) (l : List ℕ)
-    → map (entryAt names levels times) (insertBy (ahead levels times) k l) ≡ addPending (pairAt levels times k) (idOf names k) (map (entryAt names levels times) l)
+    → map (entryAt names levels times) (insertBy (ahead levels times) k l) ≡ addPending (pairAt levels times k) (idOf idBytes names k) (map (entryAt names levels times) l)
 unfolding ahead
 insert-entries names levels times k l =
     insert-map (entryAt names levels times) (ahead levels times) (λ b c. ltPair (c .0) (b .0)) (λ b m. addPending (b .0) (b .1) m) pending-nil pending-cons k l
@@ -201,7 +202,7 @@ mark-fail w bits x st n e = rw e
 module _ {w : World} {cap : ℕ} {u : List Id} {names marks levels : List ℕ} {times : List ℤ} {line : List ℕ} {p : Pending} {x : Id} {bits : ℕ} {st : Paint}
     (h : MayStep w cap u (lent names marks levels times line) p x bits st (mark w (marksOf bits) x st)) where
   -- a full table does not come
-  pub has-slot : Finds false names marks cap x TableFull → ⊥
+  pub has-slot : Finds idBytes false names marks cap x TableFull → ⊥
   has-slot f = room u (h .reads .table) f (h .width) (h .named .few) (within (h .named .inside)) (h .in-u) refl
 
   module _ {names′ marks′ levels′ : List ℕ} {times′ : List ℤ} where
@@ -240,7 +241,7 @@ module _ {w : World} {cap : ℕ} {u : List Id} {names marks levels : List ℕ} {
         queue-now =
             ap (addPending (pairAt levels′ times′ k) x) (h .reads .queue)
             ∙ ap (λ (y : Id). addPending (pairAt levels′ times′ k) y (map (entryAt names levels times) (slotsIn levels times p line))) (sym (g .holds .is))
-            ∙ ap (addPending (pairAt levels′ times′ k) (idOf names′ k))
+            ∙ ap (addPending (pairAt levels′ times′ k) (idOf idBytes names′ k))
             (sym (map-agree (entryAt names′ levels′ times′) (entryAt names levels times) (slotsIn levels times p line)
             (λ s i. let o = h .reads .queued s i in entry-same g q s (o .0) (o .1))))
             ∙ sym (insert-entries names′ levels′ times′ k (slotsIn levels times p line))

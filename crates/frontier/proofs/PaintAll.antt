@@ -40,6 +40,7 @@ use Rattle.frontier.proofs.PaintBits.{painted-0}
 use Rattle.frontier.proofs.Steps.{ends-then, then-is, then-stop}
 use Rattle.frontier.proofs.PaintRoom.{paint-parts, turns-room, shown-room, hidden-room}
 use Rattle.frontier.proofs.Wash.{washed-low, high-painted, high-seen, high-zero, wash-table, wash-taken, wash-mark}
+use Rattle.hash.specs.Bytes.{idBytes}
 
 -- ---- the two marks
 
@@ -200,8 +201,8 @@ module _ {w : World} {cap : ℕ} {u : List Id} {names marks levels : List ℕ} {
   abbrev clean : Lent
   clean = lent names (washed cap marks) levels times line′
 
-  no-mark : (x : Id) → isPainted (markFor false names (washed cap marks) cap x) ≡ false
-  no-mark x = ap isPainted (wash-mark (h .table) (h .only-seen) x) ∙ high-painted (markFor false names marks cap x)
+  no-mark : (x : Id) → isPainted (markFor idBytes false names (washed cap marks) cap x) ≡ false
+  no-mark x = ap isPainted (wash-mark (h .table) (h .only-seen) x) ∙ high-painted (markFor idBytes false names marks cap x)
 
   none-queued : slotsIn levels times (startOf cap) line′ ≡ []
   none-queued = empty-slots levels times (startOf cap) line′ (omega arith)
@@ -216,9 +217,9 @@ module _ {w : World} {cap : ℕ} {u : List Id} {names marks levels : List ℕ} {
     for-levels = h .for-levels;
     for-times = h .for-times;
     right = empty-right (2 * cap) (5 * cap) line′ (omega arith) (omega (arith, h .for-line, o .long));
-    vis = λ x. sym (clean-visible (markFor false names (washed cap marks) cap x) (no-mark x));
-    hid = λ x. sym (clean-hidden (markFor false names (washed cap marks) cap x) (no-mark x));
-    stale = λ x. sym (clean-stale (markFor false names (washed cap marks) cap x) (no-mark x));
+    vis = λ x. sym (clean-visible (markFor idBytes false names (washed cap marks) cap x) (no-mark x));
+    hid = λ x. sym (clean-hidden (markFor idBytes false names (washed cap marks) cap x) (no-mark x));
+    stale = λ x. sym (clean-stale (markFor idBytes false names (washed cap marks) cap x) (no-mark x));
     queue = sym (ap (map (entryAt names levels times)) none-queued);
     queued = λ s i. absurd (subst (In s) none-queued i);
     known = λ s l a. clash a (slot-clean s l);
@@ -228,12 +229,12 @@ module _ {w : World} {cap : ℕ} {u : List Id} {names marks levels : List ℕ} {
   clean-named = record {
     few = h .named .few;
     small = h .named .small;
-    inside = λ y k. h .named .inside y (λ z. k (wash-mark (h .table) (h .only-seen) y ∙ high-zero (markFor false names marks cap y) z));
+    inside = λ y k. h .named .inside y (λ z. k (wash-mark (h .table) (h .only-seen) y ∙ high-zero (markFor idBytes false names marks cap y) z));
   }
 
   clean-spares : Spares cap (2 * cap) (lent names marks levels times line) clean
   clean-spares = record {
-    seen-same = λ x. ap seen (wash-mark (h .table) (h .only-seen) x) ∙ high-seen (markFor false names marks cap x);
+    seen-same = λ x. ap seen (wash-mark (h .table) (h .only-seen) x) ∙ high-seen (markFor idBytes false names marks cap x);
     taken = λ s l a. (wash-taken (h .table) (h .only-seen) s l a, refl);
     below = o .below;
   }

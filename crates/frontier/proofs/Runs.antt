@@ -18,8 +18,8 @@ use Rattle.pending.proofs.Laws.{getD-below}
 use Rattle.walk.specs.Lookup.{World}
 use Rattle.walk.specs.Painting.{Paint, mark, markAll}
 use Rattle.reading.specs.Files.{worldUnder}
-use Rattle.object.specs.Ids.{padded}
-use Rattle.object.proofs.IdBytes.{padded-id}
+use Rattle.object.specs.Ids.{padded, idIn}
+use Rattle.object.proofs.IdBytes.{id-in}
 use Rattle.frontier.specs.declared.marking.Marked.{Marked}
 use Rattle.frontier.specs.declared.marking.Marked.the-variants.{Going}
 use Rattle.frontier.specs.Bits.{marksOf}
@@ -46,22 +46,22 @@ pub run-length : (m : Lent) (from n : ℕ) → from + n ≤ length (m .line) →
 run-length m from n h = let e : from + n - from ≡ n = omega arith in length-slice from (from + n) (m .line) h ∙ e
 
 ids-length : (m : Lent) (from n : ℕ) → from + n ≤ length (m .line) → length (idsIn m from n) ≡ n
-ids-length m from n h = length-map (slice from (from + n) (m .line)) (idOf (m .names)) ∙ run-length m from n h
+ids-length m from n h = length-map (slice from (from + n) (m .line)) (idOf idBytes (m .names)) ∙ run-length m from n h
 
 -- the id in slot i of the part, in memory that painting has come to
-run-id : {cap : ℕ} {m₀ m : Lent} {p : Pending} {from n i : ℕ} {x : Id} {slot : ℕ} → RunBelow cap m₀ p from n → Table false (m₀ .names) (m₀ .marks) cap → Spares cap (p .base) m₀ m → i < n
-    → slot ≡ getD (m .line) (from + i) 0 → x ≡ padded (idOf (m .names) slot) → x ≡ getD (idsIn m₀ from n) i []
+run-id : {cap : ℕ} {m₀ m : Lent} {p : Pending} {from n i : ℕ} {x : Id} {slot : ℕ} → RunBelow cap m₀ p from n → Table idBytes false (m₀ .names) (m₀ .marks) cap → Spares cap (p .base) m₀ m → i < n
+    → slot ≡ getD (m .line) (from + i) 0 → x ≡ idIn idBytes (padded (idOf idBytes (m .names) slot)) → x ≡ getD (idsIn m₀ from n) i []
 run-id {cap} {m₀} {m} {p} {from} {n} {i} {x} {slot} b t k l e d =
     let long = run-length m₀ from n (b .inside) in
     let z : ℕ = getD (slice from (from + n) (m₀ .line)) i 0 in
     let j : slot ≡ getD (slice from (from + n) (m₀ .line)) i 0 =
     e ∙ getD-below (m₀ .line) (m .line) (p .base) (k .below) (from + i) (omega (arith, b .fits)) ∙ sym (slice-at (m₀ .line) from n i l) in
     let a = b .taken (getD (slice from (from + n) (m₀ .line)) i 0) (in-at (slice from (from + n) (m₀ .line)) i (omega (arith, long))) in
-    let q : idOf (m .names) slot ≡ idOf (m₀ .names) (getD (slice from (from + n) (m₀ .line)) i 0) = ap (idOf (m .names)) j ∙ k .taken (getD (slice from (from + n) (m₀ .line)) i 0) (a .0) (a .1) .1 in
+    let q : idOf idBytes (m .names) slot ≡ idOf idBytes (m₀ .names) (getD (slice from (from + n) (m₀ .line)) i 0) = ap (idOf idBytes (m .names)) j ∙ k .taken (getD (slice from (from + n) (m₀ .line)) i 0) (a .0) (a .1) .1 in
     d
-    ∙ ap padded q
-    ∙ padded-id (idOf (m₀ .names) (getD (slice from (from + n) (m₀ .line)) i 0)) (width-of (getD (slice from (from + n) (m₀ .line)) i 0) (t .sized) (a .0))
-    ∙ sym (getD-map (idOf (m₀ .names)) (slice from (from + n) (m₀ .line)) i 0 [] (omega (arith, long)))
+    ∙ ap (λ (v : Id). idIn idBytes (padded v)) q
+    ∙ id-in idBytes (idOf idBytes (m₀ .names) (getD (slice from (from + n) (m₀ .line)) i 0)) (width-of (getD (slice from (from + n) (m₀ .line)) i 0) (t .sized) (a .0)) (omega arith)
+    ∙ sym (getD-map (idOf idBytes (m₀ .names)) (slice from (from + n) (m₀ .line)) i 0 [] (omega (arith, long)))
 
 -- a loop over the part, begun at an answer, after i of n slots
 pub record Running (c : Cache) (g s : List ℕ) (cap : ℕ) (m₀ m : Lent) (past : Marked) (from n bits i : ℕ) (r : Marked) : Type 0 where
@@ -79,7 +79,7 @@ running-first c g s cap m past from n bits = record {
 }
 
 pub running-next : {c : Cache} {g s : List ℕ} {cap : ℕ} {m₀ m m′ : Lent} {past : Marked} {from n bits i : ℕ} {r r′ : Marked} {x : Id} (slot : ℕ) → Running c g s cap m₀ m past from n bits i r
-    → i < n → slot ≡ getD (m .line) (from + i) 0 → x ≡ padded (idOf (m .names) slot) → length x ≡ idBytes → Long m m′ → TakesAfter mark c g s cap m m′ r x bits r′
+    → i < n → slot ≡ getD (m .line) (from + i) 0 → x ≡ idIn idBytes (padded (idOf idBytes (m .names) slot)) → length x ≡ idBytes → Long m m′ → TakesAfter mark c g s cap m m′ r x bits r′
     → Running c g s cap m₀ m′ past from n bits (i + 1) r′
 running-next {m₀ = m₀} {from = from} {n = n} slot v l e d wd b o = record {
   upto = omega arith;

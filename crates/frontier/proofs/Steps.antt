@@ -28,6 +28,7 @@ use Rattle.reading.specs.Whole.{Has, Tells, IsRead, parentCount, GivesParent}
 use Rattle.reading.proofs.Whole.{commit-parent-right}
 use Rattle.reading.specs.declared.Commit.{Commit}
 use Rattle.reading.specs.declared.Commit.the-variants.{Row, Body, Failed}
+use Rattle.object.specs.Ids.{idIn}
 use Rattle.object.specs.declared.ObjectId.{ObjectId}
 use Rattle.frontier.specs.declared.marking.Marked.{Marked}
 use Rattle.frontier.specs.declared.marking.Marked.the-variants.{Going, Stop, NoRoom}
@@ -247,7 +248,7 @@ module _ (step : Step) (steps : Steps) (nil : Nil steps) (snoc : Snoc step steps
 
 -- ---- the ids of a list of bytes
 
-ids-at : (k : ℕ) (b : List ℕ) (i : ℕ) → i < k → getD (idsOf k b) i [] ≡ at b (idBytes * i) idBytes
+ids-at : (k : ℕ) (b : List ℕ) (i : ℕ) → i < k → getD (idsOf idBytes k b) i [] ≡ at b (idBytes * i) idBytes
 unfolding idsOf at
 ids-at zero b i h = absurd (omega arith)
 ids-at (suc k) b zero h = refl
@@ -265,7 +266,7 @@ list-width b i h = length-at b (idBytes * i) idBytes (omega arith)
 -- ---- one parent
 
 pub lacks-is : {w : World} {cap : ℕ} {m : Lent} {p : Pending} {st : Paint} (x : Id) (bits : ℕ) → PaintReads w cap m p st
-    → lacks (marksOf bits) x st ≡ lacksBits bits (markFor false (m .names) (m .marks) cap x)
+    → lacks (marksOf bits) x st ≡ lacksBits bits (markFor idBytes false (m .names) (m .marks) cap x)
 unfolding lacks lacksBits
 lacks-is x bits r = rw (r .vis x, r .hid x, r .stale x)
 
@@ -281,9 +282,9 @@ module _ {names marks : List ℕ} {cap : ℕ} {x : Id} {bits : ℕ} {b : Bool} (
   told-lacks : {w : World} {m : Lent} {p : Pending} {st : Paint} → m .names ≡ names → m .marks ≡ marks → PaintReads w cap m p st → lacks (marksOf bits) x st ≡ b
   told-lacks {w} {m} {p} {st} i j r =
       lacks-is x bits r
-      ∙ ap (λ (l : List ℕ). lacksBits bits (markFor false l (m .marks) cap x)) i
-      ∙ ap (λ (l : List ℕ). lacksBits bits (markFor false names l cap x)) j
-      ∙ sym (v .right (subst (λ (l : List ℕ). Table false names l cap) j (subst (λ (l : List ℕ). Table false l (m .marks) cap) i (r .table))))
+      ∙ ap (λ (l : List ℕ). lacksBits bits (markFor idBytes false l (m .marks) cap x)) i
+      ∙ ap (λ (l : List ℕ). lacksBits bits (markFor idBytes false names l cap x)) j
+      ∙ sym (v .right (subst (λ (l : List ℕ). Table idBytes false names l cap) j (subst (λ (l : List ℕ). Table idBytes false l (m .marks) cap) i (r .table))))
 
   pub passes-mark : {c : Cache} {g s : List ℕ} {m m′ : Lent} {p : Pending} {r : Marked} → m .names ≡ names → m .marks ≡ marks → b ≡ true → Takes mark c g s cap m m′ p x bits r
       → Takes passTo c g s cap m m′ p x bits r
@@ -299,7 +300,7 @@ module _ {names marks : List ℕ} {cap : ℕ} {x : Id} {bits : ℕ} {b : Bool} (
     right = λ f u st h. goes-still (pass-not (worldUnder c g s) (marksOf bits) x st (told-lacks i j (h .reads) ∙ e)) (h .reads) (h .named);
   }
 
-module _ {names marks : List ℕ} {cap : ℕ} {x : Id} {a : Slot} (bits : ℕ) (f : Finds false names marks cap x a) where
+module _ {names marks : List ℕ} {cap : ℕ} {x : Id} {a : Slot} (bits : ℕ) (f : Finds idBytes false names marks cap x a) where
   pub lacks-found : {b : Bool} {v : ℕ} (k : ℕ) → a ≡ Found k → b ≡ lacksBits bits v → v ≡ getD marks k 0 → LacksMark names marks cap x bits b
   lacks-found k e p q = record { right = λ t. p ∙ ap (lacksBits bits) (q ∙ sym (found-mark t f k e)) }
 
@@ -319,12 +320,12 @@ module _ {c : Cache} {g s : List ℕ} {y : Id} where
   count-is (Failed n) i = sym (ap (λ (o : Read). length (parentsOf o)) (i .tells))
 
   parent-good : {d : Commit} {n k : ℕ} {q : GenThenTime} {r : ObjectId} → Files c g s → IsRead c g s y d → Has n q (read (worldUnder c g s) y) → GivesParent c g s d k r → k < n
-      → r .bytes ≡ getD (parentsOf (read (worldUnder c g s) y)) k []
+      → idIn idBytes (r .bytes) ≡ getD (parentsOf (read (worldUnder c g s) y)) k []
   unfolding parentsOf
   parent-good {k = k} f i h v l =
       commit-parent-right v (f .store-ok) (f .graph-ok) y i (h .parents) _ (h .is) (omega (arith, h .count)) ∙ sym (ap (λ (o : Read). getD (parentsOf o) k []) (h .is))
 
-  pub parent-is : {k : ℕ} {r : ObjectId} (d : Commit) → Files c g s → IsRead c g s y d → GivesParent c g s d k r → k < parentCount d → r .bytes ≡ getD (parentsOf (read (worldUnder c g s) y)) k []
+  pub parent-is : {k : ℕ} {r : ObjectId} (d : Commit) → Files c g s → IsRead c g s y d → GivesParent c g s d k r → k < parentCount d → idIn idBytes (r .bytes) ≡ getD (parentsOf (read (worldUnder c g s) y)) k []
   parent-is (Row p n q) f i v l = parent-good f i (i .tells) v l
   parent-is (Body a z n q) f i v l = parent-good f i (i .tells) v l
   parent-is (Failed n) f i v l = absurd (omega arith)
@@ -345,12 +346,12 @@ passing-first c g s cap m past d bits = record {
       (upto-first passTo pass pass-nil pass-snoc (worldUnder c g s) cap m p (parentsOf (read (worldUnder c g s) y)) bits);
 }
 
-pub passing-next : {c : Cache} {g s : List ℕ} {cap : ℕ} {m₀ m m′ : Lent} {past : Marked} {d : Commit} {bits i : ℕ} {r r′ : Marked} {z : ObjectId} → Passing c g s cap m₀ m past d bits i r
-    → i < parentCount d → length (z .bytes) ≡ idBytes → GivesParent c g s d i z → Long m m′ → TakesAfter passTo c g s cap m m′ r (z .bytes) bits r′ → Passing c g s cap m₀ m′ past d bits (i + 1) r′
-passing-next {d = d} v l wd k b o = record {
+pub passing-next : {c : Cache} {g s : List ℕ} {cap : ℕ} {m₀ m m′ : Lent} {past : Marked} {d : Commit} {bits i : ℕ} {r r′ : Marked} {z : ObjectId} {x : Id} → Passing c g s cap m₀ m past d bits i r
+    → i < parentCount d → x ≡ idIn idBytes (z .bytes) → length x ≡ idBytes → GivesParent c g s d i z → Long m m′ → TakesAfter passTo c g s cap m m′ r x bits r′ → Passing c g s cap m₀ m′ past d bits (i + 1) r′
+passing-next {d = d} v l a wd k b o = record {
   upto = omega arith;
   long = long-then (v .long) b;
-  begun = λ p e f y h. upto-next passTo pass pass-nil pass-snoc f (omega (arith, count-is d h)) wd (λ u st q j gone. parent-is d f h k l) (v .begun p e f y h) o;
+  begun = λ p e f y h. upto-next passTo pass pass-nil pass-snoc f (omega (arith, count-is d h)) wd (λ u st q j gone. a ∙ parent-is d f h k l) (v .begun p e f y h) o;
 }
 
 pub passing-last : {c : Cache} {g s : List ℕ} {cap : ℕ} {m₀ m : Lent} {p : Pending} {d : Commit} {bits i : ℕ} {r : Marked} → Passing c g s cap m₀ m (Going p) d bits i r → parentCount d ≤ i

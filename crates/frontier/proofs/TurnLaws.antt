@@ -25,11 +25,11 @@ use Rattle.walk.specs.Lookup.{World, Pair, read, parentsOf}
 use Rattle.walk.specs.Painting.{Paint, Painting, stop, going, then, Marks, pass, passed, withPending, fresh, turn, turns}
 use Rattle.walk.specs.declared.Refusal.{Refusal}
 use Rattle.reading.specs.Files.{worldUnder}
-use Rattle.object.specs.Ids.{padded}
+use Rattle.object.specs.Ids.{padded, idIn}
 use Rattle.reading.specs.Whole.{IsRead, ReadsCommit}
 use Rattle.reading.proofs.Whole.{commit-right}
 use Rattle.reading.specs.declared.Commit.{Commit}
-use Rattle.object.proofs.IdBytes.{padded-id}
+use Rattle.object.proofs.IdBytes.{id-in}
 use Rattle.frontier.specs.declared.marking.Marked.{Marked}
 use Rattle.frontier.specs.declared.marking.Marked.the-variants.{Going, Stop, NoRoom}
 use Rattle.frontier.specs.Bits.{isPainted, marksOf, passedBits}
@@ -52,7 +52,7 @@ fresh-cons f q l = refl
 
 module _ {w : World} {cap : ℕ} {m : Lent} {p : Pending} {st : Paint} (r : PaintReads w cap m p st) where
   -- the mark of a slot with one of painting's marks is that of its id
-  id-mark : (s : ℕ) → s < cap → isPainted (getD (m .marks) s 0) ≡ true → markFor false (m .names) (m .marks) cap (idOf (m .names) s) ≡ getD (m .marks) s 0
+  id-mark : (s : ℕ) → s < cap → isPainted (getD (m .marks) s 0) ≡ true → markFor idBytes false (m .names) (m .marks) cap (idOf idBytes (m .names) s) ≡ getD (m .marks) s 0
   id-mark s l h = mark-held (r .table) s (record { low = l; alive = painted-live (getD (m .marks) s 0) h; is = refl })
 
   pub fresh-is : anyLacking (m .marks) (m .line) p ≡ fresh (st .stale) (st .pending)
@@ -62,23 +62,23 @@ module _ {w : World} {cap : ℕ} {m : Lent} {p : Pending} {st : Paint} (r : Pain
       (slotsIn (m .levels) (m .times) p (m .line))
       (λ y i.
       let o = r .queued y i in
-      ap stale (sym (id-mark y (o .0) (o .1))) ∙ sym (r .stale (idOf (m .names) y)))
+      ap stale (sym (id-mark y (o .0) (o .1))) ∙ sym (r .stale (idOf idBytes (m .names) y)))
       ∙ ap (fresh (st .stale)) (sym (r .queue))
 
-  passed-is : (s : ℕ) → s < cap → isPainted (getD (m .marks) s 0) ≡ true → passed st (idOf (m .names) s) ≡ marksOf (passedBits (getD (m .marks) s 0))
+  passed-is : (s : ℕ) → s < cap → isPainted (getD (m .marks) s 0) ≡ true → passed st (idOf idBytes (m .names) s) ≡ marksOf (passedBits (getD (m .marks) s 0))
   unfolding passed
   passed-is s l h =
-      let x : Id = idOf (m .names) s in
+      let x : Id = idOf idBytes (m .names) s in
       let n : ℕ = getD (m .marks) s 0 in
       let k = id-mark s l h in
-      let v : st .vis (idOf (m .names) s) ≡ visible (getD (m .marks) s 0) = r .vis (idOf (m .names) s) ∙ ap visible k in
-      let d : st .hid (idOf (m .names) s) ≡ hidden (getD (m .marks) s 0) = r .hid (idOf (m .names) s) ∙ ap hidden k in
-      let e : st .stale (idOf (m .names) s) ≡ stale (getD (m .marks) s 0) = r .stale (idOf (m .names) s) ∙ ap stale k in
+      let v : st .vis (idOf idBytes (m .names) s) ≡ visible (getD (m .marks) s 0) = r .vis (idOf idBytes (m .names) s) ∙ ap visible k in
+      let d : st .hid (idOf idBytes (m .names) s) ≡ hidden (getD (m .marks) s 0) = r .hid (idOf idBytes (m .names) s) ∙ ap hidden k in
+      let e : st .stale (idOf idBytes (m .names) s) ≡ stale (getD (m .marks) s 0) = r .stale (idOf idBytes (m .names) s) ∙ ap stale k in
       let v′ = v ∙ sym (visible-passed (getD (m .marks) s 0)) in
       let d′ = d ∙ sym (hidden-passed (getD (m .marks) s 0)) in
       let e′ =
-      ap (λ (t : Bool). t || (st .vis (idOf (m .names) s) && st .hid (idOf (m .names) s))) e
-      ∙ ap (λ (t : Bool). stale (getD (m .marks) s 0) || (t && st .hid (idOf (m .names) s))) v
+      ap (λ (t : Bool). t || (st .vis (idOf idBytes (m .names) s) && st .hid (idOf idBytes (m .names) s))) e
+      ∙ ap (λ (t : Bool). stale (getD (m .marks) s 0) || (t && st .hid (idOf idBytes (m .names) s))) v
       ∙ ap (λ (t : Bool). stale (getD (m .marks) s 0) || (visible (getD (m .marks) s 0) && t)) d
       ∙ sym (stale-passed (getD (m .marks) s 0)) in
       λ i. record { v = v′ i; h = d′ i; s = e′ i }
@@ -115,20 +115,20 @@ module _ {w : World} {cap : ℕ} {m : Lent} {p : Pending} {st : Paint} {t : Take
     known = r .known;
   }
 
-  turn-is : turn w st (st .pending) ≡ pass w (passed st (idOf (m .names) (t .slot))) (parentsOf (read w (idOf (m .names) (t .slot)))) (withPending rest st)
+  turn-is : turn w st (st .pending) ≡ pass w (passed st (idOf idBytes (m .names) (t .slot))) (parentsOf (read w (idOf idBytes (m .names) (t .slot)))) (withPending rest st)
   turn-is = ap (turn w st) first-is ∙ turn-first w st (entryAt (m .names) (m .levels) (m .times) (t .slot)) rest
 
 module _ {c : Cache} {g s : List ℕ} {cap : ℕ} {m : Lent} {p : Pending} {t : Taken} (v : Pops (m .levels) (m .times) p (m .line) t) where
-  pub turn-some : {m′ : Lent} {d : Commit} {y : Id} {n b : ℕ} {r : Marked} → t .found ≡ true → n ≡ getD (m .marks) (t .slot) 0 → b ≡ passedBits n → y ≡ padded (idOf (m .names) (t .slot))
+  pub turn-some : {m′ : Lent} {d : Commit} {y : Id} {n b : ℕ} {r : Marked} → t .found ≡ true → n ≡ getD (m .marks) (t .slot) 0 → b ≡ passedBits n → y ≡ idIn idBytes (padded (idOf idBytes (m .names) (t .slot)))
       → ReadsCommit c g s y d → PassesAll c g s cap m m′ (t .pending) d b r → TakesTurn c g s cap m m′ p r
   turn-some {m′} {d} {y} {n} {b} {r} fd en eb ey rd o = record {
     right = λ f u st h.
         let e = v .took (v .waits fd) in
         let i = h .reads .queued (t .slot) (taken-in e (t .slot) (inl refl)) in
-        let x : Id = idOf (m .names) (t .slot) in
-        let ex : y ≡ idOf (m .names) (t .slot) = ey ∙ padded-id (idOf (m .names) (t .slot)) (width-of (t .slot) (h .reads .table .sized) (i .0)) in
+        let x : Id = idOf idBytes (m .names) (t .slot) in
+        let ex : y ≡ idOf idBytes (m .names) (t .slot) = ey ∙ id-in idBytes (idOf idBytes (m .names) (t .slot)) (width-of (t .slot) (h .reads .table .sized) (i .0)) (omega arith) in
         let ebits : b ≡ passedBits (getD (m .marks) (t .slot) 0) = eb ∙ ap passedBits en in
-        let k : passed st (idOf (m .names) (t .slot)) ≡ marksOf b = passed-is (h .reads) (t .slot) (i .0) (i .1) ∙ ap marksOf (sym ebits) in
+        let k : passed st (idOf idBytes (m .names) (t .slot)) ≡ marksOf b = passed-is (h .reads) (t .slot) (i .0) (i .1) ∙ ap marksOf (sym ebits) in
         let st′ : Paint = withPending (rest (h .reads) e) st in
         let gone : Goes (worldUnder c g s) cap u p m m (t .pending) (going (withPending (rest (h .reads) e) st)) =
         record {
@@ -142,19 +142,19 @@ module _ {c : Cache} {g s : List ℕ} {cap : ℕ} {m : Lent} {p : Pending} {t : 
         } in
         ends-then m′ r gone
         (ap
-        (λ (z : Marks). pass (worldUnder c g s) z (parentsOf (read (worldUnder c g s) (idOf (m .names) (t .slot)))) (withPending (rest (h .reads) e) st)) (sym k)
+        (λ (z : Marks). pass (worldUnder c g s) z (parentsOf (read (worldUnder c g s) (idOf idBytes (m .names) (t .slot)))) (withPending (rest (h .reads) e) st)) (sym k)
         ∙ sym (turn-is (h .reads) e))
-        (o .right f (idOf (m .names) (t .slot)) (subst (λ (z : Id). IsRead c g s z d) ex (commit-right rd (f .store-ok) (f .graph-ok))) u (withPending (rest (h .reads) e) st)
+        (o .right f (idOf idBytes (m .names) (t .slot)) (subst (λ (z : Id). IsRead c g s z d) ex (commit-right rd (f .store-ok) (f .graph-ok))) u (withPending (rest (h .reads) e) st)
         (record {
           reads = rest-reads (h .reads) e;
           named = h .named;
-          in-u = h .parents-in (idOf (m .names) (t .slot));
+          in-u = h .parents-in (idOf idBytes (m .names) (t .slot));
           some-mark = ap isPainted ebits ∙ painted-passed (getD (m .marks) (t .slot) 0) (i .1);
           room = λ j st″ q.
               omega (
                 arith,
                 h .room (entryAt (m .names) (m .levels) (m .times) (t .slot)) (rest (h .reads) e) (first-is (h .reads) e) j st″
-                    (ap (λ (z : Marks). pass (worldUnder c g s) z (take j (parentsOf (read (worldUnder c g s) (idOf (m .names) (t .slot))))) (withPending (rest (h .reads) e) st)) k ∙ q),
+                    (ap (λ (z : Marks). pass (worldUnder c g s) z (take j (parentsOf (read (worldUnder c g s) (idOf idBytes (m .names) (t .slot))))) (withPending (rest (h .reads) e) st)) k ∙ q),
                 e .base,
                 e .end,
               );

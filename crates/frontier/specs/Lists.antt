@@ -19,6 +19,7 @@ use Rattle.frontier.specs.declared.marking.Marked.{Marked}
 use Rattle.frontier.specs.declared.marking.Marked.the-variants.{Going, Stop, NoRoom}
 use Rattle.frontier.specs.Bits.{isPainted, marksOf}
 use Rattle.frontier.specs.Paint.{Lent, Files, PaintReads, Named, Short, Ends}
+use Rattle.hash.specs.Bytes.{idBytes}
 
 -- a part of painting over a list of commits
 abbrev pub Steps : Type 0
@@ -50,7 +51,7 @@ pub record TakesAllAfter (steps : Steps) (c : Cache) (g s : List ℕ) (cap : ℕ
 
 -- the ids of the n slots in line[from .. from + n)
 abbrev pub idsIn : Lent → ℕ → ℕ → List Id
-idsIn m from n = map (idOf (m .names)) (slice from (from + n) (m .line))
+idsIn m from n = map (idOf idBytes (m .names)) (slice from (from + n) (m .line))
 
 -- the slots stand below the queue's memory, and each is taken
 pub record RunBelow (cap : ℕ) (m : Lent) (p : Pending) (from n : ℕ) : Type 0 where

@@ -54,11 +54,11 @@ module _ (w : World) (names marks levels : List ℕ) (times : List ℤ) (names�
   abbrev pub ToldPlaced : Spot → Type 0
   ToldPlaced (At k) = Gained names marks names′ marks′ cap x bits k × Paired w marks levels times levels′ times′ x k
   ToldPlaced (Unread n) = (read w x ≡ fail n) × ((k : ℕ) × Gained names marks names′ marks′ cap x bits k)
-  ToldPlaced NoSlot = Finds false names marks cap x TableFull
+  ToldPlaced NoSlot = Finds idBytes false names marks cap x TableFull
 
 -- what `place` does
 pub record Places (c : Cache) (g s names marks levels : List ℕ) (times : List ℤ) (names′ marks′ levels′ : List ℕ) (times′ : List ℤ) (cap : ℕ) (x : Id) (bits : ℕ) (r : Spot) : Type 0 where
-  pub right : Files c g s → Table false names marks cap → isPainted bits ≡ true → cap ≤ mostSlots
+  pub right : Files c g s → Table idBytes false names marks cap → isPainted bits ≡ true → cap ≤ mostSlots
       → ToldPlaced (worldUnder c g s) names marks levels times names′ marks′ levels′ times′ cap x bits r
 
 -- ---- its slot is queued
@@ -104,4 +104,4 @@ passTo w m x st = cond (lacks m x st) (mark w m x st) (going st)
 
 -- what `is_lacking` says
 pub record LacksMark (names marks : List ℕ) (cap : ℕ) (x : Id) (bits : ℕ) (r : Bool) : Type 0 where
-  pub right : Table false names marks cap → r ≡ lacksBits bits (markFor false names marks cap x)
+  pub right : Table idBytes false names marks cap → r ≡ lacksBits bits (markFor idBytes false names marks cap x)

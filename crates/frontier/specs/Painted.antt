@@ -20,6 +20,7 @@ use Rattle.frontier.specs.declared.marking.Marked.{Marked}
 use Rattle.frontier.specs.declared.marking.Marked.the-variants.{Going, Stop, NoRoom}
 use Rattle.frontier.specs.Paint.{Lent, Files, PaintReads, Named, Ends}
 use Rattle.frontier.specs.Lists.{idsIn}
+use Rattle.hash.specs.Bytes.{idBytes}
 
 -- an answer whose queue may reach down to another place
 abbrev pub loweredTo : ℕ → Marked → Marked
@@ -42,12 +43,12 @@ pub record Ample (w : World) (cap : ℕ) (u waiting hidden : List Id) : Type 0 w
 
 -- the ids of the commits that wait, in order
 abbrev pub waitingIds : Queue → Lent → List Id
-waitingIds q m = map (idOf (m .names)) (slotsOf q (m .times) (m .line))
+waitingIds q m = map (idOf idBytes (m .names)) (slotsOf q (m .times) (m .line))
 
 -- painting may begin: the memory is large enough and has a right table and a right queue, each slot that is taken is a seen one, so is
 -- each that waits, and cap slots are enough
 pub record MayPaint (w : World) (cap : ℕ) (u : List Id) (m : Lent) (q : Queue) (hidden : List Id) : Type 0 where
-  pub table : Table false (m .names) (m .marks) cap
+  pub table : Table idBytes false (m .names) (m .marks) cap
   pub for-levels : cap ≤ length (m .levels)
   pub for-times : cap ≤ length (m .times)
   pub for-line : 5 * cap ≤ length (m .line)

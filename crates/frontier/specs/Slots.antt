@@ -10,6 +10,7 @@ use Rattle.hashtable.specs.declared.table.Slot.the-variants.{Full as TableFull}
 use Rattle.frontier.specs.declared.slots.Added.{Added}
 use Rattle.frontier.specs.declared.slots.Added.the-variants.{New, Known, Full}
 use Rattle.frontier.specs.Bits.{isPainted, withBits}
+use Rattle.hash.specs.Bytes.{idBytes}
 
 -- slot numbers that fit a u32
 abbrev pub mostSlots : ℕ
@@ -17,13 +18,13 @@ mostSlots = 4294967296
 
 -- the id x has gained the marks of `bits` and stands in slot k; all other ids and slots are as they were
 pub record Gained (names marks names′ marks′ : List ℕ) (cap : ℕ) (x : Id) (bits k : ℕ) : Type 0 where
-  pub table : Table false names′ marks′ cap
-  pub holds : Holds false names′ marks′ cap x k
-  pub was : getD marks k 0 ≡ markFor false names marks cap x
-  pub this : markFor false names′ marks′ cap x ≡ withBits bits (markFor false names marks cap x)
-  pub other : (y : Id) → (y ≡ x → ⊥) → markFor false names′ marks′ cap y ≡ markFor false names marks cap y
+  pub table : Table idBytes false names′ marks′ cap
+  pub holds : Holds idBytes false names′ marks′ cap x k
+  pub was : getD marks k 0 ≡ markFor idBytes false names marks cap x
+  pub this : markFor idBytes false names′ marks′ cap x ≡ withBits bits (markFor idBytes false names marks cap x)
+  pub other : (y : Id) → (y ≡ x → ⊥) → markFor idBytes false names′ marks′ cap y ≡ markFor idBytes false names marks cap y
   pub apart : (s : ℕ) → (s ≡ k → ⊥) → getD marks′ s 0 ≡ getD marks s 0
-  pub taken : (s : ℕ) → s < cap → liveAt false marks s ≡ true → idOf names′ s ≡ idOf names s
+  pub taken : (s : ℕ) → s < cap → liveAt false marks s ≡ true → idOf idBytes names′ s ≡ idOf idBytes names s
 
 -- a slot as an answer: known to painting, or new to it
 abbrev pub addedAt : Bool → ℕ → Added
@@ -34,8 +35,8 @@ addedAt false k = New k
 abbrev pub ToldAdded : List ℕ → List ℕ → List ℕ → List ℕ → ℕ → Id → ℕ → Added → Type 0
 ToldAdded names marks names′ marks′ cap x bits (New k) = Gained names marks names′ marks′ cap x bits k × (isPainted (getD marks k 0) ≡ false)
 ToldAdded names marks names′ marks′ cap x bits (Known k) = Gained names marks names′ marks′ cap x bits k × (isPainted (getD marks k 0) ≡ true)
-ToldAdded names marks names′ marks′ cap x bits Full = Finds false names marks cap x TableFull
+ToldAdded names marks names′ marks′ cap x bits Full = Finds idBytes false names marks cap x TableFull
 
 -- what `add_mark` makes of a right table
 pub record AddsMark (names marks names′ marks′ : List ℕ) (cap : ℕ) (x : Id) (bits : ℕ) (r : Added) : Type 0 where
-  pub right : Table false names marks cap → isPainted bits ≡ true → cap ≤ mostSlots → ToldAdded names marks names′ marks′ cap x bits r
+  pub right : Table idBytes false names marks cap → isPainted bits ≡ true → cap ≤ mostSlots → ToldAdded names marks names′ marks′ cap x bits r

@@ -3,6 +3,7 @@ use crate::bits;
 use crate::marking;
 use crate::marking::Marked;
 use commit::Cache;
+use hash::Kind;
 use hashtable::table;
 use hashtable::table::Slot;
 use object::ObjectId;
@@ -25,7 +26,7 @@ ghost use Rattle.frontier.specs.Lists.{TakesAllAfter, MarksRun, PassesAl
 fn id_count(list: &[u8]) -> usize
     ensures { λ r. ⌜ r ≡ length (now (list .entry)) / idBytes ⌝ }
 {
-    list.len() / hash::ID_BYTES
+    hash::ids_in(Kind::Sha1, list.len())
 }
 
 // Gives marks to each id of a list, in order.
@@ -49,7 +50,7 @@ pub fn mark_list(
     let mut r = past;
     let mut i = 0;
     while i < n {
-        let id = hash::id_at(list, hash::ID_BYTES * i);
+        let id = hash::nth(Kind::Sha1, list, i);
         r = marking::mark_next(
             names,
             marks,
@@ -84,9 +85,9 @@ fn slot_after(line: &[u32], from: usize, i: usize) -> u32
 
 // The id in a slot, by value; zeros stand where `names` ends.
 pub fn id_in(names: &[u8], slot: u32) -> ObjectId
-    ensures { λ r. ⌜ r .bytes ≡ padded (idOf (now (names .entry)) slot) ⌝ }
+    ensures { λ r. ⌜ r .bytes ≡ padded (idOf idBytes (now (names .entry)) slot) ⌝ }
 {
-    reading::id_by_value(names, hash::ID_BYTES * (slot as usize))
+    object::id_of(table::id_of(Kind::Sha1, names, slot as usize))
 }
 
 // Gives marks to the commits in the slots line[from..from + n), in order.
@@ -123,7 +124,7 @@ pub fn mark_run(
             graph,
             store,
             r,
-            &id.bytes,
+            object::id_slice(Kind::Sha1, &id.bytes),
             bits,
         );
         i += 1;
@@ -135,7 +136,7 @@ pub fn mark_run(
 fn is_lacking(names: &[u8], marks: &[u8], cap: usize, id: &[u8], bits: u8) -> bool
     ensures { λ r. ⌜ LacksMark (now (names .entry)) (now (marks .entry)) cap (now (id .entry)) bits r ⌝ }
 {
-    let s = table::find_slot(names, marks, cap, false, id);
+    let s = table::find_slot(Kind::Sha1, names, marks, cap, false, id);
     match s {
         Slot::Found(k) => bits::lacks_bits(bits, table::mark_of(marks, k)),
         Slot::Vacant(_) => bits::lacks_bits(bits, 0),
@@ -261,7 +262,7 @@ pub fn pass_to_parents(
             graph,
             store,
             r,
-            &id.bytes,
+            object::id_slice(Kind::Sha1, &id.bytes),
             bits,
         );
         i += 1;

@@ -2,6 +2,7 @@
 use crate::bits;
 use commitgraph::Level;
 use date::Seconds;
+use hash::Kind;
 use hashtable::table;
 use hashtable::table::Slot;
 use walk::GenThenTime;
@@ -50,7 +51,7 @@ pub fn add_mark(names: &mut [u8], marks: &mut [u8], cap: usize, id: &[u8], bits:
     ensures { λ r. ⌜ AddsMark (now (names .entry)) (now (marks .entry)) (now (names .exit)) (now (marks .exit)) cap (now (id .entry)) bits r ⌝ }
 {
     let first = bits::with_bits(bits, 0);
-    let s = table::insert(names, marks, cap, false, id, first);
+    let s = table::insert(Kind::Sha1, names, marks, cap, false, id, first);
     match s {
         Slot::Found(k) => slot_added(raise(marks, k, bits), k),
         Slot::Vacant(k) => slot_added(false, k),

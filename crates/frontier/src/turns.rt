@@ -3,6 +3,7 @@ use crate::bits;
 use crate::lists;
 use crate::marking::Marked;
 use commit::Cache;
+use hash::Kind;
 use hashtable::table;
 use pending::Pending;
 ghost use mathlib.Core.Path.{_≡_};
@@ -30,7 +31,12 @@ pub fn turn(
         let rest = t.pending;
         let given = bits::passed_bits(table::mark_of(marks, slot as usize));
         let id = lists::id_in(names, slot);
-        let commit = reading::read_commit(cache, graph, store, &id.bytes);
+        let commit = reading::read_commit(
+            cache,
+            graph,
+            store,
+            object::id_slice(Kind::Sha1, &id.bytes),
+        );
         lists::pass_to_parents(
             names,
             marks,

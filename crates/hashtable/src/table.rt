@@ -1,10 +1,13 @@
 // The id table: open addressing with linear probing. A slot is empty (mark 0), live, or free to reuse (another mark that is not
 // live). From the home of a live slot's id to the slot no slot is empty, so a search may stop at an empty one.
 use crate::marks::is_live;
+use hash::Kind;
 ghost use mathlib.Core.Path.{_≡_};
 ghost use Prim.Native.Nat.{_+_, _<_};
 ghost use lib.ListN.{getD, set};
-ghost use Rattle.hashtable.specs.Table.{idOf, homeOf, wrap, earlier, Sizes, Decides, Finds, Inserts, cleared};
+ghost use Rattle.hash.specs.Bytes.{widthOf};
+ghost use Rattle.hash.specs.Decides.{Decides};
+ghost use Rattle.hashtable.specs.Table.{idOf, homeOf, wrap, earlier, Sizes, Finds, Inserts, cleared};
 
 pub enum Slot {
     Found(usize),
@@ -13,13 +16,10 @@ pub enum Slot {
 }
 
 // The id in a slot, fewer bytes where names ends.
-pub fn id_of(names: &[u8], slot: usize) -> &[u8]
-    ensures { λ r. ⌜ now r ≡ idOf (now (names .entry)) slot ⌝ }
+pub fn id_of(kind: Kind, names: &[u8], slot: usize) -> &[u8]
+    ensures { λ r. ⌜ now r ≡ idOf (widthOf kind) (now (names .entry)) slot ⌝ }
 {
-    if names.len() / hash::ID_BYTES < slot {
-        return &names[..0];
-    }
-    hash::id_at(names, hash::ID_BYTES * slot)
+    hash::nth(kind, names, slot)
 }
 
 // The mark of a slot, 0 past the end.
@@ -53,19 +53,19 @@ pub fn clear(marks: &mut [u8], cap: usize)
 }
 
 // Whether cap slots fit the two slices, cap is not 0 and the id has its width.
-fn has_sizes(names: &[u8], marks: &[u8], cap: usize, id: &[u8]) -> bool
-    ensures { λ r. ⌜ Decides r (Sizes (now (names .entry)) (now (marks .entry)) cap (now (id .entry))) ⌝ }
+fn has_sizes(kind: Kind, names: &[u8], marks: &[u8], cap: usize, id: &[u8]) -> bool
+    ensures { λ r. ⌜ Decides r (Sizes (widthOf kind) (now (names .entry)) (now (marks .entry)) cap (now (id .entry))) ⌝ }
 {
     if cap == 0 {
         return false;
     }
-    if id.len() != hash::ID_BYTES {
+    if id.len() != hash::width(kind) {
         return false;
     }
     if marks.len() < cap {
         return false;
     }
-    cap <= names.len() / hash::ID_BYTES
+    cap <= hash::ids_in(kind, names.len())
 }
 
 fn wide(x: u32) -> usize
@@ -98,10 +98,17 @@ fn first_of(cap: usize, a: usize, b: usize) -> usize
 }
 
 // The slot that holds the id; else the first slot from the id's home on that is not live; else, or where the sizes are wrong, Full.
-pub fn find_slot(names: &[u8], marks: &[u8], cap: usize, painted: bool, id: &[u8]) -> Slot
-    ensures { λ r. ⌜ Finds painted (now (names .entry)) (now (marks .entry)) cap (now (id .entry)) r ⌝ }
+pub fn find_slot(
+    kind: Kind,
+    names: &[u8],
+    marks: &[u8],
+    cap: usize,
+    painted: bool,
+    id: &[u8],
+) -> Slot
+    ensures { λ r. ⌜ Finds (widthOf kind) painted (now (names .entry)) (now (marks .entry)) cap (now (id .entry)) r ⌝ }
 {
-    if !has_sizes(names, marks, cap, id) {
+    if !has_sizes(kind, names, marks, cap, id) {
         return Slot::Full;
     }
     let h = home(id, cap);
@@ -114,7 +121,7 @@ pub fn find_slot(names: &[u8], marks: &[u8], cap: usize, painted: bool, id: &[u8
             return Slot::Vacant(first_of(cap, spare, k));
         }
         if is_live(painted, m) {
-            if hash::same_id(id_of(names, k), id) {
+            if hash::same_id(kind, id_of(kind, names, k), id) {
                 return Slot::Found(k);
             }
         } else {
@@ -131,6 +138,7 @@ pub fn find_slot(names: &[u8], marks: &[u8], cap: usize, painted: bool, id: &[u8
 // Puts an id with a mark into the table, where it is not there and there is room: Found says that it was there, and Vacant that
 // it is new, and stands in the slot that was vacant.
 pub fn insert(
+    kind: Kind,
     names: &mut [u8],
     marks: &mut [u8],
     cap: usize,
@@ -138,14 +146,14 @@ pub fn insert(
     id: &[u8],
     mark: u8,
 ) -> Slot
-    ensures { λ r. ⌜ Inserts painted (now (names .entry)) (now (marks .entry)) (now (names .exit)) (now (marks .exit)) cap (now (id .entry)) mark r ⌝ }
+    ensures { λ r. ⌜ Inserts (widthOf kind) painted (now (names .entry)) (now (marks .entry)) (now (names .exit)) (now (marks .exit)) cap (now (id .entry)) mark r ⌝ }
 {
-    let r = find_slot(names, marks, cap, painted, id);
+    let r = find_slot(kind, names, marks, cap, painted, id);
     match r {
         Slot::Found(k) => Slot::Found(k),
         Slot::Full => Slot::Full,
         Slot::Vacant(k) => {
-            hash::set_down(names, hash::ID_BYTES * k, id);
+            hash::set_nth(kind, names, k, id);
             marks[k] = mark;
             Slot::Vacant(k)
         }

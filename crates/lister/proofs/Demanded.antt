@@ -32,8 +32,8 @@ use Rattle.lister.proofs.Whole.{list-wide, list-once, list-within, ends
 
 reads-as : (list : List Id) (ids ids′ : List ℕ) → Wide list → ids′ ≡ setDown ids 0 (joined (take (length ids / idBytes) list)) → ReadsAs list ids ids′
 reads-as list ids ids′ w e = record {
-  front = λ k h g. ap (idsOf k) e ∙ read-back ids list k w h g;
-  whole = λ g. ap (idsOf (length list)) e ∙ read-back ids list (length list) w (omega arith) g ∙ take-all (length list) list (omega arith);
+  front = λ k h g. ap (idsOf idBytes k) e ∙ read-back ids list k w h g;
+  whole = λ g. ap (idsOf idBytes (length list)) e ∙ read-back ids list (length list) w (omega arith) g ∙ take-all (length list) list (omega arith);
   past = λ g. ap (drop (idBytes * length list)) e ∙ kept-past ids list (length list) w refl g;
 }
 

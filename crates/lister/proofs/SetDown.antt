@@ -97,25 +97,25 @@ put-down-all b n (x ∷ l) w =
 
 -- ---- read back
 
-ids-read : (k : ℕ) (l : List Id) (r : List ℕ) → Wide l → k ≤ length l → idsOf k (joined l ++ r) ≡ take k l
+ids-read : (k : ℕ) (l : List Id) (r : List ℕ) → Wide l → k ≤ length l → idsOf idBytes k (joined l ++ r) ≡ take k l
 unfolding idsOf joined
 ids-read zero l r w h = refl
 ids-read (suc k) [] r w h = absurd (omega (arith, h))
 ids-read (suc k) (x ∷ l) r w h =
     let e : (x ++ joined l) ++ r ≡ x ++ (joined l ++ r) = append-assoc x (joined l) r in
-    ap (λ (b : List ℕ). take idBytes b ∷ idsOf k (drop idBytes b)) e
-    ∙ ap (λ (y : Id). y ∷ idsOf k (drop idBytes (x ++ (joined l ++ r)))) (take-at x (joined l ++ r) idBytes (wide-head x l w))
-    ∙ ap (λ (b : List ℕ). x ∷ idsOf k b) (drop-at x (joined l ++ r) idBytes (wide-head x l w))
+    ap (λ (b : List ℕ). take idBytes b ∷ idsOf idBytes k (drop idBytes b)) e
+    ∙ ap (λ (y : Id). y ∷ idsOf idBytes k (drop idBytes (x ++ (joined l ++ r)))) (take-at x (joined l ++ r) idBytes (wide-head x l w))
+    ∙ ap (λ (b : List ℕ). x ∷ idsOf idBytes k b) (drop-at x (joined l ++ r) idBytes (wide-head x l w))
     ∙ ap (λ (t : List Id). x ∷ t) (ids-read k l r (wide-tail x l w) (omega (arith, h)))
 
 -- the first k of the ids set down from the start, where there is room for k
-pub read-back : (b : List ℕ) (l : List Id) (k : ℕ) → Wide l → k ≤ length l → idBytes * k ≤ length b → idsOf k (setDown b 0 (joined (take (length b / idBytes) l))) ≡ take k l
+pub read-back : (b : List ℕ) (l : List Id) (k : ℕ) → Wide l → k ≤ length l → idBytes * k ≤ length b → idsOf idBytes k (setDown b 0 (joined (take (length b / idBytes) l))) ≡ take k l
 read-back b l k w h g =
     let q : ℕ = length b / idBytes in
     let t : List Id = take q l in
     let n : length (joined t) ≡ idBytes * length t = length-joined t (wide-take q l w) in
     let m = length-take q l in
-    ap (idsOf k) (setDown-fits b 0 (joined t) (omega (arith, n, m)))
+    ap (idsOf idBytes k) (setDown-fits b 0 (joined t) (omega (arith, n, m)))
     ∙ ids-read k t (drop (0 + length (joined t)) b) (wide-take q l w) (omega (arith, g, h, m))
     ∙ take-take k q l (omega (arith, g))
 

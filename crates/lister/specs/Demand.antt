@@ -24,9 +24,9 @@ use Rattle.lister.specs.Says.{ListSays}
 -- a list of ids read from the caller's buffer, which was ids and is ids′
 pub record ReadsAs (list : List Id) (ids ids′ : List ℕ) : Type 0 where
   -- the first k ids, where there is room for k
-  pub front : (k : ℕ) → k ≤ length list → idBytes * k ≤ length ids → idsOf k ids′ ≡ take k list
+  pub front : (k : ℕ) → k ≤ length list → idBytes * k ≤ length ids → idsOf idBytes k ids′ ≡ take k list
   -- where there is room for all: the whole list, and past it every byte as it was
-  pub whole : idBytes * length list ≤ length ids → idsOf (length list) ids′ ≡ list
+  pub whole : idBytes * length list ≤ length ids → idsOf idBytes (length list) ids′ ≡ list
   pub past : idBytes * length list ≤ length ids → drop (idBytes * length list) ids′ ≡ drop (idBytes * length list) ids
 
 -- under the premises

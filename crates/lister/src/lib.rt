@@ -1,5 +1,6 @@
 // A whole walk at once: it is opened and called to its end, and the ids of the commits are set down, in order, in a buffer of the caller's.
 // A walk call by call is in crate `traverse`.
+use hash::Kind;
 use state::Record;
 use traverse::Opened;
 use traverse::Out;
@@ -144,7 +145,7 @@ fn set_down_commit(ids: &mut [u8], n: usize, answer: Answer)
 {
     let outcome = answer.outcome;
     match outcome {
-        Outcome::Commit => hash::set_down(ids, hash::ID_BYTES * n, &answer.id),
+        Outcome::Commit => hash::set_nth(Kind::Sha1, ids, n, &answer.id),
         Outcome::End => {}
         Outcome::Refused(_) => {}
     }

@@ -3,15 +3,17 @@ mod id;
 pub mod person;
 
 use date::Seconds;
+use hash::Kind;
 pub use id::id_of;
+pub use id::id_slice;
 ghost use mathlib.Core.Path.{_≡_};
 ghost use mathlib.Core.Bool.{true};
 ghost use mathlib.Core.Option.{none};
-ghost use Prim.Native.Nat.{_+_, _/_, _≤_, _<_};
+ghost use Prim.Native.Nat.{_+_, _*_, _/_, _≤_, _<_};
 ghost use lib.Dec.{eqb};
 ghost use lib.ListN.{length, drop};
-ghost use Rattle.hash.specs.Bytes.{idBytes};
-ghost use Rattle.object.specs.Header.{isSome, strip, hexVal, hexBytes, idLine, parentLines, most, authorLine, afterAuthor, secondsOf, header};
+ghost use Rattle.hash.specs.Bytes.{widthOf};
+ghost use Rattle.object.specs.Header.{treeSize, parentSize, isSome, strip, hexVal, hexBytes, idLine, parentLines, most, authorLine, afterAuthor, secondsOf, header};
 ghost use Rattle.object.specs.Read.{idRead, treeAt, parentAt, afterParents, secondsRead, readingOf};
 
 // A line that was read: the place after its newline.
@@ -26,9 +28,9 @@ pub enum SecondsRead {
     Bad,
 }
 
-// An object id by value.
+// An object id by value, of either kind: zeros stand after it.
 pub struct ObjectId {
-    pub bytes: [u8; 20],
+    pub bytes: [u8; 32],
 }
 
 // A parent line that was read; with no good line the id is all zeros.
@@ -45,13 +47,24 @@ pub enum Reading {
 }
 
 // The length of a tree line, newline included.
-const TREE_LINE: usize = 46;
+fn tree_size(kind: Kind) -> usize
+    ensures { λ r. ⌜ (r ≡ treeSize (widthOf kind)) × (r ≤ 70) ⌝ }
+{
+    match kind {
+        Kind::Sha1 => 46,
+        Kind::Sha256 => 70,
+    }
+}
 
 // The length of a parent line, newline included.
-const PARENT_LINE: usize = 48;
-
-// The length of 40 digits and their newline.
-const DIGITS_LINE: usize = 41;
+pub fn parent_size(kind: Kind) -> usize
+    ensures { λ r. ⌜ (r ≡ parentSize (widthOf kind)) × (r ≤ 72) ⌝ }
+{
+    match kind {
+        Kind::Sha1 => 48,
+        Kind::Sha256 => 72,
+    }
+}
 
 // The most parents of a readable commit.
 const MOST_PARENTS: usize = 256;
@@ -90,19 +103,31 @@ fn hex_value(x: u8) -> u8
     if x <= 57 { x - 48 } else { x - 87 }
 }
 
-// How many of the 40 bytes at a place are no hexadecimal digit in lower case. It looks at all of them even after a wrong one: a loop with no
+// How many of the 2 w bytes at a place are no hexadecimal digit in lower case. It looks at all of them even after a wrong one: a loop with no
 // early exit is compiled to instructions that test many bytes at once, and in a store hardly any digit is wrong.
-fn wrong_digits(body: &[u8], at: usize) -> u8
-    requires { ⌜ at + 40 ≤ length (now body) ⌝ }
-    ensures { λ r. ⌜ eqb r 0 ≡ isSome (hexBytes idBytes (drop at (now (body .entry)))) ⌝ }
+fn wrong_in(w: usize, body: &[u8], at: usize) -> u8
+    requires { ⌜ at + 2 * w ≤ length (now body) ⌝ }
+    requires { ⌜ w ≤ 32 ⌝ }
+    ensures { λ r. ⌜ eqb r 0 ≡ isSome (hexBytes w (drop at (now (body .entry)))) ⌝ }
 {
     let mut wrong: u8 = 0;
     let mut i = 0;
-    while i < 40 {
+    while i < 2 * w {
         wrong += wrong_digit(body[at + i]);
         i += 1;
     }
     wrong
+}
+
+// The same for the digits of an id: each kind has a loop of its own, whose number of turns is known.
+fn wrong_digits(kind: Kind, body: &[u8], at: usize) -> u8
+    requires { ⌜ at + 2 * widthOf kind ≤ length (now body) ⌝ }
+    ensures { λ r. ⌜ eqb r 0 ≡ isSome (hexBytes (widthOf kind) (drop at (now (body .entry)))) ⌝ }
+{
+    match kind {
+        Kind::Sha1 => wrong_in(20, body, at),
+        Kind::Sha256 => wrong_in(32, body, at),
+    }
 }
 
 // The answer where no good line stands.
@@ -111,19 +136,20 @@ fn no_id() -> ParentLine
 {
     ParentLine {
         good: false,
-        id: ObjectId { bytes: [0u8; 20] },
+        id: ObjectId { bytes: [0u8; 32] },
     }
 }
 
-// The id in 40 digits at a place, none of them wrong. (So it tests none, and has no early exit either.)
-fn decoded(body: &[u8], at: usize) -> ParentLine
-    requires { ⌜ at + 40 ≤ length (now body) ⌝ }
-    requires { ⌜ isSome (hexBytes idBytes (drop at (now body))) ≡ true ⌝ }
-    ensures { λ r. ⌜ r ≡ idRead (hexBytes idBytes (drop at (now (body .entry)))) ⌝ }
+// The id in 2 w digits at a place, none of them wrong. (So it tests none, and has no early exit either.)
+fn decode(w: usize, body: &[u8], at: usize) -> ParentLine
+    requires { ⌜ at + 2 * w ≤ length (now body) ⌝ }
+    requires { ⌜ isSome (hexBytes w (drop at (now body))) ≡ true ⌝ }
+    requires { ⌜ w ≤ 32 ⌝ }
+    ensures { λ r. ⌜ r ≡ idRead (hexBytes w (drop at (now (body .entry)))) ⌝ }
 {
-    let mut bytes = [0u8; 20];
+    let mut bytes = [0u8; 32];
     let mut i = 0;
-    while i < 20 {
+    while i < w {
         bytes[i] = hex_value(body[at + 2 * i]) * 16 + hex_value(body[at + 2 * i + 1]);
         i += 1;
     }
@@ -133,9 +159,20 @@ fn decoded(body: &[u8], at: usize) -> ParentLine
     }
 }
 
+fn decoded(kind: Kind, body: &[u8], at: usize) -> ParentLine
+    requires { ⌜ at + 2 * widthOf kind ≤ length (now body) ⌝ }
+    requires { ⌜ isSome (hexBytes (widthOf kind) (drop at (now body))) ≡ true ⌝ }
+    ensures { λ r. ⌜ r ≡ idRead (hexBytes (widthOf kind) (drop at (now (body .entry)))) ⌝ }
+{
+    match kind {
+        Kind::Sha1 => decode(20, body, at),
+        Kind::Sha256 => decode(32, body, at),
+    }
+}
+
 // Whether a line with a word, an id and a newline stands at a place.
-fn is_id_line(body: &[u8], at: usize, word: &[u8]) -> bool
-    ensures { λ r. ⌜ r ≡ isSome (idLine (now (word .entry)) (drop at (now (body .entry)))) ⌝ }
+fn is_id_line(kind: Kind, body: &[u8], at: usize, word: &[u8]) -> bool
+    ensures { λ r. ⌜ r ≡ isSome (idLine (widthOf kind) (now (word .entry)) (drop at (now (body .entry)))) ⌝ }
 {
     if body.len() < at {
         return false;
@@ -144,79 +181,82 @@ fn is_id_line(body: &[u8], at: usize, word: &[u8]) -> bool
         return false;
     }
     let digits = at + word.len();
-    if body.len() - digits < DIGITS_LINE {
+    let n = 2 * hash::width(kind);
+    if body.len() - digits <= n {
         return false;
     }
-    if body[digits + 40] != 10 {
+    if body[digits + n] != 10 {
         return false;
     }
     if !starts_with(body, at, word) {
         return false;
     }
-    wrong_digits(body, digits) == 0
+    wrong_digits(kind, body, digits) == 0
 }
 
 // The line with a word, an id and a newline at a place.
-fn id_line(body: &[u8], at: usize, word: &[u8]) -> ParentLine
-    ensures { λ r. ⌜ r ≡ idRead (idLine (now (word .entry)) (drop at (now (body .entry)))) ⌝ }
+fn id_line(kind: Kind, body: &[u8], at: usize, word: &[u8]) -> ParentLine
+    ensures { λ r. ⌜ r ≡ idRead (idLine (widthOf kind) (now (word .entry)) (drop at (now (body .entry)))) ⌝ }
 {
-    if is_id_line(body, at, word) {
-        decoded(body, at + word.len())
+    if is_id_line(kind, body, at, word) {
+        decoded(kind, body, at + word.len())
     } else {
         no_id()
     }
 }
 
 // The tree line at a place.
-pub fn tree_line(body: &[u8], at: usize) -> Line
-    ensures { λ r. ⌜ r ≡ treeAt (now (body .entry)) at ⌝ }
+pub fn tree_line(kind: Kind, body: &[u8], at: usize) -> Line
+    ensures { λ r. ⌜ r ≡ treeAt (widthOf kind) (now (body .entry)) at ⌝ }
 {
-    if is_id_line(body, at, b"tree ") {
-        Line::Good(at + TREE_LINE)
+    if is_id_line(kind, body, at, b"tree ") {
+        Line::Good(at + tree_size(kind))
     } else {
         Line::Bad
     }
 }
 
 // The parent line at a place.
-pub fn parent_line(body: &[u8], at: usize) -> ParentLine
-    ensures { λ r. ⌜ r ≡ parentAt (now (body .entry)) at ⌝ }
+pub fn parent_line(kind: Kind, body: &[u8], at: usize) -> ParentLine
+    ensures { λ r. ⌜ r ≡ parentAt (widthOf kind) (now (body .entry)) at ⌝ }
 {
-    id_line(body, at, b"parent ")
+    id_line(kind, body, at, b"parent ")
 }
 
 // Whether a good parent line stands at a place: its digits are tested, and no id is made of them.
-pub fn is_parent_line(body: &[u8], at: usize) -> bool
-    ensures { λ r. ⌜ r ≡ parentAt (now (body .entry)) at .good ⌝ }
+pub fn is_parent_line(kind: Kind, body: &[u8], at: usize) -> bool
+    ensures { λ r. ⌜ r ≡ parentAt (widthOf kind) (now (body .entry)) at .good ⌝ }
 {
-    is_id_line(body, at, b"parent ")
+    is_id_line(kind, body, at, b"parent ")
 }
 
 // The place after the parent lines at a place, uncounted.
-pub fn after_parents(body: &[u8], at: usize) -> usize
-    ensures { λ r. ⌜ r ≡ afterParents (now (body .entry)) at ⌝ }
+pub fn after_parents(kind: Kind, body: &[u8], at: usize) -> usize
+    ensures { λ r. ⌜ r ≡ afterParents (widthOf kind) (now (body .entry)) at ⌝ }
 {
+    let size = parent_size(kind);
     let mut p = at;
     while p < body.len() {
-        if !is_parent_line(body, p) {
+        if !is_parent_line(kind, body, p) {
             return p;
         }
-        p += PARENT_LINE;
+        p += size;
     }
     p
 }
 
 // The number of parent lines at a place, counted up to 256.
-pub fn count_parents(body: &[u8], at: usize) -> usize
-    ensures { λ r. ⌜ r ≡ length (parentLines most (drop at (now (body .entry))) .ids) ⌝ }
+pub fn count_parents(kind: Kind, body: &[u8], at: usize) -> usize
+    ensures { λ r. ⌜ r ≡ length (parentLines (widthOf kind) most (drop at (now (body .entry))) .ids) ⌝ }
 {
+    let size = parent_size(kind);
     let mut n = 0;
     let mut p = at;
     while n < MOST_PARENTS {
-        if !is_parent_line(body, p) {
+        if !is_parent_line(kind, body, p) {
             return n;
         }
-        p += PARENT_LINE;
+        p += size;
         n += 1;
     }
     n
@@ -233,15 +273,15 @@ fn person_lines(body: &[u8], at: usize) -> SecondsRead
 }
 
 // A whole header: of a bad line and a good 257th parent line the earlier decides.
-pub fn readable(body: &[u8]) -> Reading
-    ensures { λ r. ⌜ r ≡ readingOf (header (now (body .entry))) ⌝ }
+pub fn readable(kind: Kind, body: &[u8]) -> Reading
+    ensures { λ r. ⌜ r ≡ readingOf (header (widthOf kind) (now (body .entry))) ⌝ }
 {
-    let Line::Good(at) = tree_line(body, 0) else {
+    let Line::Good(at) = tree_line(kind, body, 0) else {
         return Reading::Bad;
     };
-    let n = count_parents(body, at);
-    let p = at + PARENT_LINE * n;
-    if is_parent_line(body, p) {
+    let n = count_parents(kind, body, at);
+    let p = at + parent_size(kind) * n;
+    if is_parent_line(kind, body, p) {
         return Reading::Crowded;
     }
     match person_lines(body, p) {
@@ -254,11 +294,11 @@ pub fn readable(body: &[u8]) -> Reading
 }
 
 // The seconds alone: parents are not counted.
-pub fn seconds_only(body: &[u8]) -> SecondsRead
-    ensures { λ r. ⌜ r ≡ secondsRead (secondsOf (now (body .entry))) ⌝ }
+pub fn seconds_only(kind: Kind, body: &[u8]) -> SecondsRead
+    ensures { λ r. ⌜ r ≡ secondsRead (secondsOf (widthOf kind) (now (body .entry))) ⌝ }
 {
-    let Line::Good(at) = tree_line(body, 0) else {
+    let Line::Good(at) = tree_line(kind, body, 0) else {
         return SecondsRead::Bad;
     };
-    person_lines(body, after_parents(body, at))
+    person_lines(body, after_parents(kind, body, at))
 }

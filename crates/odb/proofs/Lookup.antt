@@ -1,6 +1,6 @@
--- What `locate` and `try_find` answer. A search among the standing entries gives, on a good store, the entry of the definition, and its body is
--- a part of the file; on any bytes an answer is kept only where it is such a part. Assumes nothing.
-use mathlib.Core.Path.{_≡_, refl, sym, _∙_}
+-- What `locate` and `try_find` answer. A search among the standing entries finds one under the id, and where their ids rise it misses none; in a
+-- good store these are all entries, and the body of each is a part of the file. An answer is kept only where it is such a part. Assumes nothing.
+use mathlib.Core.Path.{_≡_, refl, sym, _∙_, ap}
 use Prim.Native.Nat.{ℕ, _+_, _-_, _*_, _≤_, _<_}
 use mathlib.Core.Bool.{true, false}
 use mathlib.Core.Option.{Option, none, some}
@@ -11,17 +11,16 @@ use lib.Dec.{leb}
 use borrow.Author.Tests.{leb-true, le-leb, lt-leb}
 use Rattle.hash.specs.Bytes.{Id, at, ifSome}
 use Rattle.hash.proofs.Tests.{byCases, clash, and-both, and-of}
-use Rattle.idlist.specs.IdList.{IdList, Finds, foundOf}
+use Rattle.idlist.specs.IdList.{IdList, findIn, Finds, foundOf}
 use Rattle.idlist.specs.declared.Found.{Found}
 use Rattle.idlist.specs.declared.Found.the-variants.{At, Absent as Missed}
-use Rattle.idlist.proofs.Answer.{found-all}
-use Rattle.odb.specs.Store.{start, entries, entryIds, bodyStart, bodyEnd, body, standingEntries, storeOk, findEntry, storeFind}
-use Rattle.odb.specs.Lookup.{isPart, partAt, locatedOf, partOf, isBody, Locates, optionOf, TriesFind}
+use Rattle.idlist.proofs.Answer.{none-found, other-width, found-all}
+use Rattle.odb.specs.Store.{entrySize, start, entries, entryIds, bodyStart, bodyEnd, body, standing, standingEntries, storeOk, findEntry, storeFind}
+use Rattle.odb.specs.Lookup.{isPart, partAt, locatedOf, partOf, isBody, idsRise, lookedUp, Under, Locates, optionOf, TriesFind}
 use Rattle.odb.specs.declared.Located.{Located}
 use Rattle.odb.specs.declared.Located.the-variants.{Body, Absent}
-use Rattle.odb.proofs.Store.{good, good-count, counted-within}
+use Rattle.odb.proofs.Store.{good, good-count, broken-count, counted-within, standing-stand}
 use Rattle.odb.proofs.Bodies.{start-end, end-within}
-use Rattle.odb.proofs.Entries.{entry-hit, other-width, entries-stand}
 
 pub part-yes : (b : List ℕ) (s e : ℕ) → s ≤ e → e ≤ length b → isPart b s e ≡ true
 unfolding isPart
@@ -45,16 +44,15 @@ pub partAt-yes : (b : List ℕ) (s e : ℕ) → s ≤ e → e ≤ length b → p
 unfolding partAt
 partAt-yes b s e h k = rw (part-yes b s e h k)
 
-pub partAt-inside : (b : List ℕ) (s e s′ e′ : ℕ) → partAt b s e ≡ Body s′ e′ → (s′ ≤ e′) × (e′ ≤ length b)
+-- an answer that names a part names this one, which is a part of the file
+pub partAt-is : (b : List ℕ) (s e s′ e′ : ℕ) → partAt b s e ≡ Body s′ e′ → (s′ ≡ s) × (e′ ≡ e) × (s ≤ e) × (e ≤ length b)
 unfolding partAt
-partAt-inside b s e s′ e′ q =
+partAt-is b s e s′ e′ q =
     byCases (isPart b s e)
     (λ h.
     let t = part-true b s e h in
     let p : Body s e ≡ Body s′ e′ = rw h at q in
-    let i : s ≡ s′ = cc in
-    let j : e ≡ e′ = cc in
-    (omega arith, omega arith))
+    (cc, cc, t .0, t .1))
     (λ h. let p : Absent ≡ Body s′ e′ = rw h at q in let z : _≡_ {A = ℕ} 0 1 = cc in absurd (omega arith))
 
 pub partAt-no : (b : List ℕ) (s e : ℕ) → isPart b s e ≡ false → Absent ≡ partAt b s e
@@ -72,21 +70,41 @@ partOf-no b s e h = rw h
 
 -- ---- `locate`
 
--- no entry is found: on a good store only if none is there
-pub locates-none : (b : List ℕ) (x : Id) → (storeOk b ≡ true → findEntry b x ≡ none) → Locates b x Absent
-locates-none b x f = record {
-  good = λ ok. rw (f ok);
-  inside = λ s e p. let z : _≡_ {A = ℕ} 0 1 = cc in absurd (omega arith);
-}
+module _ (w : ℕ) (b : List ℕ) (x : Id) where
+  -- in a good store the standing entries are all, and their ids rise
+  good-rises : storeOk w b ≡ true → idsRise w b ≡ true
+  good-rises ok = rw (good-count w b ok) (good w b ok .rises)
 
--- entry k is found
-pub locates-entry : (b : List ℕ) (x : Id) (k : ℕ) → (storeOk b ≡ true → findEntry b x ≡ some k) → Locates b x (partAt b (bodyStart b k) (bodyEnd b k))
-locates-entry b x k f = record {
-  good = λ ok.
-      let h = entry-hit b x k (f ok) .0 in
-      rw (f ok) (partAt-yes b (bodyStart b k) (bodyEnd b k) (start-end b ok k h) (end-within b ok k h));
-  inside = partAt-inside b (bodyStart b k) (bodyEnd b k);
-}
+  good-found : storeOk w b ≡ true → findIn (entryIds w b) x (standingEntries w b) ≡ findEntry w b x
+  unfolding findEntry
+  good-found ok = rw (good-count w b ok)
+
+  -- no entry is found: where the ids rise, only if none is there
+  pub locates-none : (idsRise w b ≡ true → findIn (entryIds w b) x (standingEntries w b) ≡ none) → Locates w b x Absent
+  unfolding lookedUp
+  locates-none f = record {
+    good = λ ok. rw (sym (good-found ok) ∙ f (good-rises ok));
+    rises = λ p. rw (f p);
+    inside = λ s e p. let z : _≡_ {A = ℕ} 0 1 = cc in absurd (omega arith);
+    hit = λ s e p. let z : _≡_ {A = ℕ} 0 1 = cc in absurd (omega arith);
+    torn = λ _. refl;
+    foreign = λ _. refl;
+  }
+
+  -- entry k is found
+  pub locates-entry : (k : ℕ) → Under w b x k → length x ≡ w → (idsRise w b ≡ true → findIn (entryIds w b) x (standingEntries w b) ≡ some k)
+      → Locates w b x (partAt b (bodyStart w b k) (bodyEnd w b k))
+  unfolding lookedUp
+  locates-entry k u q f = record {
+    good = λ ok.
+        let h : k < entries b = omega (arith, u .stands, good-count w b ok) in
+        rw (sym (good-found ok) ∙ f (good-rises ok)) (partAt-yes b (bodyStart w b k) (bodyEnd w b k) (start-end w b ok k h) (end-within w b ok k h));
+    rises = λ p. rw (f p);
+    inside = λ s e p. let t = partAt-is b (bodyStart w b k) (bodyEnd w b k) s e p in (omega arith, omega arith);
+    hit = λ s e p. let t = partAt-is b (bodyStart w b k) (bodyEnd w b k) s e p in (k, u, t .0, t .1);
+    torn = λ t. absurd (omega (arith, u .stands, broken-count w b t));
+    foreign = λ n. absurd (n q);
+  }
 
 found-some : (o : Option ℕ) (k : ℕ) → At k ≡ foundOf o → o ≡ some k
 found-some none k e = let z : _≡_ {A = ℕ} 0 1 = cc in absurd (omega arith)
@@ -97,61 +115,84 @@ found-none none e = refl
 found-none (some j) e = let z : _≡_ {A = ℕ} 0 1 = cc in absurd (omega arith)
 
 -- what the answer of a search among the entries says of the id x: an entry that it gives stands in the file, and its body is that of x
-pub record Says (b : List ℕ) (x : Id) (base : ℕ) (r : Found) : Type 0 where
-  pub inside : (k : ℕ) → r ≡ At k → (base ≡ start b) × (base + 24 * k + 24 ≤ length b)
-  pub found : (k : ℕ) → r ≡ At k → Locates b x (partAt b (bodyStart b k) (bodyEnd b k))
-  pub missed : r ≡ Missed → Locates b x Absent
+pub record Says (w : ℕ) (b : List ℕ) (x : Id) (base : ℕ) (r : Found) : Type 0 where
+  pub inside : (k : ℕ) → r ≡ At k → (base ≡ start b) × (base + entrySize w * k + entrySize w ≤ length b)
+  pub found : (k : ℕ) → r ≡ At k → Locates w b x (partAt b (bodyStart w b k) (bodyEnd w b k))
+  pub missed : r ≡ Missed → Locates w b x Absent
 
-pub search-says : (b : List ℕ) (x : Id) (base n : ℕ) {r : Found} → base ≡ start b → n ≡ standingEntries b → length x ≡ 20
-    → Finds (record { bytes = b; width = length x; base = base; stride = 24 }) 0 n x r → Says b x base r
-unfolding findEntry entryIds
-search-says b x base n {r = r} eb en w f = record {
+-- among the standing entries, a search of ids that rise answers with the first under x
+search-found : (w : ℕ) (b : List ℕ) (x : Id) {r : Found} → Finds (entryIds w b) 0 (standingEntries w b) x r → idsRise w b ≡ true → r ≡ foundOf (findIn (entryIds w b) x (standingEntries w b))
+unfolding findIn
+search-found w b x {r} f p = byCases (standing w b) (λ t. found-all f (standing-stand w b t) p) (λ t. nothing t r f)
+  where
+    nothing : standing w b ≡ false → (q : Found) → Finds (entryIds w b) 0 (standingEntries w b) x q → q ≡ foundOf (findIn (entryIds w b) x (standingEntries w b))
+    nothing t (At k) g = absurd (omega (arith, g .hit k refl .1, broken-count w b t))
+    nothing t Missed g = rw (broken-count w b t)
+
+pub search-says : (w : ℕ) (b : List ℕ) (x : Id) (base n : ℕ) {r : Found} → base ≡ start b → n ≡ standingEntries w b → length x ≡ w
+    → Finds (record { bytes = b; width = length x; base = base; stride = entrySize w }) 0 n x r → Says w b x base r
+unfolding entryIds
+search-says w b x base n {r = r} eb en q f = record {
   inside = λ k e.
-      let h : k < standingEntries b = omega (arith, f .hit k e .1, en) in
-      (eb, omega (arith, counted-within b k h, eb));
-  found = λ k e. locates-entry b x k (λ ok. found-some (findEntry b x) k (sym e ∙ entry ok));
-  missed = λ e. locates-none b x (λ ok. found-none (findEntry b x) (sym e ∙ entry ok));
+      let h : k < standingEntries w b = omega (arith, f .hit k e .1, en) in
+      (eb, omega (arith, counted-within w b k h, eb));
+  found = λ k e.
+      let t = g .hit k e in
+      locates-entry w b x k (record { stands = t .1; is = t .2 }) q (λ p. found-some (findIn (entryIds w b) x (standingEntries w b)) k (sym e ∙ search-found w b x g p));
+  missed = λ e. locates-none w b x (λ p. found-none (findIn (entryIds w b) x (standingEntries w b)) (sym e ∙ search-found w b x g p));
 }
   where
-    same : _≡_ {A = IdList} (record { bytes = b; width = length x; base = base; stride = 24 }) (entryIds b)
-    same = λ i. record { bytes = b; width = w i; base = eb i; stride = 24 }
+    same : _≡_ {A = IdList} (record { bytes = b; width = length x; base = base; stride = entrySize w }) (entryIds w b)
+    same = λ i. record { bytes = b; width = q i; base = eb i; stride = entrySize w }
 
-    entry : storeOk b ≡ true → r ≡ foundOf (findEntry b x)
-    entry ok =
-        let m : n ≡ entries b = en ∙ good-count b ok in
-        let g : Finds (entryIds b) 0 (entries b) x r = rw (same, m) at f in
-        found-all g (entries-stand b ok) (good b ok .rises)
+    g : Finds (entryIds w b) 0 (standingEntries w b) x r
+    g = rw (same, en) at f
 
 -- an id of another width
-pub odd-width : (b : List ℕ) (x : Id) → (length x ≡ 20 → ⊥) → Locates b x Absent
-odd-width b x n = locates-none b x (λ ok. other-width b ok x n)
+pub odd-width : (w : ℕ) (b : List ℕ) (x : Id) → (length x ≡ w → ⊥) → Locates w b x Absent
+unfolding entryIds
+odd-width w b x n = locates-none w b x (λ p. byCases (standing w b) there (λ t. none-found (entryIds w b) x (standingEntries w b) (λ k h q. omega (arith, broken-count w b t))))
+  where
+    there : standing w b ≡ true → findIn (entryIds w b) x (standingEntries w b) ≡ none
+    there t = other-width (entryIds w b) x (standingEntries w b) (standing-stand w b t) n
 
 -- ---- `try_find`
 
-pub tries-find : (b : List ℕ) (x : Id) (r : Located) → Locates b x r → TriesFind b x (isBody r) (partOf b r)
+pub tries-find : (w : ℕ) (b : List ℕ) (x : Id) (r : Located) → Locates w b x r → TriesFind w b x (isBody r) (partOf b r)
 unfolding partOf storeFind body at
-tries-find b x (Body s e) f =
+tries-find w b x (Body s e) f =
     let i = f .inside s e refl in
     let p : isPart b s e ≡ true = part-yes b s e (i .0) (i .1) in
     record {
-      good = λ ok. rw p (there (findEntry b x) (f .good ok));
+      good = λ ok. rw p (there (findEntry w b x) (f .good ok));
+      rises = λ q. (ap isBody (f .rises q), ap (partOf b) (f .rises q));
       part = rw p (s, e - s, refl);
       absent = λ q. clash refl q;
+      hit = λ _. let t = f .hit s e refl in (t .0, t .1, rw p (whose (t .0) (t .2) (t .3)));
+      torn = λ q. (ap isBody (f .torn q), ap (partOf b) (f .torn q));
+      foreign = λ q. (ap isBody (f .foreign q), ap (partOf b) (f .foreign q));
     }
   where
-    there : (o : Option ℕ) → Body s e ≡ locatedOf b o → some (at b s (e - s)) ≡ ifSome o none (λ k. some (body b k))
+    whose : (k : ℕ) → s ≡ bodyStart w b k → e ≡ bodyEnd w b k → at b s (e - s) ≡ body w b k
+    whose k u v = λ i. at b (u i) (v i - u i)
+
+    there : (o : Option ℕ) → Body s e ≡ locatedOf w b o → some (at b s (e - s)) ≡ ifSome o none (λ k. some (body w b k))
     there none q = let z : _≡_ {A = ℕ} 0 1 = cc in absurd (omega arith)
     there (some k) q =
-        let u : s ≡ bodyStart b k = cc in
-        let v : e ≡ bodyEnd b k = cc in
-        rw (u, v)
-tries-find b x Absent f = record {
-  good = λ ok. gone (findEntry b x) (f .good ok);
+        let u : s ≡ bodyStart w b k = cc in
+        let v : e ≡ bodyEnd w b k = cc in
+        ap some (whose k u v)
+tries-find w b x Absent f = record {
+  good = λ ok. gone (findEntry w b x) (f .good ok);
+  rises = λ q. (ap isBody (f .rises q), ap (partOf b) (f .rises q));
   part = (0, 0, sym (at-none b));
   absent = λ q. refl;
+  hit = λ q. clash q refl;
+  torn = λ _. (refl, refl);
+  foreign = λ _. (refl, refl);
 }
   where
-    gone : (o : Option ℕ) → Absent ≡ locatedOf b o → none ≡ ifSome o none (λ k. some (body b k))
+    gone : (o : Option ℕ) → Absent ≡ locatedOf w b o → none ≡ ifSome o none (λ k. some (body w b k))
     gone none q = refl
     gone (some k) q = let z : _≡_ {A = ℕ} 0 1 = cc in absurd (omega arith)
 

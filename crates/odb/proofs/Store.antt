@@ -13,73 +13,79 @@ use borrow.Author.Tests.{eqb-true, eq-eqb, leb-true, le-leb}
 use Rattle.hash.specs.Bytes.{Id, eqId, ltId, compareId, at}
 use Rattle.hash.specs.declared.Order.{Order}
 use Rattle.hash.specs.declared.Order.the-variants.{Less, Equal, Greater}
+use Rattle.hash.proofs.Widths.{apart}
 use Rattle.hash.proofs.Tests.{byCases, and-both, guard-test, guarded, guard-of, not-yes}
-use Rattle.idlist.specs.IdList.{idOf, rising, risesAt}
-use Rattle.odb.specs.Store.{start, entries, entryIds, bodyEnd, bodyStart, endsRise, standing, standingEntries, storeOk}
+use Rattle.idlist.specs.IdList.{idOf, rising, risesAt, Stands}
+use Rattle.odb.specs.Store.{entrySize, start, entries, entryIds, bodyEnd, bodyStart, endsRise, standing, standingEntries, storeOk}
 
 -- ---- the entries stand in the file
 
-pub standing-length : (b : List ℕ) → standing b ≡ true → length b ≡ start b + 24 * entries b + 8
+pub standing-length : (w : ℕ) (b : List ℕ) → standing w b ≡ true → length b ≡ start b + entrySize w * entries b + 8
 unfolding standing
-standing-length b e = eqb-true (length b) (start b + 24 * entries b + 8) (and-both {a = leb 8 (length b)} e .1)
+standing-length w b e = eqb-true (length b) (start b + entrySize w * entries b + 8) (and-both {a = leb 8 (length b)} e .1)
 
-pub standing-count : (b : List ℕ) → standing b ≡ true → standingEntries b ≡ entries b
+pub standing-count : (w : ℕ) (b : List ℕ) → standing w b ≡ true → standingEntries w b ≡ entries b
 unfolding standingEntries
-standing-count b e = rw e
+standing-count w b e = rw e
 
-pub broken-count : (b : List ℕ) → standing b ≡ false → standingEntries b ≡ 0
+pub broken-count : (w : ℕ) (b : List ℕ) → standing w b ≡ false → standingEntries w b ≡ 0
 unfolding standingEntries
-broken-count b e = rw e
+broken-count w b e = rw e
 
 -- an entry below the count stands in the file, whatever the bytes are
-pub counted-within : (b : List ℕ) (k : ℕ) → k < standingEntries b → start b + 24 * k + 32 ≤ length b
-counted-within b k h = go (standing b) refl
+pub counted-within : (w : ℕ) (b : List ℕ) (k : ℕ) → k < standingEntries w b → start b + entrySize w * k + entrySize w + 8 ≤ length b
+counted-within w b k h = go (standing w b) refl
   where
-    go : (t : Bool) → standing b ≡ t → start b + 24 * k + 32 ≤ length b
-    go true e = omega (arith, standing-length b e, standing-count b e)
-    go false e = absurd (omega (arith, broken-count b e))
+    go : (t : Bool) → standing w b ≡ t → start b + entrySize w * k + entrySize w + 8 ≤ length b
+    go true e = let i : k < entries b = omega (arith, standing-count w b e) in omega (arith, standing-length w b e, apart (entrySize w) i)
+    go false e = absurd (omega (arith, broken-count w b e))
+
+-- where the entries stand, they stand as ids at equal distances do
+pub standing-stand : (w : ℕ) (b : List ℕ) → standing w b ≡ true → Stands (entryIds w b) (standingEntries w b)
+unfolding entryIds
+standing-stand w b e = rw (standing-count w b e) (record { moves = omega arith; apart = omega arith; inside = omega (arith, standing-length w b e) })
 
 -- ---- the test and its parts
 
-pub record Good (b : List ℕ) : Type 0 where
-  pub stands : standing b ≡ true
-  pub rises : rising (entryIds b) (entries b) ≡ true
-  pub ends : endsRise b (entries b) ≡ true
-  pub last : bodyStart b (entries b) ≡ start b
+pub record Good (w : ℕ) (b : List ℕ) : Type 0 where
+  pub stands : standing w b ≡ true
+  pub rises : rising (entryIds w b) (entries b) ≡ true
+  pub ends : endsRise w b (entries b) ≡ true
+  pub last : bodyStart w b (entries b) ≡ start b
 
 -- the tests that `standing` guards
-abbrev guardedTests : List ℕ → Bool
-guardedTests b = rising (entryIds b) (entries b) && endsRise b (entries b) && eqb (bodyStart b (entries b)) (start b)
+abbrev guardedTests : ℕ → List ℕ → Bool
+guardedTests w b = rising (entryIds w b) (entries b) && endsRise w b (entries b) && eqb (bodyStart w b (entries b)) (start b)
 
-pub good : (b : List ℕ) → storeOk b ≡ true → Good b
+pub good : (w : ℕ) (b : List ℕ) → storeOk w b ≡ true → Good w b
 unfolding storeOk
-good b e =
-    let t = and-both {a = rising (entryIds b) (entries b) && endsRise b (entries b)} (guarded (standing b) (guardedTests b) e) in
-    let u = and-both {a = rising (entryIds b) (entries b)} (t .0) in
+good w b e =
+    let t = and-both {a = rising (entryIds w b) (entries b) && endsRise w b (entries b)} (guarded (standing w b) (guardedTests w b) e) in
+    let u = and-both {a = rising (entryIds w b) (entries b)} (t .0) in
     record {
-      stands = guard-test (standing b) (guardedTests b) e;
+      stands = guard-test (standing w b) (guardedTests w b) e;
       rises = u .0;
       ends = u .1;
-      last = eqb-true (bodyStart b (entries b)) (start b) (t .1);
+      last = eqb-true (bodyStart w b (entries b)) (start b) (t .1);
     }
 
 -- with the other parts in hand the last decides
-pub last-decides : (b : List ℕ) → standing b ≡ true → rising (entryIds b) (entries b) ≡ true → endsRise b (entries b) ≡ true
-    → eqb (bodyStart b (entries b)) (start b) ≡ storeOk b
+pub last-decides : (w : ℕ) (b : List ℕ) → standing w b ≡ true → rising (entryIds w b) (entries b) ≡ true → endsRise w b (entries b) ≡ true
+    → eqb (bodyStart w b (entries b)) (start b) ≡ storeOk w b
 unfolding storeOk
-last-decides b s r e = rw (s, r, e)
+last-decides w b s r e = rw (s, r, e)
 
-pub good-ok : (b : List ℕ) → Good b → storeOk b ≡ true
-good-ok b g = sym (last-decides b (g .stands) (g .rises) (g .ends)) ∙ eq-eqb (bodyStart b (entries b)) (start b) (g .last)
+pub good-ok : (w : ℕ) (b : List ℕ) → Good w b → storeOk w b ≡ true
+good-ok w b g = sym (last-decides w b (g .stands) (g .rises) (g .ends)) ∙ eq-eqb (bodyStart w b (entries b)) (start b) (g .last)
 
-pub refused : (b : List ℕ) → (Good b → ⊥) → false ≡ storeOk b
-refused b n = sym (not-yes (λ e. n (good b e)))
+pub refused : (w : ℕ) (b : List ℕ) → (Good w b → ⊥) → false ≡ storeOk w b
+refused w b n = sym (not-yes (λ e. n (good w b e)))
 
-pub good-size : (b : List ℕ) → storeOk b ≡ true → length b ≡ start b + 24 * entries b + 8
-good-size b e = standing-length b (good b e .stands)
+pub good-size : (w : ℕ) (b : List ℕ) → storeOk w b ≡ true → length b ≡ start b + entrySize w * entries b + 8
+good-size w b e = standing-length w b (good w b e .stands)
 
-pub good-count : (b : List ℕ) → storeOk b ≡ true → standingEntries b ≡ entries b
-good-count b e = standing-count b (good b e .stands)
+pub good-count : (w : ℕ) (b : List ℕ) → storeOk w b ≡ true → standingEntries w b ≡ entries b
+good-count w b e = standing-count w b (good w b e .stands)
 
 -- ---- an entry and the one before it
 
@@ -93,33 +99,33 @@ unfolding compareId
 less-test a b = byCases (ltId a b) (λ h. rw h) (λ h. byCases (eqId a b) (λ e. rw (h, e)) (λ e. rw (h, e)))
 
 -- the id of entry k is above the one before it where the comparison of the two says so
-pub rises-test : (b : List ℕ) (base k : ℕ) {o : Order} → base ≡ start b → (k ≡ 0 → ⊥) → o ≡ compareId (at b (base + 24 * (k - 1)) 20) (at b (base + 24 * k) 20)
-    → isLess o ≡ risesAt (entryIds b) k
+pub rises-test : (w : ℕ) (b : List ℕ) (base k : ℕ) {o : Order} → base ≡ start b → (k ≡ 0 → ⊥) → o ≡ compareId (at b (base + entrySize w * (k - 1)) w) (at b (base + entrySize w * k) w)
+    → isLess o ≡ risesAt (entryIds w b) k
 unfolding risesAt idOf entryIds
-rises-test b base zero s n e = absurd (n refl)
-rises-test b base (suc k) s n e =
+rises-test w b base zero s n e = absurd (n refl)
+rises-test w b base (suc k) s n e =
     let m : suc k - 1 ≡ k = omega arith in
-    rw (e, m, s) (sym (less-test (at b (start b + 24 * k) 20) (at b (start b + 24 * suc k) 20)))
+    rw (e, m, s) (sym (less-test (at b (start b + entrySize w * k) w) (at b (start b + entrySize w * suc k) w)))
 
-pub start-next : (b : List ℕ) (k : ℕ) → (k ≡ 0 → ⊥) → bodyStart b k ≡ bodyEnd b (k - 1)
+pub start-next : (w : ℕ) (b : List ℕ) (k : ℕ) → (k ≡ 0 → ⊥) → bodyStart w b k ≡ bodyEnd w b (k - 1)
 unfolding bodyStart
-start-next b zero n = absurd (n refl)
-start-next b (suc k) n = let e : suc k - 1 ≡ k = omega arith in rw e
+start-next w b zero n = absurd (n refl)
+start-next w b (suc k) n = let e : suc k - 1 ≡ k = omega arith in rw e
 
 -- ---- the ends
 
-pub ends-step : (b : List ℕ) (k : ℕ) → endsRise b k ≡ true → bodyStart b k ≤ bodyEnd b k → endsRise b (suc k) ≡ true
+pub ends-step : (w : ℕ) (b : List ℕ) (k : ℕ) → endsRise w b k ≡ true → bodyStart w b k ≤ bodyEnd w b k → endsRise w b (suc k) ≡ true
 unfolding endsRise
-ends-step b k e h = guard-of (endsRise b k) _ e (le-leb (bodyStart b k) (bodyEnd b k) h)
+ends-step w b k e h = guard-of (endsRise w b k) _ e (le-leb (bodyStart w b k) (bodyEnd w b k) h)
 
-pub ends-less : (b : List ℕ) (k : ℕ) → endsRise b (suc k) ≡ true → endsRise b k ≡ true
+pub ends-less : (w : ℕ) (b : List ℕ) (k : ℕ) → endsRise w b (suc k) ≡ true → endsRise w b k ≡ true
 unfolding endsRise
-ends-less b k e = guard-test (endsRise b k) (leb (bodyStart b k) (bodyEnd b k)) e
+ends-less w b k e = guard-test (endsRise w b k) (leb (bodyStart w b k) (bodyEnd w b k)) e
 
-pub ends-last : (b : List ℕ) (k : ℕ) → endsRise b (suc k) ≡ true → bodyStart b k ≤ bodyEnd b k
+pub ends-last : (w : ℕ) (b : List ℕ) (k : ℕ) → endsRise w b (suc k) ≡ true → bodyStart w b k ≤ bodyEnd w b k
 unfolding endsRise
-ends-last b k e = leb-true (bodyStart b k) (bodyEnd b k) (guarded (endsRise b k) (leb (bodyStart b k) (bodyEnd b k)) e)
+ends-last w b k e = leb-true (bodyStart w b k) (bodyEnd w b k) (guarded (endsRise w b k) (leb (bodyStart w b k) (bodyEnd w b k)) e)
 
-pub ends-fewer : (b : List ℕ) (n : ℕ) → endsRise b n ≡ true → (k : ℕ) → k ≤ n → endsRise b k ≡ true
-ends-fewer b zero e k h = let z : k ≡ 0 = omega arith in rw z e
-ends-fewer b (suc n) e k h = ⊎-elim (λ q. rw q e) (λ l. ends-fewer b n (ends-less b n e) k (omega arith)) (eq-or-lt-of-le h)
+pub ends-fewer : (w : ℕ) (b : List ℕ) (n : ℕ) → endsRise w b n ≡ true → (k : ℕ) → k ≤ n → endsRise w b k ≡ true
+ends-fewer w b zero e k h = let z : k ≡ 0 = omega arith in rw z e
+ends-fewer w b (suc n) e k h = ⊎-elim (λ q. rw q e) (λ l. ends-fewer w b n (ends-less w b n e) k (omega arith)) (eq-or-lt-of-le h)

@@ -1,5 +1,6 @@
 // The commit store (gix_object::Find; document 01's book): bodies end to end, then one entry for each, then a trailer.
-// Every public function is total and safe on any bytes.
+// Every public function is total and safe on any bytes. The functions below them take the width of an id and hold for any.
+use hash::Kind;
 use hash::Order;
 use idlist::Found;
 ghost use mathlib.Core.Path.{_≡_};
@@ -7,9 +8,9 @@ ghost use mathlib.Core.Bool.{_&&_};
 ghost use Prim.Native.Nat.{_+_, _*_, _-_, _<_, _≤_};
 ghost use lib.Dec.{leb};
 ghost use lib.ListN.{length};
-ghost use Rattle.hash.specs.Bytes.{u32At};
+ghost use Rattle.hash.specs.Bytes.{u32At, widthOf};
 ghost use Rattle.idlist.specs.IdList.{risesAt};
-ghost use Rattle.odb.specs.Store.{start, entries, entryIds, bodyEnd, bodyStart, standing, standingEntries, storeOk};
+ghost use Rattle.odb.specs.Store.{entrySize, start, entries, entryIds, bodyEnd, bodyStart, standing, standingEntries, storeOk};
 ghost use Rattle.odb.specs.Lookup.{partAt, partOf, isBody, Locates, TriesFind};
 
 // Where a body lies in the store: its first byte, and the byte after its last.
@@ -18,8 +19,8 @@ pub enum Located {
     Absent,
 }
 
-// An entry: an id and a u32. The trailer: two u32.
-const ENTRY_BYTES: usize = 24;
+// Beside its id an entry has a u32. The trailer: two u32.
+const END_BYTES: usize = 4;
 
 const TRAILER_BYTES: usize = 8;
 
@@ -55,20 +56,21 @@ fn entries_said(store: &[u8]) -> usize
 }
 
 // Whether the entries and the trailer fill the store from the start of the entries to its end.
-fn stands(store: &[u8]) -> bool
-    ensures { λ r. ⌜ r ≡ standing (now (store .entry)) ⌝ }
+fn stands(w: usize, store: &[u8]) -> bool
+    requires { ⌜ w ≤ 32 ⌝ }
+    ensures { λ r. ⌜ r ≡ standing w (now (store .entry)) ⌝ }
 {
     if store.len() < TRAILER_BYTES {
         return false;
     }
-    store.len() == entries_start(store) + ENTRY_BYTES * entries_said(store) + TRAILER_BYTES
+    store.len() == entries_start(store) + (w + END_BYTES) * entries_said(store) + TRAILER_BYTES
 }
 
 // The number of entries, 0 where they do not stand in the store.
-pub fn count(store: &[u8]) -> usize
-    ensures { λ r. ⌜ r ≡ standingEntries (now (store .entry)) ⌝ }
+pub fn count(kind: Kind, store: &[u8]) -> usize
+    ensures { λ r. ⌜ r ≡ standingEntries (widthOf kind) (now (store .entry)) ⌝ }
 {
-    if stands(store) {
+    if stands(hash::width(kind), store) {
         entries_said(store)
     } else {
         0
@@ -76,34 +78,36 @@ pub fn count(store: &[u8]) -> usize
 }
 
 // The end of body k.
-fn body_end(store: &[u8], base: usize, k: usize) -> usize
-    requires { ⌜ (base ≡ start (now store)) × (base + 24 * k + 24 ≤ length (now store)) ⌝ }
-    ensures { λ r. ⌜ r ≡ bodyEnd (now (store .entry)) k ⌝ }
+fn body_end(w: usize, store: &[u8], base: usize, k: usize) -> usize
+    requires { ⌜ (base ≡ start (now store)) × (base + entrySize w * k + entrySize w ≤ length (now store)) ⌝ }
+    ensures { λ r. ⌜ r ≡ bodyEnd w (now (store .entry)) k ⌝ }
 {
-    wide(hash::be32(store, base + ENTRY_BYTES * k + hash::ID_BYTES))
+    wide(hash::be32(store, base + (w + END_BYTES) * k + w))
 }
 
 // The start of body k, which is the end of the one before it.
-fn body_start(store: &[u8], base: usize, k: usize) -> usize
-    requires { ⌜ (base ≡ start (now store)) × (base + 24 * k ≤ length (now store)) ⌝ }
-    ensures { λ r. ⌜ r ≡ bodyStart (now (store .entry)) k ⌝ }
+fn body_start(w: usize, store: &[u8], base: usize, k: usize) -> usize
+    requires { ⌜ (base ≡ start (now store)) × (base + entrySize w * k ≤ length (now store)) ⌝ }
+    ensures { λ r. ⌜ r ≡ bodyStart w (now (store .entry)) k ⌝ }
 {
     if k == 0 {
         return 0;
     }
-    body_end(store, base, k - 1)
+    body_end(w, store, base, k - 1)
 }
 
 // Whether the id of entry k is above the id before it.
-fn id_rises(store: &[u8], base: usize, k: usize) -> bool
-    requires { ⌜ (base ≡ start (now store)) × (base + 24 * k ≤ length (now store)) ⌝ }
-    ensures { λ r. ⌜ r ≡ risesAt (entryIds (now (store .entry))) k ⌝ }
+fn id_rises(w: usize, store: &[u8], base: usize, k: usize) -> bool
+    requires { ⌜ (base ≡ start (now store)) × (base + entrySize w * k ≤ length (now store)) ⌝ }
+    ensures { λ r. ⌜ r ≡ risesAt (entryIds w (now (store .entry))) k ⌝ }
 {
     if k == 0 {
         return true;
     }
-    let prior = base + ENTRY_BYTES * (k - 1);
-    match hash::compare_at(store, prior, store, base + ENTRY_BYTES * k) {
+    let size = w + END_BYTES;
+    let prior = hash::part(store, base + size * (k - 1), w);
+    let here = hash::part(store, base + size * k, w);
+    match hash::compare(prior, here) {
         Order::Less => true,
         Order::Equal => false,
         Order::Greater => false,
@@ -111,12 +115,12 @@ fn id_rises(store: &[u8], base: usize, k: usize) -> bool
 }
 
 // Whether the id of entry k rises and its end does not fall.
-fn entry_good(store: &[u8], base: usize, k: usize) -> bool
-    requires { ⌜ (base ≡ start (now store)) × (base + 24 * k + 24 ≤ length (now store)) ⌝ }
-    ensures { λ r. ⌜ r ≡ (risesAt (entryIds (now (store .entry))) k && leb (bodyStart (now (store .entry)) k) (bodyEnd (now (store .entry)) k)) ⌝ }
+fn entry_good(w: usize, store: &[u8], base: usize, k: usize) -> bool
+    requires { ⌜ (base ≡ start (now store)) × (base + entrySize w * k + entrySize w ≤ length (now store)) ⌝ }
+    ensures { λ r. ⌜ r ≡ (risesAt (entryIds w (now (store .entry))) k && leb (bodyStart w (now (store .entry)) k) (bodyEnd w (now (store .entry)) k)) ⌝ }
 {
-    if id_rises(store, base, k) {
-        body_start(store, base, k) <= body_end(store, base, k)
+    if id_rises(w, store, base, k) {
+        body_start(w, store, base, k) <= body_end(w, store, base, k)
     } else {
         false
     }
@@ -124,22 +128,23 @@ fn entry_good(store: &[u8], base: usize, k: usize) -> bool
 
 // Whether the layout is whole: the entries stand in the store, their ids rise, their ends never fall, and the last end is
 // the start of the entries.
-pub fn is_good(store: &[u8]) -> bool
-    ensures { λ r. ⌜ r ≡ storeOk (now (store .entry)) ⌝ }
+pub fn is_good(kind: Kind, store: &[u8]) -> bool
+    ensures { λ r. ⌜ r ≡ storeOk (widthOf kind) (now (store .entry)) ⌝ }
 {
-    if !stands(store) {
+    let w = hash::width(kind);
+    if !stands(w, store) {
         return false;
     }
     let base = entries_start(store);
     let n = entries_said(store);
     let mut k = 0;
     while k < n {
-        if !entry_good(store, base, k) {
+        if !entry_good(w, store, base, k) {
             return false;
         }
         k += 1;
     }
-    body_start(store, base, n) == base
+    body_start(w, store, base, n) == base
 }
 
 // The bytes from start to end, where they are a part of the store.
@@ -155,24 +160,30 @@ fn part_at(store: &[u8], start: usize, end: usize) -> Located
 }
 
 // Where the body of entry k lies, if it is a part of the store.
-fn entry_body(store: &[u8], base: usize, k: usize) -> Located
-    requires { ⌜ (base ≡ start (now store)) × (base + 24 * k + 24 ≤ length (now store)) ⌝ }
-    ensures { λ r. ⌜ r ≡ partAt (now (store .entry)) (bodyStart (now (store .entry)) k) (bodyEnd (now (store .entry)) k) ⌝ }
+fn entry_body(w: usize, store: &[u8], base: usize, k: usize) -> Located
+    requires { ⌜ (base ≡ start (now store)) × (base + entrySize w * k + entrySize w ≤ length (now store)) ⌝ }
+    ensures { λ r. ⌜ r ≡ partAt (now (store .entry)) (bodyStart w (now (store .entry)) k) (bodyEnd w (now (store .entry)) k) ⌝ }
 {
-    part_at(store, body_start(store, base, k), body_end(store, base, k))
+    part_at(
+        store,
+        body_start(w, store, base, k),
+        body_end(w, store, base, k),
+    )
 }
 
-// Where the body under an id lies. In a store that is not good it may be missed.
-pub fn locate(store: &[u8], id: &[u8]) -> Located
-    ensures { λ r. ⌜ Locates (now (store .entry)) (now (id .entry)) r ⌝ }
+// Where the body under an id lies. What is found is the body of an entry under this id, in any bytes; where the ids do not rise it may be
+// missed.
+pub fn locate(kind: Kind, store: &[u8], id: &[u8]) -> Located
+    ensures { λ r. ⌜ Locates (widthOf kind) (now (store .entry)) (now (id .entry)) r ⌝ }
 {
-    if id.len() != hash::ID_BYTES {
+    let w = hash::width(kind);
+    if id.len() != w {
         return Located::Absent;
     }
     let base = entries_start(store);
-    let n = count(store);
-    match idlist::find(store, base, ENTRY_BYTES, 0, n, id) {
-        Found::At(k) => entry_body(store, base, k),
+    let n = count(kind, store);
+    match idlist::find(store, base, w + END_BYTES, 0, n, id) {
+        Found::At(k) => entry_body(w, store, base, k),
         Found::Absent => Located::Absent,
     }
 }
@@ -208,10 +219,10 @@ fn is_body(at: Located) -> bool
 }
 
 // The body under an id, a part of the store itself and not a copy; found says whether there is one.
-pub fn try_find<'a>(store: &'a [u8], id: &[u8], found: &mut bool) -> &'a [u8]
-    ensures { λ r. ⌜ TriesFind (now (store .entry)) (now (id .entry)) (now (found .exit)) (now r) ⌝ }
+pub fn try_find<'a>(kind: Kind, store: &'a [u8], id: &[u8], found: &mut bool) -> &'a [u8]
+    ensures { λ r. ⌜ TriesFind (widthOf kind) (now (store .entry)) (now (id .entry)) (now (found .exit)) (now r) ⌝ }
 {
-    let at = locate(store, id);
+    let at = locate(kind, store, id);
     *found = is_body(at);
     body(store, at)
 }

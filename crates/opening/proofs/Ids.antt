@@ -12,11 +12,11 @@ use Rattle.walk.specs.Opening.{listIds}
 
 -- of n ids those from number k on
 unfoldable pub idsFrom : ℕ → ℕ → List ℕ → List Id
-idsFrom n k b = idsOf (n - k) (drop (idBytes * k) b)
+idsFrom n k b = idsOf idBytes (n - k) (drop (idBytes * k) b)
 
 pub ids-start : (b : List ℕ) → idsFrom (length b / idBytes) 0 b ≡ listIds b
 unfolding idsFrom listIds
-ids-start b = ap (λ (m : ℕ). idsOf m b) (omega arith)
+ids-start b = ap (λ (m : ℕ). idsOf idBytes m b) (omega arith)
 
 module _ (b : List ℕ) (n k : ℕ) where
   pub ids-next : k < n → idsFrom n k b ≡ at b (idBytes * k) idBytes ∷ idsFrom n (k + 1) b

@@ -14,14 +14,15 @@ use borrow.Author.Tests.{leb-true, eqb-true}
 use Rattle.hash.specs.Bytes.{idBytes, u32At}
 use Rattle.hash.proofs.Tests.{clash, and-both, or-cases, no-some}
 use Rattle.odb.specs.Store.{storeOk}
-use Rattle.commitgraph.specs.Graph.{graphHead, graphOk, graphCount, fanAt, chunkStart, OIDF, layoutOf}
+use Rattle.hash.specs.declared.Kind.the-variants.{Sha1}
+use Rattle.commitgraph.specs.Graph.{hashVersion, graphHead, graphOk, graphCount, fanAt, chunkStart, OIDF, rowSize, layoutOf}
 use Rattle.commitgraph.specs.declared.Layout.{Layout}
 use Rattle.commitgraph.proofs.Table.{graph-count}
 use Rattle.commitgraph.proofs.LayoutRight.{right}
 use Rattle.walk.specs.declared.Refusal.{Refusal}
 use Rattle.walk.specs.declared.Refusal.the-variants.{InputTooLarge, PartialId, CorruptStore, UnknownGraph, CorruptGraph}
 use Rattle.walk.specs.State.{isEmpty}
-use Rattle.walk.specs.Opening.{Input, Lengths, P, sizesOk, wholeIds, refusal, roomFor}
+use Rattle.walk.specs.Opening.{Input, Lengths, P, listLimit, sizesOk, wholeIds, refusal, parentsRoom, roomFor}
 
 -- ---- a zero-length graph
 
@@ -48,25 +49,25 @@ module _ (i : Input) where
     by-lists b = rw (a, b)
 
     module _ (b : wholeIds i ≡ true) where
-      pub by-store : storeOk (i .store) ≡ false → refusal i ≡ some CorruptStore
+      pub by-store : storeOk idBytes (i .store) ≡ false → refusal i ≡ some CorruptStore
       unfolding refusal
       by-store c = rw (a, b, c)
 
-      module _ (c : storeOk (i .store) ≡ true) where
+      module _ (c : storeOk idBytes (i .store) ≡ true) where
         pub no-graph : isEmpty (i .graph) ≡ true → refusal i ≡ none
         unfolding refusal
         no-graph d = rw (a, b, c, d)
 
         module _ (d : isEmpty (i .graph) ≡ false) where
-          pub by-head : graphHead (i .graph) ≡ false → refusal i ≡ some UnknownGraph
+          pub by-head : graphHead (hashVersion Sha1) (i .graph) ≡ false → refusal i ≡ some UnknownGraph
           unfolding refusal
           by-head e = rw (a, b, c, d, e)
 
-          pub by-graph : graphHead (i .graph) ≡ true → graphOk (i .graph) ≡ false → refusal i ≡ some CorruptGraph
+          pub by-graph : graphHead (hashVersion Sha1) (i .graph) ≡ true → graphOk idBytes (i .graph) ≡ false → refusal i ≡ some CorruptGraph
           unfolding refusal
           by-graph e f = rw (a, b, c, d, e, f)
 
-          pub all-good : graphHead (i .graph) ≡ true → graphOk (i .graph) ≡ true → refusal i ≡ none
+          pub all-good : graphHead (hashVersion Sha1) (i .graph) ≡ true → graphOk idBytes (i .graph) ≡ true → refusal i ≡ none
           unfolding refusal
           all-good e f = rw (a, b, c, d, e, f)
 
@@ -85,14 +86,14 @@ six a b c d e f h =
 pub record Passes (i : Input) : Type 0 where
   pub store-small : length (i .store) ≤ 16777216
   pub graph-small : length (i .graph) ≤ 16777216
-  pub tips-few : length (i .tips) ≤ 20480
-  pub hidden-few : length (i .hidden) ≤ 20480
-  pub excluded-few : length (i .excluded) ≤ 20480
+  pub tips-few : length (i .tips) ≤ listLimit
+  pub hidden-few : length (i .hidden) ≤ listLimit
+  pub excluded-few : length (i .excluded) ≤ listLimit
   pub tips-whole : length (i .tips) % idBytes ≡ 0
   pub hidden-whole : length (i .hidden) % idBytes ≡ 0
   pub excluded-whole : length (i .excluded) % idBytes ≡ 0
-  pub store-good : storeOk (i .store) ≡ true
-  pub graph-good : (isEmpty (i .graph) ≡ true) ⊎ (graphOk (i .graph) ≡ true)
+  pub store-good : storeOk idBytes (i .store) ≡ true
+  pub graph-good : (isEmpty (i .graph) ≡ true) ⊎ (graphOk idBytes (i .graph) ≡ true)
 
 pick-none : (b : Bool) (n : Option Refusal) (r : Refusal) → cond b n (some r) ≡ none → (b ≡ true) × (n ≡ none)
 pick-none true n r e = (refl, e)
@@ -103,11 +104,11 @@ unfolding refusal sizesOk wholeIds
 passes i z =
     let a = pick-none (sizesOk i) _ InputTooLarge z in
     let b = pick-none (wholeIds i) _ PartialId (a .1) in
-    let c = pick-none (storeOk (i .store)) _ CorruptStore (b .1) in
-    let d = pick-none (isEmpty (i .graph) || graphHead (i .graph)) _ UnknownGraph (c .1) in
-    let e = pick-none (isEmpty (i .graph) || graphOk (i .graph)) none CorruptGraph (d .1) in
-    let s = six true (leb (length (i .store)) 16777216) (leb (length (i .graph)) 16777216) (leb (length (i .tips)) 20480) (leb (length (i .hidden)) 20480)
-    (leb (length (i .excluded)) 20480) (a .0) in
+    let c = pick-none (storeOk idBytes (i .store)) _ CorruptStore (b .1) in
+    let d = pick-none (isEmpty (i .graph) || graphHead (hashVersion Sha1) (i .graph)) _ UnknownGraph (c .1) in
+    let e = pick-none (isEmpty (i .graph) || graphOk idBytes (i .graph)) none CorruptGraph (d .1) in
+    let s = six true (leb (length (i .store)) 16777216) (leb (length (i .graph)) 16777216) (leb (length (i .tips)) listLimit) (leb (length (i .hidden)) listLimit)
+    (leb (length (i .excluded)) listLimit) (a .0) in
     let w = six true true true (eqb (length (i .tips) % idBytes) 0) (eqb (length (i .hidden) % idBytes) 0) (eqb (length (i .excluded) % idBytes) 0) (b .0) in
     record {
       store-small = leb-true _ _ (s .1);
@@ -119,7 +120,7 @@ passes i z =
       hidden-whole = eqb-true _ _ (w .4);
       excluded-whole = eqb-true _ _ (w .5);
       store-good = c .0;
-      graph-good = or-cases {a = isEmpty (i .graph)} {b = graphOk (i .graph)} (e .0);
+      graph-good = or-cases {a = isEmpty (i .graph)} {b = graphOk idBytes (i .graph)} (e .0);
     }
 
 -- ---- how few the places are
@@ -143,9 +144,9 @@ unfolding isEmpty graphCount
 no-count [] e = refl
 no-count (x ∷ g) e = clash refl (sym e)
 
-count-small : (g : List ℕ) → (isEmpty g ≡ true) ⊎ (graphOk g ≡ true) → 36 * graphCount g ≤ length g
+count-small : (g : List ℕ) → (isEmpty g ≡ true) ⊎ (graphOk idBytes g ≡ true) → rowSize idBytes * graphCount g ≤ length g
 count-small g (inl e) = omega (arith, no-count g e)
-count-small g (inr ok) = omega (arith, right g ok .places .rows)
+count-small g (inr ok) = omega (arith, right idBytes g ok .places .rows)
 
 -- 1,024 + 1,024 + ⌊16,777,216/48⌋ + ⌊16,777,216/36⌋
 pub places-few : (i : Input) → refusal i ≡ none → P i ≤ 817606
@@ -160,13 +161,13 @@ pub record Room (p : ℕ) (l : Lengths) : Type 0 where
   pub levels-room : p ≤ l .levels
   pub times-room : p ≤ l .times
   pub line-room : 5 * p ≤ l .line
-  pub parents-room : 5120 ≤ l .parents
+  pub parents-room : parentsRoom ≤ l .parents
 
 pub room : (i : Input) (l : Lengths) → roomFor i l ≡ true → Room (P i) l
 unfolding roomFor
 room i l e =
     let s = six (leb (idBytes * P i) (l .names)) (leb (P i) (l .marks)) (leb (P i) (l .levels)) (leb (P i) (l .times)) (leb (5 * P i) (l .line))
-    (leb 5120 (l .parents)) e in
+    (leb parentsRoom (l .parents)) e in
     record {
       names-room = leb-true _ _ (s .0);
       marks-room = leb-true _ _ (s .1);

@@ -29,6 +29,7 @@ use Rattle.reading.specs.declared.tip.TipRead.{TipRead}
 use Rattle.reading.specs.declared.tip.TipRead.the-variants.{Good, Missing, Unreadable}
 use Rattle.reading.proofs.Tips.{tip-right}
 use Rattle.opening.specs.Checks.{checkedOf, checkedBy, faultOf, TestsTips, no-tip, skipped, good-tip, at-fault, ChecksTips}
+use Rattle.hash.specs.Bytes.{idBytes}
 
 -- ---- answers
 
@@ -141,7 +142,7 @@ module _ {s : List ℕ} {excluded : List Id} {x : Id} where
   one-fine (at-fault a k f) i t = let z : _≡_ {A = ℕ} 0 1 = cc in absurd (omega arith)
 
 -- in a good store they come to the first fault that the walk's world has
-pub tests-right : {s : List ℕ} {excluded xs : List Id} {r : Checked} → TestsTips s excluded xs r → storeOk s ≡ true → (g : List ℕ) → r ≡ checkedOf (firstFault (worldOf s g) excluded xs)
+pub tests-right : {s : List ℕ} {excluded xs : List Id} {r : Checked} → TestsTips s excluded xs r → storeOk idBytes s ≡ true → (g : List ℕ) → r ≡ checkedOf (firstFault (worldOf s g) excluded xs)
 tests-right {s} {excluded} no-tip ok g = sym (ap checkedOf (no-tips (worldOf s g) excluded))
 tests-right {s} {excluded} (skipped {x = x} {xs = xs} a t) ok g = tests-right t ok g ∙ sym (ap checkedOf (skips (worldOf s g) excluded x xs a))
 tests-right {s} {excluded} (good-tip {x = x} {xs = xs} a k f t) ok g =
@@ -219,7 +220,7 @@ module _ (i : Input) where
   open-untimed t = tips-untimed (walkOf i) t (distinct [] (listIds (i .excluded)) (listIds (i .tips))) emptyState
 
 -- what `check_tips` answers, in a good store
-pub tips-right : {r : Checked} (i : Input) → ChecksTips (i .store) (i .tips) (i .excluded) (i .settings .sorting) r → storeOk (i .store) ≡ true → r ≡ checkedBy (openTips i true)
+pub tips-right : {r : Checked} (i : Input) → ChecksTips (i .store) (i .tips) (i .excluded) (i .settings .sorting) r → storeOk idBytes (i .store) ≡ true → r ≡ checkedBy (openTips i true)
 tips-right i k ok =
     byCases (timed (i .settings .sorting))
     (λ t. tests-right (k .by-time t) ok (i .graph) ∙ sym (open-timed i t))

@@ -1,5 +1,6 @@
 // The tests of an opening: document 01's refusals 1 to 8, in order 2 to 6, 1, 7, 8. No function here writes a byte, and each is total on
 // any bytes and lengths.
+use hash::Kind;
 use reading::TipRead;
 use walk::Refusal;
 use walk::Settings;
@@ -7,12 +8,12 @@ use walk::Sorting;
 ghost use mathlib.Core.Path.{_≡_};
 ghost use mathlib.Core.List.{List, [], _∷_};
 ghost use mathlib.Core.Option.{none};
-ghost use Prim.Native.Nat.{ℕ, _%_};
-ghost use lib.Dec.{eqb};
+ghost use Prim.Native.Nat.{ℕ, _/_, _%_};
+ghost use lib.Dec.{eqb, leb};
 ghost use lib.ListN.{length};
 ghost use Rattle.hash.specs.Bytes.{idBytes};
 ghost use Rattle.walk.specs.Settings.{timed};
-ghost use Rattle.walk.specs.Opening.{Input, listIds, P, sizesOk, wholeIds, refusal, roomFor, openWalk};
+ghost use Rattle.walk.specs.Opening.{Input, listIds, parentBytes, P, listLimit, sizesOk, wholeIds, refusal, roomFor, openWalk};
 ghost use Rattle.opening.specs.Checks.{inputOf, lengthsOf, checkedOf, checkedBy, faultOf, TestsTips, ChecksTips};
 
 // What a test of an opening gives: no fault, or the refusal of the first fault.
@@ -24,14 +25,18 @@ pub enum Checked {
 // The most bytes of the commit store and of the commit-graph file.
 const MOST_FILE: usize = 16777216;
 
-// The most bytes of a list: 1,024 ids.
-const MOST_LIST: usize = 20480;
+// The most ids of a list.
+const MOST_IDS: usize = 1024;
 
-// The length of a parent line.
-const PARENT_LINE: usize = 48;
+// The most parents of a commit.
+const MOST_PARENTS: usize = 256;
 
-// The bytes of 256 parents.
-const PARENTS_BYTES: usize = 5120;
+// Whether a list has at most the bytes of 1,024 ids.
+fn list_fits(list: &[u8]) -> bool
+    ensures { λ r. ⌜ r ≡ leb (length (now (list .entry))) listLimit ⌝ }
+{
+    list.len() <= MOST_IDS * hash::width(Kind::Sha1)
+}
 
 // Whether the files and the lists have at most their sizes.
 fn sizes_fit(store: &[u8], graph: &[u8], tips: &[u8], hidden: &[u8], excluded: &[u8]) -> bool
@@ -43,20 +48,20 @@ fn sizes_fit(store: &[u8], graph: &[u8], tips: &[u8], hidden: &[u8], excluded: &
     if MOST_FILE < graph.len() {
         return false;
     }
-    if MOST_LIST < tips.len() {
+    if !list_fits(tips) {
         return false;
     }
-    if MOST_LIST < hidden.len() {
+    if !list_fits(hidden) {
         return false;
     }
-    excluded.len() <= MOST_LIST
+    list_fits(excluded)
 }
 
 // Whether a list is of whole ids.
 fn is_whole(list: &[u8]) -> bool
     ensures { λ r. ⌜ r ≡ eqb (length (now (list .entry)) % idBytes) 0 ⌝ }
 {
-    list.len() % hash::ID_BYTES == 0
+    hash::whole(Kind::Sha1, list.len())
 }
 
 // Whether the lists are of whole ids.
@@ -88,19 +93,26 @@ pub fn check_input(
     if !lists_whole(tips, hidden, excluded) {
         return Checked::Refused(Refusal::PartialId);
     }
-    if !odb::is_good(store) {
+    if !odb::is_good(Kind::Sha1, store) {
         return Checked::Refused(Refusal::CorruptStore);
     }
     if graph.len() == 0 {
         return Checked::Fine;
     }
-    if !commitgraph::has_header(graph) {
+    if !commitgraph::has_header(Kind::Sha1, graph) {
         return Checked::Refused(Refusal::UnknownGraph);
     }
-    if !commitgraph::is_good(graph) {
+    if !commitgraph::is_good(Kind::Sha1, graph) {
         return Checked::Refused(Refusal::CorruptGraph);
     }
     Checked::Fine
+}
+
+// The most parent lines that can stand in a store of n bytes.
+fn lines_in(n: usize) -> usize
+    ensures { λ r. ⌜ r ≡ n / parentBytes ⌝ }
+{
+    n / object::parent_size(Kind::Sha1)
 }
 
 // How many places a walk needs (document 01's P).
@@ -108,9 +120,9 @@ pub fn capacity(store: &[u8], graph: &[u8], tips: &[u8], hidden: &[u8]) -> usize
     ensures { λ r. ⌜ ((excluded : List ℕ) (s : Settings) → r ≡ P (inputOf (now (store .entry)) (now (graph .entry)) (now (tips .entry)) (now (hidden .entry)) excluded s)) ⌝ }
 {
     let l = commitgraph::parse(graph);
-    tips.len() / hash::ID_BYTES
-        + hidden.len() / hash::ID_BYTES
-        + store.len() / PARENT_LINE
+    hash::ids_in(Kind::Sha1, tips.len())
+        + hash::ids_in(Kind::Sha1, hidden.len())
+        + lines_in(store.len())
         + l.count
 }
 
@@ -126,7 +138,7 @@ pub fn has_room(
 ) -> bool
     ensures { λ r. ⌜ ((i : Input) → cap ≡ P i → r ≡ roomFor i (lengthsOf names marks levels times line parents)) ⌝ }
 {
-    if names / hash::ID_BYTES < cap {
+    if hash::ids_in(Kind::Sha1, names) < cap {
         return false;
     }
     if marks < cap {
@@ -141,7 +153,7 @@ pub fn has_room(
     if line / 5 < cap {
         return false;
     }
-    PARENTS_BYTES <= parents
+    MOST_PARENTS * hash::width(Kind::Sha1) <= parents
 }
 
 // What is wrong with a tip that was read: the store lacks it, or its header is not good through committer.
@@ -169,10 +181,10 @@ fn check_tip(store: &[u8], excluded: &[u8], id: &[u8]) -> Checked
 fn read_tips(store: &[u8], tips: &[u8], excluded: &[u8]) -> Checked
     ensures { λ r. ⌜ TestsTips (now (store .entry)) (listIds (now (excluded .entry))) (listIds (now (tips .entry))) r ⌝ }
 {
-    let n = tips.len() / hash::ID_BYTES;
+    let n = hash::ids_in(Kind::Sha1, tips.len());
     let mut k = 0;
     while k < n {
-        match check_tip(store, excluded, hash::id_at(tips, hash::ID_BYTES * k)) {
+        match check_tip(store, excluded, hash::nth(Kind::Sha1, tips, k)) {
             Checked::Refused(r) => {
                 return Checked::Refused(r);
             }

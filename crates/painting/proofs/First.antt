@@ -48,6 +48,7 @@ use Rattle.painting.specs.Inner.{RefusesCall, Finished, Finishes}
 use Rattle.painting.proofs.FirstState.{opened-timed}
 use Rattle.painting.proofs.Ready.{lentOf, kept, waiting-ids, files, same-world, taken-plain, may-paint, due}
 use Rattle.painting.proofs.Kept.{spared}
+use Rattle.hash.specs.Bytes.{idBytes}
 
 -- ---- whether painting is due
 
@@ -142,7 +143,7 @@ module _ {i : Input} {r : Record} {m : Memory} {levels : List ℕ} {st : State} 
   module _ (h : (isEmpty (walkOf i .hidden) || isEmpty (st .queue)) ≡ false) (m′ : Memory) (levels′ : List ℕ) (lt : length (m′ .times) ≡ length (m .times))
       (ll : length (m′ .line) ≡ length (m .line)) where
     frontier-is : {q : Pending} (g : Goes (world i) (P i) (universe i) (all.startOf (P i)) (lentOf m levels) (lentOf m′ levels′) q (whole i r m levels)) (x : Id)
-        → bothMarks (g .state) x ≡ frontier (markFor false (m′ .names) (m′ .marks) (P i) x)
+        → bothMarks (g .state) x ≡ frontier (markFor idBytes false (m′ .names) (m′ .marks) (P i) x)
     unfolding frontier
     frontier-is g x = ap₂ (λ (b c : Bool). b && c) (g .reads .vis x) (g .reads .hid x)
 

@@ -37,15 +37,16 @@ use Rattle.frontier.specs.Painted.{Ample, waitingIds, MayPaint}
 use Rattle.refill.specs.Painted.{Due}
 use Rattle.painting.specs.First.{AtFirst}
 use Rattle.painting.proofs.FirstState.{opened-kept}
+use Rattle.hash.specs.Bytes.{idBytes}
 
 -- the memory with the levels beside it
 abbrev pub lentOf : Memory → List ℕ → Lent
 lentOf m levels = lent (m .names) (m .marks) levels (m .times) (m .line)
 
-ids-entries : (timed : Bool) (names : List ℕ) (times : List ℤ) (l : List ℕ) → ids (map (entryOf timed names times) l) ≡ map (idOf names) l
+ids-entries : (timed : Bool) (names : List ℕ) (times : List ℤ) (l : List ℕ) → ids (map (entryOf timed names times) l) ≡ map (idOf idBytes names) l
 unfolding ids
 ids-entries timed names times [] = refl
-ids-entries timed names times (s ∷ l) = ap (λ (r : List Id). idOf names s ∷ r) (ids-entries timed names times l)
+ids-entries timed names times (s ∷ l) = ap (λ (r : List Id). idOf idBytes names s ∷ r) (ids-entries timed names times l)
 
 module _ {i : Input} {r : Record} {m : Memory} {levels : List ℕ} {st : State} (a : AtFirst i r m levels st) where
   none-refused : refusal i ≡ none
@@ -67,7 +68,7 @@ module _ {i : Input} {r : Record} {m : Memory} {levels : List ℕ} {st : State} 
       let g = accepted i none-refused in
       record {
         store-ok = g .store-ok;
-        graph-ok = good-cache (i .graph) true (⊎-elim (or-left (isEmpty (i .graph)) (graphOk (i .graph))) (or-right (isEmpty (i .graph)) (graphOk (i .graph))) (g .graph-ok));
+        graph-ok = good-cache (i .graph) true (⊎-elim (or-left (isEmpty (i .graph)) (graphOk idBytes (i .graph))) (or-right (isEmpty (i .graph)) (graphOk idBytes (i .graph))) (g .graph-ok));
       }
 
   pub same-world : worldUnder (cacheOf (i .graph) true) (i .graph) (i .store) ≡ walkOf i .world
@@ -76,8 +77,8 @@ module _ {i : Input} {r : Record} {m : Memory} {levels : List ℕ} {st : State} 
 
   -- ---- marks before painting
 
-  table : Table false (m .names) (m .marks) (P i)
-  table = subst (λ (b : Bool). Table b (m .names) (m .marks) (P i)) unpainted (a .reads .table)
+  table : Table idBytes false (m .names) (m .marks) (P i)
+  table = subst (λ (b : Bool). Table idBytes b (m .names) (m .marks) (P i)) unpainted (a .reads .table)
 
   taken-seen : (k : ℕ) → k < P i → liveAt false (m .marks) k ≡ true → seen (getD (m .marks) k 0) ≡ true
   taken-seen k l h = a .reads .only-seen unpainted k l h .0
@@ -85,14 +86,14 @@ module _ {i : Input} {r : Record} {m : Memory} {levels : List ℕ} {st : State} 
   pub taken-plain : (k : ℕ) → k < P i → liveAt false (m .marks) k ≡ true → frontier (getD (m .marks) k 0) ≡ false
   taken-plain k l h = a .reads .only-seen unpainted k l h .1
 
-  held-seen : (y : Id) → (markFor false (m .names) (m .marks) (P i) y ≡ 0 → ⊥) → st .seen y ≡ true
+  held-seen : (y : Id) → (markFor idBytes false (m .names) (m .marks) (P i) y ≡ 0 → ⊥) → st .seen y ≡ true
   held-seen y n =
       ⊎-elim
       (λ u.
-      a .reads .seen-is y ∙ ap (λ (b : Bool). seen (markFor b (m .names) (m .marks) (P i) y)) unpainted ∙ ap seen (u .mark)
+      a .reads .seen-is y ∙ ap (λ (b : Bool). seen (markFor idBytes b (m .names) (m .marks) (P i) y)) unpainted ∙ ap seen (u .mark)
       ∙ taken-seen (u .slot) (u .holds .low) (u .holds .alive))
       (λ u. absurd (n (u .1)))
-      (look false (m .names) (m .marks) (P i) y)
+      (look idBytes false (m .names) (m .marks) (P i) y)
 
   -- ---- room
 

@@ -14,22 +14,23 @@ use Rattle.hash.proofs.Ids.{ltId-asym, ltId-irrefl, compare-less, compare-equal
 use Rattle.hashtable.specs.Table.{idOf}
 use Rattle.pending.specs.Pending.{notAbove, Placed, putIn, Sorts}
 use Rattle.pending.proofs.Inserts.{slice-first}
+use Rattle.hash.specs.Bytes.{idBytes}
 
 -- ---- the three ways in which two ids compare
 
 module _ (names : List ℕ) (a b : ℕ) where
-  pub above-less : compareId (idOf names a) (idOf names b) ≡ Less → true ≡ notAbove names a b
+  pub above-less : compareId (idOf idBytes names a) (idOf idBytes names b) ≡ Less → true ≡ notAbove names a b
   unfolding notAbove
   above-less e = rw (ltId-asym _ _ (compare-less _ _ e))
 
-  pub above-equal : compareId (idOf names a) (idOf names b) ≡ Equal → true ≡ notAbove names a b
+  pub above-equal : compareId (idOf idBytes names a) (idOf idBytes names b) ≡ Equal → true ≡ notAbove names a b
   unfolding notAbove
   above-equal e =
       let s = compare-equal _ _ e in
-      let n : ltId (idOf names b) (idOf names a) ≡ false = not-yes (λ h. ltId-irrefl _ (rw s at h)) in
+      let n : ltId (idOf idBytes names b) (idOf idBytes names a) ≡ false = not-yes (λ h. ltId-irrefl _ (rw s at h)) in
       rw n
 
-  pub above-greater : compareId (idOf names a) (idOf names b) ≡ Greater → false ≡ notAbove names a b
+  pub above-greater : compareId (idOf idBytes names a) (idOf idBytes names b) ≡ Greater → false ≡ notAbove names a b
   unfolding notAbove
   above-greater e = rw (compare-greater _ _ e)
 

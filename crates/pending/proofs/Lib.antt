@@ -1,5 +1,4 @@
 pub mod Ahead
-pub mod Decided
 pub mod Merges
 pub mod Inserts
 pub mod RunsMerged

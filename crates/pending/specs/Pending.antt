@@ -17,6 +17,7 @@ use Rattle.walk.specs.Lookup.{Pair, ltPair}
 use Rattle.pending.specs.declared.Pending.{Pending}
 use Rattle.pending.specs.declared.Pushed.{Pushed}
 use Rattle.pending.specs.declared.Taken.{Taken}
+use Rattle.hash.specs.Bytes.{idBytes}
 
 -- ---- the order
 
@@ -34,7 +35,7 @@ ahead levels times a b = ltPair (pairAt levels times b) (pairAt levels times a)
 
 -- the id of slot a is not above that of slot b
 unfoldable pub notAbove : List ℕ → ℕ → ℕ → Bool
-notAbove names a b = not (ltId (idOf names b) (idOf names a))
+notAbove names a b = not (ltId (idOf idBytes names b) (idOf idBytes names a))
 
 -- ---- the queue: two runs, each in the order in which its slots leave
 

@@ -5,14 +5,16 @@
 // length, it is merged into the older run. So an entering moves a few times sqrt(n) slots on average, and in a real history, which inserts
 // near the front, few. Beside it the waiting ids by rising id, with which painting begins.
 use commitgraph::Level;
+use hash::Kind;
 use hash::Order;
+use hashtable::table;
 use walk::GenThenTime;
 ghost use mathlib.Core.Path.{_≡_};
 ghost use Prim.Native.Nat.{_+_, _-_, _<_, _≤_};
 ghost use mathlib.Core.List.{_++_};
 ghost use lib.ListN.{length};
 ghost use lib.Seq.{slice};
-ghost use Rattle.hashtable.specs.Table.{Decides};
+ghost use Rattle.hash.specs.Decides.{Decides};
 ghost use Rattle.walk.specs.Lookup.{pairOf};
 ghost use Rattle.pending.specs.Pending.{levelOf, pairAt, ahead, notAbove, staleAt, youngerIn, olderIn, fresh, shiftedIn, Right, Room, Waits, Runs, Leaves, mergedIn, Settles, Widens, OlderOnly, Enters, Pushes, Pops, Placed, putIn, Sorts};
 
@@ -380,9 +382,9 @@ pub fn any_lacking(p: Pending, line: &[u32], marks: &[u8]) -> bool
 fn not_above(names: &[u8], a: u32, b: u32) -> bool
     ensures { λ r. ⌜ r ≡ notAbove (now (names .entry)) a b ⌝ }
 {
-    let i = hash::ID_BYTES * (a as usize);
-    let j = hash::ID_BYTES * (b as usize);
-    match hash::compare_at(names, i, names, j) {
+    let x = table::id_of(Kind::Sha1, names, a as usize);
+    let y = table::id_of(Kind::Sha1, names, b as usize);
+    match hash::compare(x, y) {
         Order::Less => true,
         Order::Equal => true,
         Order::Greater => false,

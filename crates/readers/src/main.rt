@@ -6,6 +6,7 @@ use commitgraph::parents;
 use commitgraph::parents::ParentList;
 use commitgraph::rows;
 use date::Seconds;
+use hash::Kind;
 use libc::STDOUT_FILENO;
 use object::Reading;
 
@@ -46,12 +47,12 @@ fn counted(n: usize, s: Seconds) {
 // What the store has under an id.
 fn stored(store: &[u8], id: &[u8]) {
     let mut found = false;
-    let body = odb::try_find(store, id, &mut found);
+    let body = odb::try_find(Kind::Sha1, store, id, &mut found);
     if !found {
         text(b"absent");
         return;
     }
-    match object::readable(body) {
+    match object::readable(Kind::Sha1, body) {
         Reading::Readable {
             parents: n,
             seconds: s,
@@ -64,11 +65,11 @@ fn stored(store: &[u8], id: &[u8]) {
 // What the graph file has at a position.
 fn listed(graph: &[u8], l: Layout, p: usize) {
     text(b" level ");
-    let level = rows::level(graph, l, p);
+    let level = rows::level(Kind::Sha1, graph, l, p);
     io::print_decimal(STDOUT_FILENO, level.0 as u64);
     text(b"; graph: ");
-    match parents::parents(graph, l, p) {
-        ParentList::Good(n) => counted(n, rows::seconds(graph, l, p)),
+    match parents::parents(Kind::Sha1, graph, l, p) {
+        ParentList::Good(n) => counted(n, rows::seconds(Kind::Sha1, graph, l, p)),
         ParentList::Corrupt => text(b"a corrupt parent list"),
     }
 }
@@ -76,28 +77,28 @@ fn listed(graph: &[u8], l: Layout, p: usize) {
 fn commits(graph: &[u8], l: Layout, store: &[u8]) {
     let mut p = 0;
     while p < l.count {
-        hex(rows::id_at(graph, l, p));
+        hex(rows::id_at(Kind::Sha1, graph, l, p));
         listed(graph, l, p);
         text(b"; store: ");
-        stored(store, rows::id_at(graph, l, p));
+        stored(store, rows::id_at(Kind::Sha1, graph, l, p));
         text(b"\n");
         p += 1;
     }
 }
 
 fn report(graph: &[u8], store: &[u8]) {
-    if !odb::is_good(store) {
+    if !odb::is_good(Kind::Sha1, store) {
         text(b"the commit store's layout is broken\n");
         return;
     }
     text(b"commit store: ");
-    number(odb::count(store));
+    number(odb::count(Kind::Sha1, store));
     text(b" commits\n");
-    if !commitgraph::has_header(graph) {
+    if !commitgraph::has_header(Kind::Sha1, graph) {
         text(b"this is no commit-graph file of version 1\n");
         return;
     }
-    if !commitgraph::is_good(graph) {
+    if !commitgraph::is_good(Kind::Sha1, graph) {
         text(b"the commit-graph file's layout is broken\n");
         return;
     }

@@ -11,29 +11,29 @@ use Rattle.walk.specs.Opening.{listIds}
 
 -- n ids, of which k were passed
 abbrev pub fromId : List ℕ → ℕ → ℕ → List Id
-fromId b n k = idsOf (n - k) (drop (20 * k) b)
+fromId b n k = idsOf idBytes (n - k) (drop (idBytes * k) b)
 
-pub among-start : (x : Id) (b : List ℕ) → among x (listIds b) ≡ among x (fromId b (length b / 20) 0)
+pub among-start : (x : Id) (b : List ℕ) → among x (listIds b) ≡ among x (fromId b (length b / idBytes) 0)
 unfolding listIds
-among-start x b = let m : length b / 20 ≡ length b / 20 - 0 = omega arith in ap (λ (j : ℕ). among x (idsOf j b)) m
+among-start x b = let m : length b / idBytes ≡ length b / idBytes - 0 = omega arith in ap (λ (j : ℕ). among x (idsOf idBytes j b)) m
 
 module _ (x : Id) (b : List ℕ) (n k : ℕ) (h : k < n) where
-  next-id : fromId b n k ≡ at b (20 * k) idBytes ∷ fromId b n (k + 1)
+  next-id : fromId b n k ≡ at b (idBytes * k) idBytes ∷ fromId b n (k + 1)
   unfolding idsOf at
   next-id =
       let m : n - k ≡ suc (n - (k + 1)) = omega arith in
-      let d : 20 * k + 20 ≡ 20 * (k + 1) = omega arith in
-      ap (λ (j : ℕ). idsOf j (drop (20 * k) b)) m
-      ∙ ap (λ (c : List ℕ). take idBytes (drop (20 * k) b) ∷ idsOf (n - (k + 1)) c) (drop-drop idBytes (20 * k) b ∙ ap (λ (j : ℕ). drop j b) d)
+      let d : idBytes * k + idBytes ≡ idBytes * (k + 1) = omega arith in
+      ap (λ (j : ℕ). idsOf idBytes j (drop (idBytes * k) b)) m
+      ∙ ap (λ (c : List ℕ). take idBytes (drop (idBytes * k) b) ∷ idsOf idBytes (n - (k + 1)) c) (drop-drop idBytes (idBytes * k) b ∙ ap (λ (j : ℕ). drop j b) d)
 
-  pub among-here : eqId x (at b (20 * k) idBytes) ≡ true → among x (fromId b n k) ≡ true
+  pub among-here : eqId x (at b (idBytes * k) idBytes) ≡ true → among x (fromId b n k) ≡ true
   unfolding among
   among-here e = ap (among x) next-id ∙ ap (λ (t : Bool). cond t true (among x (fromId b n (k + 1)))) e
 
-  pub among-later : eqId x (at b (20 * k) idBytes) ≡ false → among x (fromId b n k) ≡ among x (fromId b n (k + 1))
+  pub among-later : eqId x (at b (idBytes * k) idBytes) ≡ false → among x (fromId b n k) ≡ among x (fromId b n (k + 1))
   unfolding among
   among-later e = ap (among x) next-id ∙ ap (λ (t : Bool). cond t true (among x (fromId b n (k + 1)))) e
 
 pub among-none : (x : Id) (b : List ℕ) (n k : ℕ) → n ≤ k → among x (fromId b n k) ≡ false
 unfolding among idsOf
-among-none x b n k h = let m : n - k ≡ 0 = omega arith in ap (λ (j : ℕ). among x (idsOf j (drop (20 * k) b))) m
+among-none x b n k h = let m : n - k ≡ 0 = omega arith in ap (λ (j : ℕ). among x (idsOf idBytes j (drop (idBytes * k) b))) m

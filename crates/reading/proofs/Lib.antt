@@ -4,3 +4,4 @@ pub mod Tips
 pub mod Rows
 pub mod Lines
 pub mod Whole
+pub mod ByValue

@@ -1,10 +1,10 @@
--- Laws of a body that is read line by line: the tests decide what stands at a place; and under a good tree line the parent line after k
+-- Laws of a body that is read line by line: the token at a place says what stands there; and under a good tree line the parent line after k
 -- parents is the next parent, and where none stands the author line or a parent line too many ends the reading, as the header says. Assumes
 -- nothing.
 use mathlib.Core.Path.{_≡_, refl, sym, _∙_, ap}
-use Prim.Native.Nat.{ℕ, _+_, _*_, _≤_, _<_}
+use Prim.Native.Nat.{ℕ, _≤_, _<_}
 use mathlib.Core.Bool.{Bool, true, false, not, _&&_}
-use mathlib.Core.Option.{none, some}
+use mathlib.Core.Option.{Option, none, some}
 use mathlib.Core.List.{List, []}
 use native.Mathlib.Omega.{arith}
 use lib.ListN.{length, drop, getD}
@@ -12,59 +12,119 @@ use lib.Dec.{ltb}
 use borrow.Author.Tests.{lt-ltb, le-ltb, ltb-true, ltb-false}
 use Rattle.hash.specs.Bytes.{Id, pick}
 use Rattle.hash.proofs.Tests.{byCases, clash}
-use Rattle.object.specs.Header.{Header, header, isSome, authorLine, most}
-use Rattle.object.specs.Read.{lineRead, parentAt}
+use Rattle.object.specs.Header.{Header, header, isSome, idLine, parentWord, authorLine, most}
+use Rattle.object.specs.Read.{idRead, parentAt}
 use Rattle.object.specs.declared.ParentLine.{ParentLine}
-use Rattle.object.specs.declared.Line.the-variants.{Good, Bad}
-use Rattle.object.proofs.Headers.{header-lines, parent-read, parent-taken, parent-stop, parent-crowd}
-use Rattle.object.proofs.PersonLines.{author-next, author-bad}
+use Rattle.object.proofs.Headers.{header-lines, parent-read, parent-width, parent-taken, parent-stop, parent-crowd}
 use Rattle.walk.specs.declared.Settings.{Settings}
 use Rattle.walk.specs.declared.Refusal.the-variants.{CommitUnreadable}
 use Rattle.walk.specs.Settings.{onlyFirst}
 use Rattle.walk.specs.State.{isEmpty}
 use Rattle.walk.specs.Next.{ending}
-use Rattle.walk.specs.Given.{noId}
-use Rattle.reading.specs.Body.{endAt, endOf, refusalOf, parentStep, endStep, parentPlace, stepAt, parentIdAt}
-use Rattle.reading.specs.declared.body.BodyEnd.{BodyEnd}
+use Rattle.object.specs.Ids.{idIn}
+use Rattle.object.proofs.IdBytes.{id-in}
+use Rattle.commititer.specs.Token.{here, parentTold, authorTold, lineIn, lineAt, tokenOf, tokenAt, parentsPlace}
+use Rattle.commititer.specs.Tokens.{isParent, isAuthor}
+use Rattle.commititer.specs.declared.TokenRead.{TokenRead}
+use Rattle.commititer.specs.declared.State.the-variants.{Parents as ParentLines}
+use Rattle.commititer.specs.declared.Token.{Token}
+use Rattle.commititer.specs.declared.Token.the-variants.{Parent, Author}
+use Rattle.commititer.proofs.Agree.{is-missing}
+use Rattle.commititer.proofs.ParentsPlace.{place-few}
+use Rattle.reading.specs.Body.{endAt, endOf, refusalOf, parentStep, endStep, parentPlace, countedStep, stepAt, noBytes, parentIdAt}
 use Rattle.reading.specs.declared.body.BodyEnd.the-variants.{Whole, Unreadable, Crowded}
 use Rattle.reading.specs.declared.body.BodyStep.{BodyStep}
+use Rattle.hash.specs.Bytes.{idBytes}
 
--- ---- the author line at a place
+-- ---- the token at a place where parents may stand
 
-pub author-whole : (b : List ℕ) (i q : ℕ) → lineRead b (authorLine (drop i b)) ≡ Good q → Whole ≡ endAt b i
-unfolding endAt
-author-whole b i q e = rw (author-next b i q e .rest)
+module _ (b : List ℕ) (i : ℕ) where
+  -- a parent just where a parent line stands, with its id
+  here-parent : isParent (tokenAt idBytes b (here i ParentLines) .token) ≡ parentAt idBytes b i .good
+  unfolding tokenAt lineAt lineIn parentAt
+  here-parent = go (idLine idBytes parentWord (drop i b)) (authorLine (drop i b))
+    where
+      go : (o : Option (Id × List ℕ)) (p : Option (List ℕ)) → isParent (tokenOf b (here i ParentLines) (parentTold o (authorTold p)) .token) ≡ idRead o .good
+      go none none = is-missing b i .parent
+      go none (some r) = refl
+      go (some t) p = refl
 
-pub author-unreadable : (b : List ℕ) (i : ℕ) → lineRead b (authorLine (drop i b)) ≡ Bad → Unreadable ≡ endAt b i
-unfolding endAt
-author-unreadable b i e = rw (author-bad b i e)
+  here-id : tokenAt idBytes b (here i ParentLines) .id .bytes ≡ parentAt idBytes b i .id .bytes
+  unfolding tokenAt lineAt lineIn parentAt
+  here-id = go (idLine idBytes parentWord (drop i b)) (authorLine (drop i b))
+    where
+      go : (o : Option (Id × List ℕ)) (p : Option (List ℕ)) → tokenOf b (here i ParentLines) (parentTold o (authorTold p)) .id .bytes ≡ idRead o .id .bytes
+      go none none = refl
+      go none (some r) = refl
+      go (some t) p = refl
+
+  -- no parent: the author line decides
+  here-end : isParent (tokenAt idBytes b (here i ParentLines) .token) ≡ false → endAt b i ≡ pick (isAuthor (tokenAt idBytes b (here i ParentLines) .token)) Whole Unreadable
+  unfolding tokenAt lineAt lineIn endAt
+  here-end = go (idLine idBytes parentWord (drop i b)) (authorLine (drop i b))
+    where
+      go : (o : Option (Id × List ℕ)) (p : Option (List ℕ)) → isParent (tokenOf b (here i ParentLines) (parentTold o (authorTold p)) .token) ≡ false
+          → pick (isSome p) Whole Unreadable ≡ pick (isAuthor (tokenOf b (here i ParentLines) (parentTold o (authorTold p)) .token)) Whole Unreadable
+      go none none n = ap (λ (t : Bool). pick t Whole Unreadable) (sym (is-missing b i .author))
+      go none (some r) n = refl
+      go (some t) p n = clash refl n
 
 -- ---- the step at a place
+
+pub counted-more : (k : ℕ) → k < most → parentStep ≡ countedStep k
+unfolding countedStep
+counted-more k h = rw (lt-ltb k most h)
+
+pub counted-crowd : (k : ℕ) {r : BodyStep} → most ≤ k → r ≡ endStep Crowded → r ≡ countedStep k
+unfolding countedStep
+counted-crowd k h f = rw (le-ltb k most h) f
 
 -- the place of a parent past the 257th stands for none
 pub step-far : (b : List ℕ) (k : ℕ) {r : BodyStep} → most < k → r ≡ endStep Crowded → r ≡ stepAt b k
 unfolding stepAt
 step-far b k h f = rw (lt-ltb most k h) f
 
-module _ (b : List ℕ) (k : ℕ) {r : Bool} (read : r ≡ parentAt b (parentPlace k) .good) (near : k ≤ most) where
-  pub step-end : {e : BodyEnd} {s : BodyStep} → r ≡ false → e ≡ endAt b (parentPlace k) → s ≡ endStep e → s ≡ stepAt b k
+module _ (b : List ℕ) (k : ℕ) (near : k ≤ most) where
+  step-parent : parentAt idBytes b (parentPlace k) .good ≡ true → stepAt b k ≡ countedStep k
   unfolding stepAt
-  step-end n e f = rw (le-ltb most k near, sym read ∙ n) (f ∙ ap endStep e)
+  step-parent g = rw (le-ltb most k near, g)
 
-  pub step-crowd : {s : BodyStep} → r ≡ true → k ≡ most → s ≡ endStep Crowded → s ≡ stepAt b k
+  step-end : parentAt idBytes b (parentPlace k) .good ≡ false → stepAt b k ≡ endStep (endAt b (parentPlace k))
   unfolding stepAt
-  step-crowd t m f = rw (le-ltb most k near, sym read ∙ t, le-ltb k most (omega (arith, m))) f
+  step-end g = rw (le-ltb most k near, g)
 
-  pub step-parent : r ≡ true → k < most → parentStep ≡ stepAt b k
-  unfolding stepAt
-  step-parent t h = rw (le-ltb most k near, sym read ∙ t, lt-ltb k most h) refl
+  module _ {t : TokenRead} (read : t ≡ tokenAt idBytes b (parentsPlace idBytes k)) where
+    placed : t ≡ tokenAt idBytes b (here (parentPlace k) ParentLines)
+    placed = read ∙ ap (tokenAt idBytes b) (place-few idBytes k (omega arith) near)
+
+    is-parent : isParent (t .token) ≡ parentAt idBytes b (parentPlace k) .good
+    is-parent = ap (λ (r : TokenRead). isParent (r .token)) placed ∙ here-parent b (parentPlace k)
+
+    ends : isParent (t .token) ≡ false → stepAt b k ≡ endStep (pick (isAuthor (t .token)) Whole Unreadable)
+    ends n =
+        step-end (sym is-parent ∙ n)
+        ∙ ap endStep (here-end b (parentPlace k) (sym (ap (λ (r : TokenRead). isParent (r .token)) placed) ∙ n) ∙ sym (ap (λ (r : TokenRead). pick (isAuthor (r .token)) Whole Unreadable) placed))
+
+    pub by-parent : {s : BodyStep} → t .token ≡ Parent → s ≡ countedStep k → s ≡ stepAt b k
+    by-parent e f = f ∙ sym (step-parent (sym is-parent ∙ ap isParent e))
+
+    pub by-author : {s : BodyStep} → t .token ≡ Author → s ≡ endStep Whole → s ≡ stepAt b k
+    by-author e f = f ∙ sym (ends (ap isParent e) ∙ ap (λ (u : Token). endStep (pick (isAuthor u) Whole Unreadable)) e)
+
+    pub by-neither : {s : BodyStep} → (isParent (t .token) ≡ false) × (isAuthor (t .token) ≡ false) → s ≡ endStep Unreadable → s ≡ stepAt b k
+    by-neither n f = f ∙ sym (ends (n .0) ∙ ap (λ (u : Bool). endStep (pick u Whole Unreadable)) (n .1))
 
 -- the id at a place
-pub id-near : (b : List ℕ) (k : ℕ) {r : ParentLine} → k < most → r ≡ parentAt b (parentPlace k) → r .id .bytes ≡ parentIdAt b k
+id-here : (b : List ℕ) (k : ℕ) → k < most → parentIdAt b k ≡ parentAt idBytes b (parentPlace k) .id .bytes
 unfolding parentIdAt
-id-near b k h read = rw (lt-ltb k most h) (ap (λ (q : ParentLine). q .id .bytes) read)
+id-here b k h = rw (lt-ltb k most h)
 
-pub id-far : (b : List ℕ) (k : ℕ) {r : Id} → most ≤ k → r ≡ noId → r ≡ parentIdAt b k
+pub id-near : (b : List ℕ) (k : ℕ) {t : TokenRead} → k < most → t ≡ tokenAt idBytes b (parentsPlace idBytes k) → t .id .bytes ≡ parentIdAt b k
+id-near b k h read =
+    let near : k ≤ most = omega arith in
+    ap (λ (r : TokenRead). r .id .bytes) (placed b k near read) ∙ here-id b (parentPlace k) ∙ sym (id-here b k h)
+
+pub id-far : (b : List ℕ) (k : ℕ) {r : Id} → most ≤ k → r ≡ noBytes → r ≡ parentIdAt b k
 unfolding parentIdAt
 id-far b k h e = rw (le-ltb k most h) e
 
@@ -87,35 +147,37 @@ unfolding endOf
 end-crowded h e = rw e
 
 -- no parent line stands after the last: the author line decides
-end-author : (b : List ℕ) (k : ℕ) → header b .tree ≡ true → k ≡ length (header b .ids) → header b .crowded ≡ false → endOf (header b) ≡ endAt b (parentPlace k)
+end-author : (b : List ℕ) (k : ℕ) → header idBytes b .tree ≡ true → k ≡ length (header idBytes b .ids) → header idBytes b .crowded ≡ false → endOf (header idBytes b) ≡ endAt b (parentPlace k)
 unfolding endOf endAt
 end-author b k g m e =
-    ap (λ (t : Bool). pick t Crowded (pick (header b .author) Whole Unreadable)) e
-    ∙ ap (λ (t : Bool). pick t Whole Unreadable) (header-lines b g .author)
-    ∙ ap (λ (j : ℕ). pick (isSome (authorLine (drop (46 + 48 * j) b))) Whole Unreadable) (sym m)
+    ap (λ (t : Bool). pick t Crowded (pick (header idBytes b .author) Whole Unreadable)) e
+    ∙ ap (λ (t : Bool). pick t Whole Unreadable) (header-lines idBytes b g .author)
+    ∙ ap (λ (j : ℕ). pick (isSome (authorLine (drop (parentPlace j) b))) Whole Unreadable) (sym m)
 
-pub step-right : (b : List ℕ) (k : ℕ) → header b .tree ≡ true → k ≤ length (header b .ids) → stepAt b k ≡ stepOf (header b) k
-step-right b k g l = byCases (parentAt b (parentPlace k) .good) line (λ n.
-    let w = parent-stop b g k l refl n in
-    sym (step-end b k refl near n refl refl) ∙ ap endStep (sym (end-author b k g (w .0) (w .1))) ∙ sym (last-step (header b) k (w .0)))
+pub step-right : (b : List ℕ) (k : ℕ) → header idBytes b .tree ≡ true → k ≤ length (header idBytes b .ids) → stepAt b k ≡ stepOf (header idBytes b) k
+step-right b k g l = byCases (parentAt idBytes b (parentPlace k) .good) line (λ n.
+    let w = parent-stop idBytes b g k l refl n in
+    step-end b k near n ∙ ap endStep (sym (end-author b k g (w .0) (w .1))) ∙ sym (last-step (header idBytes b) k (w .0)))
   where
     near : k ≤ most
-    near = omega (arith, l, header-lines b g .few)
+    near = omega (arith, l, header-lines idBytes b g .few)
 
-    line : parentAt b (parentPlace k) .good ≡ true → stepAt b k ≡ stepOf (header b) k
+    line : parentAt idBytes b (parentPlace k) .good ≡ true → stepAt b k ≡ stepOf (header idBytes b) k
     line t =
         byCases (ltb k most)
         (λ e.
         let h = ltb-true k most e in
-        sym (step-parent b k refl near t h) ∙ sym (parent-step (header b) k (parent-taken b g k l refl h t)))
+        step-parent b k near t ∙ sym (counted-more k h) ∙ sym (parent-step (header idBytes b) k (parent-taken idBytes b g k l refl h t)))
         (λ e.
         let m : k ≡ most = omega (arith, near, ltb-false k most e) in
-        let w = parent-crowd b g k l refl (omega (arith, m)) t in
-        sym (step-crowd b k refl near t m refl) ∙ ap endStep (sym (end-crowded (header b) (w .1))) ∙ sym (last-step (header b) k (w .0)))
+        let w = parent-crowd idBytes b g k l refl (omega (arith, m)) t in
+        step-parent b k near t ∙ sym (counted-crowd k (omega (arith, m)) refl) ∙ ap endStep (sym (end-crowded (header idBytes b) (w .1))) ∙ sym (last-step (header idBytes b) k (w .0)))
 
-pub parent-right : (b : List ℕ) (k : ℕ) → header b .tree ≡ true → k < length (header b .ids) → parentIdAt b k ≡ getD (header b .ids) k []
+-- the id of a parent stands in its value
+pub parent-right : (b : List ℕ) (k : ℕ) → header idBytes b .tree ≡ true → k < length (header idBytes b .ids) → idIn idBytes (parentIdAt b k) ≡ getD (header idBytes b .ids) k []
 parent-right b k g l =
-    sym (id-near b k (omega (arith, l, header-lines b g .few)) refl) ∙ ap (λ (q : ParentLine). q .id .bytes) (parent-read b g k l)
+    ap (idIn idBytes) (id-here b k (omega (arith, l, header-lines idBytes b g .few)) ∙ ap (λ (q : ParentLine). q .id .bytes) (parent-read idBytes b g k l))
+    ∙ id-in idBytes (getD (header idBytes b .ids) k []) (parent-width idBytes b g k l) (omega arith)
 
 -- ---- what a step tells who goes by it
 

@@ -29,21 +29,21 @@ use Rattle.commit.specs.declared.Cache.{Cache}
 use Rattle.commit.specs.declared.Either.{Either}
 use Rattle.commit.specs.declared.Either.the-variants.{CachedCommit, CommitRefIter, Absent}
 use Rattle.walk.specs.Lookup.{World, Row as ModelRow, corrupt, row, rowAt, Pair, noGeneration, Read, fail, good, fromStore, readRow, read}
-use Rattle.walk.specs.Given.{noId}
 use Rattle.walk.specs.declared.Refusal.{Refusal}
 use Rattle.walk.specs.declared.Refusal.the-variants.{CommitNotFound, CommitUnreadable, TooManyParents}
 use Rattle.reading.specs.Files.{layoutUnder, worldUnder}
-use Rattle.object.specs.Ids.{padded}
-use Rattle.reading.specs.Row.{GivesRowParent}
-use Rattle.reading.specs.Body.{parentIdAt}
+use Rattle.object.specs.Ids.{padded, idIn}
+use Rattle.reading.specs.Row.{rowParent}
+use Rattle.reading.specs.Body.{noBytes, parentIdAt}
 use Rattle.reading.specs.Whole.{pairIn, rowCommit, bodyCommit, Tells, Names, IsRead, parentCount, commitAt, ReadsCommit, ParentAt, GivesParent}
 use Rattle.reading.specs.declared.Commit.{Commit}
 use Rattle.reading.specs.declared.Commit.the-variants.{Row, Body, Failed}
 use Rattle.walk.specs.declared.GenThenTime.{GenThenTime}
-use Rattle.object.proofs.IdBytes.{padded-id}
+use Rattle.object.proofs.IdBytes.{id-in}
 use Rattle.reading.proofs.World.{RowFound, found-row, found-body, found-absent}
 use Rattle.reading.proofs.Rows.{parentAt, list-good, list-broken, list-few, row-width, row-parent-right}
 use Rattle.reading.proofs.Lines.{parent-right}
+use Rattle.hash.specs.Bytes.{idBytes}
 
 -- ---- a row
 
@@ -59,11 +59,11 @@ row-good p {n} {v} {t} w o e f k =
 pub row-bad : (p : ℕ) (w : GenThenTime) (o : Option (List ℕ)) → Corrupt ≡ parentListOf o → Failed CommitUnreadable ≡ rowCommit p w o
 row-bad p w o e = ap (rowCommit p w) (sym (list-broken o e))
 
-tells-row : (w : World) (x : Id) (g : List ℕ) (p : ℕ) → Tells (rowCommit p (pairIn g (layoutOf g) p) (graphParents g p)) (readRow w x (rowAt g p))
+tells-row : (w : World) (x : Id) (g : List ℕ) (p : ℕ) → Tells (rowCommit p (pairIn g (layoutOf g) p) (graphParents idBytes g p)) (readRow w x (rowAt g p))
 unfolding rowAt readRow generation graphSeconds
-tells-row w x g p = go (graphParents g p) refl
+tells-row w x g p = go (graphParents idBytes g p) refl
   where
-    go : (o : Option (List ℕ)) → graphParents g p ≡ o → Tells (rowCommit p (pairIn g (layoutOf g) p) o) (readRow w x (rowAt g p))
+    go : (o : Option (List ℕ)) → graphParents idBytes g p ≡ o → Tells (rowCommit p (pairIn g (layoutOf g) p) o) (readRow w x (rowAt g p))
     go none k = rw k
     go (some qs) k = record {
       parents = map (λ q. q .0) (map (parentAt g) qs);
@@ -71,26 +71,26 @@ tells-row w x g p = go (graphParents g p) refl
       count = sym (length-map (map (parentAt g) qs) (λ q. q .0) ∙ length-map qs (parentAt g));
     }
 
-names-row : (p : ℕ) (w : GenThenTime) (o : Option (List ℕ)) {e : Either} → e ≡ CachedCommit p → Names (rowCommit p w o) e
-names-row p w none f = tt
-names-row p w (some qs) f = f
+names-row : (p a b : ℕ) (w : GenThenTime) (o : Option (List ℕ)) {e : Either} → e ≡ CachedCommit p a b → Names (rowCommit p w o) e
+names-row p a b w none f = tt
+names-row p a b w (some qs) f = (a, b, f)
 
 -- a row that was found
-row-is-read : {c : Cache} {g s : List ℕ} {x : Id} (p : ℕ) → GoodCache c g → foundIn c g s x ≡ CachedCommit p → IsRead c g s x (commitAt c g s (CachedCommit p))
+row-is-read : {c : Cache} {g s : List ℕ} {x : Id} (p a b : ℕ) → GoodCache idBytes c g → foundIn idBytes c g s x ≡ CachedCommit p a b → IsRead c g s x (commitAt c g s (CachedCommit p a b))
 unfolding read graphParents
-row-is-read {c} {g} {s} {x} p t f =
-    let r : RowFound c g s x p = found-row c g s x p t f in
-    subst (λ (l : Layout). IsRead c g s x (rowCommit p (pairIn g l p) (parentsIn g l p))) (sym (r .layout))
+row-is-read {c} {g} {s} {x} p a b t f =
+    let r : RowFound c g s x p = found-row c g s x p a b t f in
+    subst (λ (l : Layout). IsRead c g s x (rowCommit p (pairIn g l p) (parentsIn idBytes g l p))) (sym (r .layout))
     (record {
-      tells = subst (λ (d : ModelRow). Tells (rowCommit p (pairIn g (layoutOf g) p) (graphParents g p)) (readRow (worldUnder c g s) x d)) (sym (r .says)) (tells-row (worldUnder c g s) x g p);
-      names = names-row p (pairIn g (layoutOf g) p) (graphParents g p) f;
+      tells = subst (λ (d : ModelRow). Tells (rowCommit p (pairIn g (layoutOf g) p) (graphParents idBytes g p)) (readRow (worldUnder c g s) x d)) (sym (r .says)) (tells-row (worldUnder c g s) x g p);
+      names = names-row p a b (pairIn g (layoutOf g) p) (graphParents idBytes g p) f;
     })
 
 -- ---- a body
 
 -- a reading q of a body's header
-pub body-commit : (a e : ℕ) {q : Reading} {b d : List ℕ} → q ≡ readingOf (header b) → b ≡ d → bodyCommit a e q ≡ bodyCommit a e (readingOf (header d))
-body-commit a e p f = ap (bodyCommit a e) (p ∙ ap (λ (c : List ℕ). readingOf (header c)) f)
+pub body-commit : (a e : ℕ) {q : Reading} {b d : List ℕ} → q ≡ readingOf (header idBytes b) → b ≡ d → bodyCommit a e q ≡ bodyCommit a e (readingOf (header idBytes d))
+body-commit a e p f = ap (bodyCommit a e) (p ∙ ap (λ (c : List ℕ). readingOf (header idBytes c)) f)
 
 -- the commit m of the body from a to e, whose header reads as d and has n parents
 record BodyTold (a e n : ℕ) (d : Read) (m : Commit) : Type 0 where
@@ -124,36 +124,36 @@ body-told a e h = go (h .tree) (h .crowded) (h .author) (h .seconds)
     }
 
 -- a header has at most 256 parents
-pub header-few : (b : List ℕ) → length (header b .ids) ≤ most
+pub header-few : (b : List ℕ) → length (header idBytes b .ids) ≤ most
 header-few b =
-    byCases (header b .tree)
-    (λ g. header-lines b g .few)
-    (λ g. let n : length (header b .ids) ≡ 0 = ap (λ (h : Header). length (h .ids)) (no-header b g) in omega arith)
+    byCases (header idBytes b .tree)
+    (λ g. header-lines idBytes b g .few)
+    (λ g. let n : length (header idBytes b .ids) ≡ 0 = ap (λ (h : Header). length (h .ids)) (no-header idBytes b g) in omega arith)
 
 -- a body that was found
-body-is-read : {c : Cache} {g s : List ℕ} {x : Id} (a e : ℕ) → storeOk s ≡ true → foundIn c g s x ≡ CommitRefIter a e → IsRead c g s x (commitAt c g s (CommitRefIter a e))
+body-is-read : {c : Cache} {g s : List ℕ} {x : Id} (a e : ℕ) → storeOk idBytes s ≡ true → foundIn idBytes c g s x ≡ CommitRefIter a e → IsRead c g s x (commitAt c g s (CommitRefIter a e))
 unfolding read readRow
 body-is-read {c} {g} {s} {x} a e ok f =
     let r = found-body c g s x a e ok f in
-    let b = body-told a e (header (partOf s (BodyAt a e))) in
-    record { tells = rw (r .0, r .1) (b .tells); names = b .names (foundIn c g s x) f }
+    let b = body-told a e (header idBytes (partOf s (BodyAt a e))) in
+    record { tells = rw (r .0, r .1) (b .tells); names = b .names (foundIn idBytes c g s x) f }
 
 -- neither
-none-is-read : {c : Cache} {g s : List ℕ} {x : Id} → foundIn c g s x ≡ Absent → IsRead c g s x (Failed CommitNotFound)
+none-is-read : {c : Cache} {g s : List ℕ} {x : Id} → foundIn idBytes c g s x ≡ Absent → IsRead c g s x (Failed CommitNotFound)
 unfolding read readRow fromStore
 none-is-read {c} {g} {s} {x} f = let r = found-absent c g s x f in record { tells = rw (r .0, r .1); names = tt }
 
 -- ---- what `find` found, read
 
-pub reads-found : {c : Cache} {g s : List ℕ} {x : Id} {e : Either} {r : Commit} (f : Either) → FindsCommit c g s x e → e ≡ f → r ≡ commitAt c g s f → ReadsCommit c g s x r
-reads-found {c} {g} {s} {x} f k i e = record { found = f; finds = subst (FindsCommit c g s x) i k; is = e }
+pub reads-found : {c : Cache} {g s : List ℕ} {x : Id} {e : Either} {r : Commit} (f : Either) → FindsCommit idBytes c g s x e → e ≡ f → r ≡ commitAt c g s f → ReadsCommit c g s x r
+reads-found {c} {g} {s} {x} f k i e = record { found = f; finds = subst (FindsCommit idBytes c g s x) i k; is = e }
 
 -- in good files it is what the walk's world has
-pub commit-right : {c : Cache} {g s : List ℕ} {x : Id} {r : Commit} → ReadsCommit c g s x r → storeOk s ≡ true → GoodCache c g → IsRead c g s x r
+pub commit-right : {c : Cache} {g s : List ℕ} {x : Id} {r : Commit} → ReadsCommit c g s x r → storeOk idBytes s ≡ true → GoodCache idBytes c g → IsRead c g s x r
 commit-right {c} {g} {s} {x} {r} k ok t = subst (IsRead c g s x) (sym (k .is)) (go (k .found) (sym (k .finds .good ok t)))
   where
-    go : (f : Either) → foundIn c g s x ≡ f → IsRead c g s x (commitAt c g s f)
-    go (CachedCommit p) e = row-is-read p t e
+    go : (f : Either) → foundIn idBytes c g s x ≡ f → IsRead c g s x (commitAt c g s f)
+    go (CachedCommit p a b) e = row-is-read p a b t e
     go (CommitRefIter a b) e = body-is-read a b ok e
     go Absent e = none-is-read e
 
@@ -162,8 +162,8 @@ pub commit-few : {c : Cache} {g s : List ℕ} {x : Id} {r : Commit} → ReadsCom
 commit-few {c} {g} {s} {x} {r} k = subst (λ (m : Commit). parentCount m ≤ most) (sym (k .is)) (go (k .found))
   where
     go : (f : Either) → parentCount (commitAt c g s f) ≤ most
-    go (CachedCommit p) = list-few g (layoutUnder c) p (λ o. parentCount (rowCommit p (pairIn g (layoutUnder c) p) o)) refl (λ ps. refl)
-    go (CommitRefIter a b) = omega (arith, body-told a b (header (partOf s (BodyAt a b))) .few, header-few (partOf s (BodyAt a b)))
+    go (CachedCommit p a b) = list-few g (layoutUnder c) p (λ o. parentCount (rowCommit p (pairIn g (layoutUnder c) p) o)) refl (λ ps. refl)
+    go (CommitRefIter a b) = omega (arith, body-told a b (header idBytes (partOf s (BodyAt a b))) .few, header-few (partOf s (BodyAt a b)))
     go Absent = omega arith
 
 -- ---- a parent
@@ -172,13 +172,13 @@ commit-few {c} {g} {s} {x} {r} k = subst (λ (m : Commit). parentCount m ≤ mos
 from-row : (w : World) (x : Id) (g : List ℕ) (p : ℕ) (ps : List Id) (q : Pair) → readRow w x (rowAt g p) ≡ good ps q
     → (qs : List (Id × ℤ)) × (v : ℕ) × (t : ℤ) × (rowAt g p ≡ row qs v t) × (ps ≡ map (λ a. a .0) qs)
 unfolding rowAt readRow
-from-row w x g p ps q e = go (graphParents g p) refl e
+from-row w x g p ps q e = go (graphParents idBytes g p) refl e
   where
-    go : (o : Option (List ℕ)) → graphParents g p ≡ o
-        → readRow w x (ifSome o corrupt (λ qs. row (map (parentAt g) qs) (generation g p) (graphSeconds g p))) ≡ good ps q
+    go : (o : Option (List ℕ)) → graphParents idBytes g p ≡ o
+        → readRow w x (ifSome o corrupt (λ qs. row (map (parentAt g) qs) (generation idBytes g p) (graphSeconds idBytes g p))) ≡ good ps q
         → (qs : List (Id × ℤ)) × (v : ℕ) × (t : ℤ) × (rowAt g p ≡ row qs v t) × (ps ≡ map (λ a. a .0) qs)
     go none k e′ = let z : _≡_ {A = ℕ} 0 1 = cc in absurd (omega arith)
-    go (some qs) k e′ = (map (parentAt g) qs, generation g p, graphSeconds g p, rw k, cc)
+    go (some qs) k e′ = (map (parentAt g) qs, generation idBytes g p, graphSeconds idBytes g p, rw k, cc)
 
 from-body : (h : Header) (ps : List Id) (q : Pair) → fromStore (some h) ≡ good ps q → (h .tree ≡ true) × (h .ids ≡ ps)
 unfolding fromStore
@@ -196,44 +196,45 @@ from-body h ps q e = go (h .tree) (h .crowded) (h .author) (h .seconds) refl e
     go true false true none k f = let z : _≡_ {A = ℕ} 0 1 = cc in absurd (omega arith)
     go true false true (some s) k f = (k, cc)
 
-pub parent-of-row : {c : Cache} {g s : List ℕ} {k : ℕ} {y : Id} {r : ObjectId} {l : Layout} (p n : ℕ) (v : GenThenTime) → l ≡ layoutUnder c → GivesRowParent g l p k y → r .bytes ≡ padded y
+pub parent-of-row : {c : Cache} {g s : List ℕ} {k : ℕ} {y : Id} {r : ObjectId} {l : Layout} (p n : ℕ) (v : GenThenTime) → l ≡ layoutUnder c → y ≡ rowParent g l p k → r .bytes ≡ padded y
     → GivesParent c g s (Row p n v) k r
-parent-of-row {c} {g} {s} {k} {y} p n v own give e = record { is = (y, subst (λ (m : Layout). GivesRowParent g m p k y) own give, e) }
+parent-of-row {g = g} {k = k} p n v own give e = record { is = e ∙ ap padded (give ∙ ap (λ (m : Layout). rowParent g m p k) own) }
 
 pub parent-of-body : {c : Cache} {g s : List ℕ} {k : ℕ} {b : List ℕ} {r : ObjectId} (a e n : ℕ) (v : GenThenTime) → b ≡ partOf s (BodyAt a e) → r .bytes ≡ parentIdAt b k
     → GivesParent c g s (Body a e n v) k r
 parent-of-body {k = k} a e n v same give = record { is = give ∙ ap (λ (d : List ℕ). parentIdAt d k) same }
 
-pub parent-of-failed : {c : Cache} {g s : List ℕ} {k : ℕ} {r : ObjectId} (n : Refusal) → r .bytes ≡ noId → GivesParent c g s (Failed n) k r
+pub parent-of-failed : {c : Cache} {g s : List ℕ} {k : ℕ} {r : ObjectId} (n : Refusal) → r .bytes ≡ noBytes → GivesParent c g s (Failed n) k r
 parent-of-failed n e = record { is = e }
 
--- in good files: of a row, its id by value is the part of the file, since that has 20 bytes
-row-parent-at : (c : Cache) (g s : List ℕ) (k : ℕ) (x : Id) {y z : Id} (p : ℕ) → GoodCache c g → foundIn c g s x ≡ CachedCommit p → GivesRowParent g (layoutUnder c) p k y → z ≡ padded y
-    → (ps : List Id) (q : Pair) → read (worldUnder c g s) x ≡ good ps q → k < length ps → z ≡ getD ps k []
+-- in good files: of a row, the id in its value is the part of the file, since that has an id's width
+row-parent-at : (c : Cache) (g s : List ℕ) (k : ℕ) (x : Id) {z : Id} (p a b : ℕ) → GoodCache idBytes c g → foundIn idBytes c g s x ≡ CachedCommit p a b → z ≡ padded (rowParent g (layoutUnder c) p k)
+    → (ps : List Id) (q : Pair) → read (worldUnder c g s) x ≡ good ps q → k < length ps → idIn idBytes z ≡ getD ps k []
 unfolding read
-row-parent-at c g s k x {y} {z} p t names give e ps q f h =
+row-parent-at c g s k x p a b t names e ps q f h =
     let w : World = worldUnder c g s in
-    let found : RowFound c g s x p = found-row c g s x p t names in
+    let y : Id = rowParent g (layoutUnder c) p k in
+    let found : RowFound c g s x p = found-row c g s x p a b t names in
     let parts = from-row w x g p ps q (ap (readRow w x) (sym (found .says)) ∙ f) in
     let m : k < length (parts .0) = omega (arith, ap length (parts .4), length-map (parts .0) (λ (a : Id × ℤ). a .0)) in
-    let here : y ≡ getD (parts .0) k ([], pos 0) .0 = row-parent-right give (found .layout) (parts .0) (parts .1) (parts .2) (parts .3) m in
+    let here : y ≡ getD (parts .0) k ([], pos 0) .0 = row-parent-right g p k (found .layout) (parts .0) (parts .1) (parts .2) (parts .3) m in
     let wide = row-width g p (parts .0) (parts .1) (parts .2) (parts .3) (found .file) k m in
-    e ∙ padded-id y (ap length here ∙ wide) ∙ here ∙ sym (List·getD-map (λ (a : Id × ℤ). a .0) (parts .0) k ([], pos 0))
+    ap (idIn idBytes) e ∙ id-in idBytes y (ap length here ∙ wide) (omega arith) ∙ here ∙ sym (List·getD-map (λ (a : Id × ℤ). a .0) (parts .0) k ([], pos 0))
     ∙ ap (λ (l : List Id). getD l k []) (sym (parts .4))
 
-body-parent-at : (c : Cache) (g s : List ℕ) (k : ℕ) (x : Id) {z : Id} (a e : ℕ) → storeOk s ≡ true → foundIn c g s x ≡ CommitRefIter a e → z ≡ parentIdAt (partOf s (BodyAt a e)) k
-    → (ps : List Id) (q : Pair) → read (worldUnder c g s) x ≡ good ps q → k < length ps → z ≡ getD ps k []
+body-parent-at : (c : Cache) (g s : List ℕ) (k : ℕ) (x : Id) {z : Id} (a e : ℕ) → storeOk idBytes s ≡ true → foundIn idBytes c g s x ≡ CommitRefIter a e → z ≡ parentIdAt (partOf s (BodyAt a e)) k
+    → (ps : List Id) (q : Pair) → read (worldUnder c g s) x ≡ good ps q → k < length ps → idIn idBytes z ≡ getD ps k []
 unfolding read readRow
 body-parent-at c g s k x a e ok names give ps q f h =
     let found = found-body c g s x a e ok names in
-    let parts = from-body (header (partOf s (BodyAt a e))) ps q (rw (found .0, found .1) at f) in
-    give ∙ parent-right (partOf s (BodyAt a e)) k (parts .0) (omega (arith, ap length (parts .1))) ∙ ap (λ (l : List Id). getD l k []) (parts .1)
+    let parts = from-body (header idBytes (partOf s (BodyAt a e))) ps q (rw (found .0, found .1) at f) in
+    ap (idIn idBytes) give ∙ parent-right (partOf s (BodyAt a e)) k (parts .0) (omega (arith, ap length (parts .1))) ∙ ap (λ (l : List Id). getD l k []) (parts .1)
 
-pub commit-parent-right : {c : Cache} {g s : List ℕ} {m : Commit} {k : ℕ} {r : ObjectId} → GivesParent c g s m k r → storeOk s ≡ true → GoodCache c g → (x : Id) → IsRead c g s x m
-    → (ps : List Id) (q : Pair) → read (worldUnder c g s) x ≡ good ps q → k < length ps → r .bytes ≡ getD ps k []
+pub commit-parent-right : {c : Cache} {g s : List ℕ} {m : Commit} {k : ℕ} {r : ObjectId} → GivesParent c g s m k r → storeOk idBytes s ≡ true → GoodCache idBytes c g → (x : Id) → IsRead c g s x m
+    → (ps : List Id) (q : Pair) → read (worldUnder c g s) x ≡ good ps q → k < length ps → idIn idBytes (r .bytes) ≡ getD ps k []
 commit-parent-right {c} {g} {s} {m} {k} {r} v ok t x is ps q f h = go m (v .is) is
   where
-    go : (m : Commit) → ParentAt c g s m k (r .bytes) → IsRead c g s x m → r .bytes ≡ getD ps k []
-    go (Row p n w) a i = row-parent-at c g s k x p t (i .names) (a .1) (a .2) ps q f h
+    go : (m : Commit) → ParentAt c g s m k (r .bytes) → IsRead c g s x m → idIn idBytes (r .bytes) ≡ getD ps k []
+    go (Row p n w) a i = row-parent-at c g s k x p (i .names .0) (i .names .1) t (i .names .2) a ps q f h
     go (Body b e n w) a i = body-parent-at c g s k x b e ok (i .names) a ps q f h
     go (Failed n) a i = let j = sym (i .tells) ∙ f in let z : _≡_ {A = ℕ} 0 1 = cc in absurd (omega arith)

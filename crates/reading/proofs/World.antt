@@ -10,14 +10,14 @@ use lib.ListN.{length}
 use Rattle.hash.specs.Bytes.{Id, at, ifSome}
 use Rattle.object.specs.Header.{header}
 use Rattle.odb.specs.Store.{storeOk, bodyStart, bodyEnd, body, findEntry, storeFind}
-use Rattle.odb.specs.Lookup.{Locates, locatedOf, partOf}
+use Rattle.odb.specs.Lookup.{Locates, locatedOf, optionOf, TriesFind, partOf}
 use Rattle.odb.specs.declared.Located.{Located}
 use Rattle.odb.specs.declared.Located.the-variants.{Body, Absent as Nowhere}
 use Rattle.odb.proofs.Bodies.{start-end, end-within}
 use Rattle.odb.proofs.Entries.{entry-hit}
 use Rattle.odb.proofs.Lookup.{partOf-yes}
-use Rattle.commitgraph.specs.Graph.{graphOk, layoutOf}
-use Rattle.commit.specs.Find.{GoodCache, rowOf, inStore, foundIn}
+use Rattle.commitgraph.specs.Graph.{graphOk, layoutOf, rowStart, rowEnd}
+use Rattle.commit.specs.Find.{GoodCache, rowOf, inGraph, inStore, foundIn}
 use Rattle.commit.specs.declared.Cache.{Cache}
 use Rattle.commit.specs.declared.Cache.the-variants.{Graph, NoGraph}
 use Rattle.commit.specs.declared.Either.{Either}
@@ -26,6 +26,7 @@ use Rattle.walk.specs.Lookup.{no-row, rowAt, worldOf}
 use Rattle.walk.specs.State.{isEmpty}
 use Rattle.walk.proofs.Rows.{find-nil}
 use Rattle.reading.specs.Files.{cacheOf, layoutUnder, worldUnder}
+use Rattle.hash.specs.Bytes.{idBytes}
 
 -- ---- the cache
 
@@ -44,7 +45,7 @@ cache-used [] kept h e = absurd (h refl)
 cache-used (x ∷ g) kept h e = rw e
 
 -- an empty or a good file is used well
-pub good-cache : (g : List ℕ) (kept : Bool) → (isEmpty g || graphOk g) ≡ true → GoodCache (cacheOf g kept) g
+pub good-cache : (g : List ℕ) (kept : Bool) → (isEmpty g || graphOk idBytes g) ≡ true → GoodCache idBytes (cacheOf g kept) g
 unfolding cacheOf GoodCache isEmpty
 good-cache g false e = tt
 good-cache [] true e = tt
@@ -73,7 +74,7 @@ unfolding worldUnder
 same-store (Graph l) g s x = refl
 same-store NoGraph g s x = refl
 
-pub graph-under : (c : Cache) (g s : List ℕ) (x : Id) → worldUnder c g s .graph x ≡ ifSome (rowOf c g x) no-row (λ p. rowAt g p)
+pub graph-under : (c : Cache) (g s : List ℕ) (x : Id) → worldUnder c g s .graph x ≡ ifSome (rowOf idBytes c g x) no-row (λ p. rowAt g p)
 unfolding worldUnder worldOf rowOf
 graph-under (Graph l) g s x = refl
 graph-under NoGraph g s x = refl
@@ -81,33 +82,43 @@ graph-under NoGraph g s x = refl
 -- ---- the store
 
 -- a body that the store's lookup names is the body under the id
-pub body-stored : (s : List ℕ) → storeOk s ≡ true → (g : List ℕ) (x : Id) (a e : ℕ) → Body a e ≡ locatedOf s (findEntry s x) → worldOf s g .store x ≡ some (header (partOf s (Body a e)))
+pub body-stored : (s : List ℕ) → storeOk idBytes s ≡ true → (g : List ℕ) (x : Id) (a e : ℕ) → Body a e ≡ locatedOf idBytes s (findEntry idBytes s x) → worldOf s g .store x ≡ some (header idBytes (partOf s (Body a e)))
 unfolding worldOf storeFind body at
-body-stored s ok g x a e f = go (findEntry s x) refl f
+body-stored s ok g x a e f = go (findEntry idBytes s x) refl f
   where
-    go : (o : Option ℕ) → findEntry s x ≡ o → Body a e ≡ locatedOf s o → worldOf s g .store x ≡ some (header (partOf s (Body a e)))
+    go : (o : Option ℕ) → findEntry idBytes s x ≡ o → Body a e ≡ locatedOf idBytes s o → worldOf s g .store x ≡ some (header idBytes (partOf s (Body a e)))
     go none k f′ = let z : _≡_ {A = ℕ} 0 1 = cc in absurd (omega arith)
     go (some j) k f′ =
-        let h = entry-hit s x j k .0 in
-        let u : a ≡ bodyStart s j = cc in
-        let v : e ≡ bodyEnd s j = cc in
-        rw (k, u, v) (ap (λ (b : List ℕ). some (header b)) (partOf-yes s (bodyStart s j) (bodyEnd s j) (start-end s ok j h) (end-within s ok j h)))
+        let h = entry-hit idBytes s x j k .0 in
+        let u : a ≡ bodyStart idBytes s j = cc in
+        let v : e ≡ bodyEnd idBytes s j = cc in
+        rw (k, u, v) (ap (λ (b : List ℕ). some (header idBytes b)) (partOf-yes s (bodyStart idBytes s j) (bodyEnd idBytes s j) (start-end idBytes s ok j h) (end-within idBytes s ok j h)))
 
-pub not-stored : (s g : List ℕ) (x : Id) → Nowhere ≡ locatedOf s (findEntry s x) → worldOf s g .store x ≡ none
+pub not-stored : (s g : List ℕ) (x : Id) → Nowhere ≡ locatedOf idBytes s (findEntry idBytes s x) → worldOf s g .store x ≡ none
 unfolding worldOf storeFind
-not-stored s g x f = go (findEntry s x) refl f
+not-stored s g x f = go (findEntry idBytes s x) refl f
   where
-    go : (o : Option ℕ) → findEntry s x ≡ o → Nowhere ≡ locatedOf s o → worldOf s g .store x ≡ none
+    go : (o : Option ℕ) → findEntry idBytes s x ≡ o → Nowhere ≡ locatedOf idBytes s o → worldOf s g .store x ≡ none
     go none k f′ = rw k
     go (some j) k f′ = let z : _≡_ {A = ℕ} 0 1 = cc in absurd (omega arith)
 
 -- the same of what `locate` answers
-pub located-body : {s : List ℕ} {x : Id} {o : Located} {b : List ℕ} (g : List ℕ) (a e : ℕ) → Locates s x o → o ≡ Body a e → b ≡ partOf s (Body a e) → storeOk s ≡ true
-    → worldOf s g .store x ≡ some (header b)
-located-body {s} {x} g a e l p f ok = body-stored s ok g x a e (sym p ∙ l .good ok) ∙ ap (λ (c : List ℕ). some (header c)) (sym f)
+pub located-body : {s : List ℕ} {x : Id} {o : Located} {b : List ℕ} (g : List ℕ) (a e : ℕ) → Locates idBytes s x o → o ≡ Body a e → b ≡ partOf s (Body a e) → storeOk idBytes s ≡ true
+    → worldOf s g .store x ≡ some (header idBytes b)
+located-body {s} {x} g a e l p f ok = body-stored s ok g x a e (sym p ∙ l .good ok) ∙ ap (λ (c : List ℕ). some (header idBytes c)) (sym f)
 
-pub located-none : {s : List ℕ} {x : Id} {o : Located} (g : List ℕ) → Locates s x o → o ≡ Nowhere → storeOk s ≡ true → worldOf s g .store x ≡ none
+pub located-none : {s : List ℕ} {x : Id} {o : Located} (g : List ℕ) → Locates idBytes s x o → o ≡ Nowhere → storeOk idBytes s ≡ true → worldOf s g .store x ≡ none
 located-none {s} {x} g l p ok = not-stored s g x (sym p ∙ l .good ok)
+
+-- and of what `try_find` answers, the body itself
+module _ {s : List ℕ} {x : Id} {f : Bool} {b : List ℕ} (g : List ℕ) (l : TriesFind idBytes s x f b) where
+  pub tried-body : f ≡ true → storeOk idBytes s ≡ true → worldOf s g .store x ≡ some (header idBytes b)
+  unfolding worldOf
+  tried-body p ok = ap (λ (o : Option (List ℕ)). ifSome o none (λ c. some (header idBytes c))) (sym (l .good ok) ∙ ap (λ (t : Bool). optionOf t b) p)
+
+  pub tried-none : f ≡ false → storeOk idBytes s ≡ true → worldOf s g .store x ≡ none
+  unfolding worldOf
+  tried-none p ok = ap (λ (o : Option (List ℕ)). ifSome o none (λ c. some (header idBytes c))) (sym (l .good ok) ∙ ap (λ (t : Bool). optionOf t b) p)
 
 -- ---- what `find` finds
 
@@ -119,52 +130,52 @@ in-store-absent : (o : Located) → inStore o ≡ Absent → Nowhere ≡ o
 in-store-absent (Body a e) f = let z : _≡_ {A = ℕ} 0 1 = cc in absurd (omega arith)
 in-store-absent Nowhere f = refl
 
-in-store-row : (o : Located) (p : ℕ) → inStore o ≡ CachedCommit p → ⊥
-in-store-row (Body a e) p f = let z : _≡_ {A = ℕ} 0 1 = cc in absurd (omega arith)
-in-store-row Nowhere p f = let z : _≡_ {A = ℕ} 0 1 = cc in absurd (omega arith)
+in-store-row : (o : Located) (p a b : ℕ) → inStore o ≡ CachedCommit p a b → ⊥
+in-store-row (Body d e) p a b f = let z : _≡_ {A = ℕ} 0 1 = cc in absurd (omega arith)
+in-store-row Nowhere p a b f = let z : _≡_ {A = ℕ} 0 1 = cc in absurd (omega arith)
 
 -- a row that was found: the file is a good one, read by its own layout
 pub record RowFound (c : Cache) (g s : List ℕ) (x : Id) (p : ℕ) : Type 0 where
-  pub file : graphOk g ≡ true
+  pub file : graphOk idBytes g ≡ true
   pub layout : layoutUnder c ≡ layoutOf g
   pub says : worldUnder c g s .graph x ≡ rowAt g p
 
-listed : (c : Cache) (g : List ℕ) (x : Id) (p : ℕ) → GoodCache c g → rowOf c g x ≡ some p → (graphOk g ≡ true) × (layoutUnder c ≡ layoutOf g)
+listed : (c : Cache) (g : List ℕ) (x : Id) (p : ℕ) → GoodCache idBytes c g → rowOf idBytes c g x ≡ some p → (graphOk idBytes g ≡ true) × (layoutUnder c ≡ layoutOf g)
 unfolding GoodCache rowOf
 listed (Graph l) g x p t e = t
 listed NoGraph g x p t e = let z : _≡_ {A = ℕ} 0 1 = cc in absurd (omega arith)
 
-pub row-found : (c : Cache) (g s : List ℕ) (x : Id) (p : ℕ) → GoodCache c g → rowOf c g x ≡ some p → RowFound c g s x p
+pub row-found : (c : Cache) (g s : List ℕ) (x : Id) (p : ℕ) → GoodCache idBytes c g → rowOf idBytes c g x ≡ some p → RowFound c g s x p
 row-found c g s x p t e =
     let l = listed c g x p t e in
     record { file = l .0; layout = l .1; says = graph-under c g s x ∙ ap (λ (o : Option ℕ). ifSome o no-row (λ q. rowAt g q)) e }
 
 module _ (c : Cache) (g s : List ℕ) (x : Id) where
-  pub found-row : (p : ℕ) → GoodCache c g → foundIn c g s x ≡ CachedCommit p → RowFound c g s x p
+  pub found-row : (p a b : ℕ) → GoodCache idBytes c g → foundIn idBytes c g s x ≡ CachedCommit p a b → RowFound c g s x p
   unfolding foundIn
-  found-row p t f = row-found c g s x p t (go (rowOf c g x) f)
+  found-row p a b t f = row-found c g s x p t (go (rowOf idBytes c g x) f)
     where
-      go : (o : Option ℕ) → ifSome o (inStore (locatedOf s (findEntry s x))) (λ q. CachedCommit q) ≡ CachedCommit p → o ≡ some p
-      go none f′ = absurd (in-store-row (locatedOf s (findEntry s x)) p f′)
-      go (some q) f′ = cc
+      go : (o : Option ℕ) → ifSome o (inStore (locatedOf idBytes s (findEntry idBytes s x))) (inGraph idBytes g (layoutOf g)) ≡ CachedCommit p a b → o ≡ some p
+      go none f′ = absurd (in-store-row (locatedOf idBytes s (findEntry idBytes s x)) p a b f′)
+      go (some q) f′ = let i : q ≡ p = cc in ap some i
 
   -- no row stands before what the store has
-  past-row : (e : Either) → ((p : ℕ) → CachedCommit p ≡ e → ⊥) → foundIn c g s x ≡ e → (worldUnder c g s .graph x ≡ no-row) × (inStore (locatedOf s (findEntry s x)) ≡ e)
+  past-row : (e : Either) → ((p a b : ℕ) → CachedCommit p a b ≡ e → ⊥) → foundIn idBytes c g s x ≡ e → (worldUnder c g s .graph x ≡ no-row) × (inStore (locatedOf idBytes s (findEntry idBytes s x)) ≡ e)
   unfolding foundIn
-  past-row e n f = go (rowOf c g x) refl f
+  past-row e n f = go (rowOf idBytes c g x) refl f
     where
-      go : (o : Option ℕ) → rowOf c g x ≡ o → ifSome o (inStore (locatedOf s (findEntry s x))) (λ q. CachedCommit q) ≡ e
-          → (worldUnder c g s .graph x ≡ no-row) × (inStore (locatedOf s (findEntry s x)) ≡ e)
+      go : (o : Option ℕ) → rowOf idBytes c g x ≡ o → ifSome o (inStore (locatedOf idBytes s (findEntry idBytes s x))) (inGraph idBytes g (layoutOf g)) ≡ e
+          → (worldUnder c g s .graph x ≡ no-row) × (inStore (locatedOf idBytes s (findEntry idBytes s x)) ≡ e)
       go none k f′ = (graph-under c g s x ∙ ap (λ (o : Option ℕ). ifSome o no-row (λ q. rowAt g q)) k, f′)
-      go (some p) k f′ = absurd (n p f′)
+      go (some p) k f′ = absurd (n p (rowStart idBytes g (layoutOf g) p) (rowEnd idBytes g (layoutOf g) p) f′)
 
-  pub found-body : (a e : ℕ) → storeOk s ≡ true → foundIn c g s x ≡ CommitRefIter a e
-      → (worldUnder c g s .graph x ≡ no-row) × (worldUnder c g s .store x ≡ some (header (partOf s (Body a e))))
+  pub found-body : (a e : ℕ) → storeOk idBytes s ≡ true → foundIn idBytes c g s x ≡ CommitRefIter a e
+      → (worldUnder c g s .graph x ≡ no-row) × (worldUnder c g s .store x ≡ some (header idBytes (partOf s (Body a e))))
   found-body a e ok f =
-      let r = past-row (CommitRefIter a e) (λ p k. let z : _≡_ {A = ℕ} 0 1 = cc in absurd (omega arith)) f in
-      (r .0, same-store c g s x ∙ body-stored s ok g x a e (in-store-body (locatedOf s (findEntry s x)) a e (r .1)))
+      let r = past-row (CommitRefIter a e) (λ p d b k. let z : _≡_ {A = ℕ} 0 1 = cc in absurd (omega arith)) f in
+      (r .0, same-store c g s x ∙ body-stored s ok g x a e (in-store-body (locatedOf idBytes s (findEntry idBytes s x)) a e (r .1)))
 
-  pub found-absent : foundIn c g s x ≡ Absent → (worldUnder c g s .graph x ≡ no-row) × (worldUnder c g s .store x ≡ none)
+  pub found-absent : foundIn idBytes c g s x ≡ Absent → (worldUnder c g s .graph x ≡ no-row) × (worldUnder c g s .store x ≡ none)
   found-absent f =
-      let r = past-row Absent (λ p k. let z : _≡_ {A = ℕ} 0 1 = cc in absurd (omega arith)) f in
-      (r .0, same-store c g s x ∙ not-stored s g x (in-store-absent (locatedOf s (findEntry s x)) (r .1)))
+      let r = past-row Absent (λ p d b k. let z : _≡_ {A = ℕ} 0 1 = cc in absurd (omega arith)) f in
+      (r .0, same-store c g s x ∙ not-stored s g x (in-store-absent (locatedOf idBytes s (findEntry idBytes s x)) (r .1)))

@@ -3,17 +3,18 @@ use Prim.Native.Nat.{ℕ, _+_, _*_}
 use mathlib.Core.Bool.{true, false}
 use mathlib.Core.Option.{Option, none, some}
 use mathlib.Core.List.{List}
-use lib.ListN.{drop}
+use lib.ListN.{drop, replicate}
 use lib.Dec.{ltb}
 use Rattle.hash.specs.Bytes.{Id, pick}
-use Rattle.object.specs.Header.{Header, isSome, authorLine, most}
+use Rattle.object.specs.Header.{Header, treeSize, parentSize, isSome, authorLine, most}
+use Rattle.object.specs.Ids.{idRoom}
 use Rattle.object.specs.Read.{parentAt}
 use Rattle.walk.specs.declared.Refusal.{Refusal}
 use Rattle.walk.specs.declared.Refusal.the-variants.{CommitUnreadable, TooManyParents}
-use Rattle.walk.specs.Given.{noId}
 use Rattle.reading.specs.declared.body.BodyEnd.{BodyEnd}
 use Rattle.reading.specs.declared.body.BodyEnd.the-variants.{Whole, Unreadable, Crowded}
 use Rattle.reading.specs.declared.body.BodyStep.{BodyStep}
+use Rattle.hash.specs.Bytes.{idBytes}
 
 -- the author line at a place ends the reading
 unfoldable pub endAt : List ℕ → ℕ → BodyEnd
@@ -39,16 +40,22 @@ endStep e = record { taken = false; ends = e }
 
 -- the place of parent line k, after the tree line and k parent lines
 abbrev pub parentPlace : ℕ → ℕ
-parentPlace k = 46 + 48 * k
+parentPlace k = treeSize idBytes + parentSize idBytes * k
 
--- what stands at the place of parent line k, on any bytes: a parent line, of which the 257th is one too many, or what ends the reading;
--- past the 257th place nothing is read
+-- a parent line after k others: the 257th is one too many
+unfoldable pub countedStep : ℕ → BodyStep
+countedStep k = pick (ltb k most) parentStep (endStep Crowded)
+
+-- what stands at the place of parent line k, on any bytes: a parent line, or what ends the reading; past the 257th place nothing is read
 unfoldable pub stepAt : List ℕ → ℕ → BodyStep
 stepAt b k =
-    let counted : BodyStep = pick (ltb k most) parentStep (endStep Crowded) in
-    let here : BodyStep = pick (parentAt b (parentPlace k) .good) counted (endStep (endAt b (parentPlace k))) in
+    let here : BodyStep = pick (parentAt idBytes b (parentPlace k) .good) (countedStep k) (endStep (endAt b (parentPlace k))) in
     pick (ltb most k) (endStep Crowded) here
 
--- the id of parent line k, on any bytes: zeros where no parent line stands, and past the 256th
+-- an id by value that is none: zeros
+abbrev pub noBytes : Id
+noBytes = replicate idRoom 0
+
+-- the id of parent line k by value, on any bytes: zeros where no parent line stands, and past the 256th
 unfoldable pub parentIdAt : List ℕ → ℕ → Id
-parentIdAt b k = pick (ltb k most) (parentAt b (parentPlace k) .id .bytes) noId
+parentIdAt b k = pick (ltb k most) (parentAt idBytes b (parentPlace k) .id .bytes) noBytes

@@ -1,6 +1,7 @@
 -- What the store says of a commit's seconds: a tip at the opening, a parent in a next call. Assumes nothing.
 use Prim.Native.Nat.{ℕ}
 use mathlib.Core.Path.{_≡_}
+use mathlib.Core.Bool.{Bool, true, false}
 use mathlib.Core.Option.{Option, none, some}
 use mathlib.Core.List.{List}
 use lib.IntN.{pos}
@@ -10,11 +11,10 @@ use Rattle.object.specs.Header.{Header, secondsOf}
 use Rattle.object.specs.Read.{secondsRead}
 use Rattle.object.specs.declared.SecondsRead.{SecondsRead}
 use Rattle.object.specs.declared.SecondsRead.the-variants.{Good as GoodSeconds, Bad as BadSeconds}
-use Rattle.odb.specs.Lookup.{Locates, partOf}
-use Rattle.odb.specs.declared.Located.{Located}
-use Rattle.odb.specs.declared.Located.the-variants.{Body, Absent}
+use Rattle.odb.specs.Lookup.{TriesFind}
 use Rattle.reading.specs.declared.tip.TipRead.{TipRead}
 use Rattle.reading.specs.declared.tip.TipRead.the-variants.{Good, Missing, Unreadable}
+use Rattle.hash.specs.Bytes.{idBytes}
 
 abbrev pub tipSeconds : SecondsRead → TipRead
 tipSeconds (GoodSeconds s) = Good s
@@ -25,16 +25,17 @@ abbrev pub tipOf : Option Header → TipRead
 tipOf none = Missing
 tipOf (some h) = tipSeconds (secondsRead (h .seconds))
 
--- a tip by what a lookup in the store found, on any bytes
-abbrev pub tipAt : List ℕ → Located → TipRead
-tipAt s (Body a e) = tipSeconds (secondsRead (secondsOf (partOf s (Body a e))))
-tipAt s Absent = Missing
+-- a tip by what a lookup in the store gave, on any bytes: whether a body was found, and the body
+abbrev pub tipIn : Bool → List ℕ → TipRead
+tipIn true b = tipSeconds (secondsRead (secondsOf idBytes b))
+tipIn false b = Missing
 
 -- what `read_tip` answers for the tip x: the lookup's answer, read
 pub record ReadsTip (s : List ℕ) (x : Id) (r : TipRead) : Type 0 where
-  pub found : Located
-  pub located : Locates s x found
-  pub is : r ≡ tipAt s found
+  pub found : Bool
+  pub body : List ℕ
+  pub looked : TriesFind idBytes s x found body
+  pub is : r ≡ tipIn found body
 
 -- "from the book, else they are 0"
 abbrev pub secondsOr0 : TipRead → Seconds

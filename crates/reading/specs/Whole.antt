@@ -20,18 +20,18 @@ use Rattle.commit.specs.declared.Cache.{Cache}
 use Rattle.commit.specs.declared.Either.{Either}
 use Rattle.commit.specs.declared.Either.the-variants.{CachedCommit, CommitRefIter, Absent}
 use Rattle.walk.specs.Lookup.{pairOf, noGeneration, Read, fail, good, read}
-use Rattle.walk.specs.Given.{noId}
 use Rattle.walk.specs.declared.GenThenTime.{GenThenTime}
 use Rattle.walk.specs.declared.Refusal.the-variants.{CommitNotFound, CommitUnreadable, TooManyParents}
 use Rattle.reading.specs.declared.Commit.{Commit}
 use Rattle.reading.specs.declared.Commit.the-variants.{Row, Body, Failed}
 use Rattle.reading.specs.Files.{layoutUnder, worldUnder}
-use Rattle.reading.specs.Row.{GivesRowParent}
-use Rattle.reading.specs.Body.{parentIdAt}
+use Rattle.reading.specs.Row.{rowParent}
+use Rattle.reading.specs.Body.{noBytes, parentIdAt}
+use Rattle.hash.specs.Bytes.{idBytes}
 
 -- the pair of the row at position p
 abbrev pub pairIn : List ℕ → Layout → ℕ → GenThenTime
-pairIn g l p = record { generation = record { 0 = levelIn g l p }; time = record { 0 = secondsIn g l p } }
+pairIn g l p = record { generation = record { 0 = levelIn idBytes g l p }; time = record { 0 = secondsIn idBytes g l p } }
 
 -- the commit of that row, given its pair and its parent list: "a corrupt list (here 10)"
 abbrev pub rowCommit : ℕ → GenThenTime → Option (List ℕ) → Commit
@@ -59,14 +59,14 @@ Tells (Failed r) d = d ≡ fail r
 
 -- an answer names the row or the body that `find` finds
 abbrev pub Names : Commit → Either → Type 0
-Names (Row p n q) e = e ≡ CachedCommit p
+Names (Row p n q) e = (a : ℕ) × (b : ℕ) × (e ≡ CachedCommit p a b)
 Names (Body a b n q) e = e ≡ CommitRefIter a b
 Names (Failed r) e = Unit {0}
 
 -- r is what is read of the commit x: so in good files of a commit that `read_commit` gave
 pub record IsRead (c : Cache) (g s : List ℕ) (x : Id) (r : Commit) : Type 0 where
   pub tells : Tells r (read (worldUnder c g s) x)
-  pub names : Names r (foundIn c g s x)
+  pub names : Names r (foundIn idBytes c g s x)
 
 -- how many parents an answer has
 abbrev pub parentCount : Commit → ℕ
@@ -76,21 +76,21 @@ parentCount (Failed r) = 0
 
 -- the commit of what `find` found, on any bytes: "absent (9)"
 abbrev pub commitAt : Cache → List ℕ → List ℕ → Either → Commit
-commitAt c g s (CachedCommit p) = rowCommit p (pairIn g (layoutUnder c) p) (parentsIn g (layoutUnder c) p)
-commitAt c g s (CommitRefIter a e) = bodyCommit a e (readingOf (header (partOf s (BodyAt a e))))
+commitAt c g s (CachedCommit p a e) = rowCommit p (pairIn g (layoutUnder c) p) (parentsIn idBytes g (layoutUnder c) p)
+commitAt c g s (CommitRefIter a e) = bodyCommit a e (readingOf (header idBytes (partOf s (BodyAt a e))))
 commitAt c g s Absent = Failed CommitNotFound
 
 -- what `read_commit` answers for the commit x: what `find` found, read
 pub record ReadsCommit (c : Cache) (g s : List ℕ) (x : Id) (r : Commit) : Type 0 where
   pub found : Either
-  pub finds : FindsCommit c g s x found
+  pub finds : FindsCommit idBytes c g s x found
   pub is : r ≡ commitAt c g s found
 
 -- parent k of a commit that was read, on any bytes: of its row, of its body, or zeros where it could not be read
 abbrev pub ParentAt : Cache → List ℕ → List ℕ → Commit → ℕ → Id → Type 0
-ParentAt c g s (Row p n q) k x = (y : Id) × GivesRowParent g (layoutUnder c) p k y × (x ≡ padded y)
+ParentAt c g s (Row p n q) k x = x ≡ padded (rowParent g (layoutUnder c) p k)
 ParentAt c g s (Body a e n q) k x = x ≡ parentIdAt (partOf s (BodyAt a e)) k
-ParentAt c g s (Failed r) k x = x ≡ noId
+ParentAt c g s (Failed r) k x = x ≡ noBytes
 
 -- what `parent_of` answers
 pub record GivesParent (c : Cache) (g s : List ℕ) (m : Commit) (k : ℕ) (r : ObjectId) : Type 0 where

@@ -1,10 +1,15 @@
-// A next call's reading of a commit's body, line by line.
-use object::Line;
+// A next call's reading of a commit's body, line by line, as crate `commititer` gives its lines.
+use commititer::Place;
+use commititer::State;
+use commititer::Token;
+use commititer::TokenRead;
+use hash::Kind;
 use object::ObjectId;
-use object::person;
 ghost use mathlib.Core.Path.{_≡_};
 ghost use Rattle.object.specs.Header.{header};
-ghost use Rattle.reading.specs.Body.{endAt, endStep, stepAt, parentIdAt};
+ghost use Rattle.commititer.specs.Token.{tokenAt, parentsPlace};
+ghost use Rattle.reading.specs.Body.{endStep, countedStep, stepAt, parentIdAt};
+ghost use Rattle.hash.specs.Bytes.{idBytes};
 
 // How the reading of a body ends after its parents: the author line is good, or it is bad, or a parent line too many stands there.
 pub enum BodyEnd {
@@ -19,22 +24,33 @@ pub struct BodyStep {
     pub ends: BodyEnd,
 }
 
-// The lengths of a tree line and of a parent line.
-const TREE_LINE: usize = 46;
-
-const PARENT_LINE: usize = 48;
-
 // The most parents of a commit.
 const MOST_PARENTS: usize = 256;
 
 // Whether the tree line is good.
 pub fn body_tree_ok(body: &[u8]) -> bool
-    ensures { λ r. ⌜ r ≡ header (now (body .entry)) .tree ⌝ }
+    ensures { λ r. ⌜ r ≡ header idBytes (now (body .entry)) .tree ⌝ }
 {
-    match object::tree_line(body, 0) {
-        Line::Good(_) => true,
-        Line::Bad => false,
+    let read = commititer::read_token(
+        Kind::Sha1,
+        body,
+        Place {
+            at: 0,
+            state: State::Tree,
+        },
+    );
+    let token = read.token;
+    match token {
+        Token::Tree => true,
+        _ => false,
     }
+}
+
+// What stands after a tree line and k parent lines.
+fn token_after(body: &[u8], k: usize) -> TokenRead
+    ensures { λ r. ⌜ r ≡ tokenAt idBytes (now (body .entry)) (parentsPlace idBytes k) ⌝ }
+{
+    commititer::read_token(Kind::Sha1, body, commititer::parents_place(Kind::Sha1, k))
 }
 
 // The id of parent k of a body, which a good tree line stands before; zeros where no parent line stands.
@@ -42,20 +58,10 @@ pub fn body_parent(body: &[u8], k: usize) -> ObjectId
     ensures { λ r. ⌜ r .bytes ≡ parentIdAt (now (body .entry)) k ⌝ }
 {
     if MOST_PARENTS <= k {
-        return ObjectId { bytes: [0u8; 20] };
+        return ObjectId { bytes: [0u8; 32] };
     }
-    let read = object::parent_line(body, TREE_LINE + PARENT_LINE * k);
+    let read = token_after(body, k);
     read.id
-}
-
-// How the reading ends at a place where no parent line stands.
-fn end_at(body: &[u8], at: usize) -> BodyEnd
-    ensures { λ r. ⌜ r ≡ endAt (now (body .entry)) at ⌝ }
-{
-    match person::author_line(body, at) {
-        Line::Good(_) => BodyEnd::Whole,
-        Line::Bad => BodyEnd::Unreadable,
-    }
 }
 
 // An end of the reading.
@@ -65,6 +71,19 @@ fn ended(ends: BodyEnd) -> BodyStep
     BodyStep { taken: false, ends }
 }
 
+// The step at a parent line after k others: the 257th is one too many.
+fn counted(k: usize) -> BodyStep
+    ensures { λ r. ⌜ r ≡ countedStep k ⌝ }
+{
+    if MOST_PARENTS <= k {
+        return ended(BodyEnd::Crowded);
+    }
+    BodyStep {
+        taken: true,
+        ends: BodyEnd::Whole,
+    }
+}
+
 // The step after k parents of a body, which a good tree line stands before.
 pub fn body_step(body: &[u8], k: usize) -> BodyStep
     ensures { λ r. ⌜ r ≡ stepAt (now (body .entry)) k ⌝ }
@@ -72,15 +91,11 @@ pub fn body_step(body: &[u8], k: usize) -> BodyStep
     if MOST_PARENTS < k {
         return ended(BodyEnd::Crowded);
     }
-    let at = TREE_LINE + PARENT_LINE * k;
-    if !object::is_parent_line(body, at) {
-        return ended(end_at(body, at));
-    }
-    if k == MOST_PARENTS {
-        return ended(BodyEnd::Crowded);
-    }
-    BodyStep {
-        taken: true,
-        ends: BodyEnd::Whole,
+    let read = token_after(body, k);
+    let token = read.token;
+    match token {
+        Token::Parent => counted(k),
+        Token::Author => ended(BodyEnd::Whole),
+        _ => ended(BodyEnd::Unreadable),
     }
 }

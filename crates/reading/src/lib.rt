@@ -17,6 +17,7 @@ use commitgraph::Level;
 use commitgraph::parents;
 use commitgraph::parents::ParentList;
 use commitgraph::rows;
+use hash::Kind;
 pub use ids::id_by_value;
 pub use ids::is_among;
 use object::ObjectId;
@@ -39,6 +40,7 @@ ghost use Rattle.odb.specs.declared.Located.the-variants.{Body as BodyAt};
 ghost use Rattle.commitgraph.specs.Graph.{parentsIn};
 ghost use Rattle.reading.specs.Files.{cacheOf, layoutUnder};
 ghost use Rattle.reading.specs.Whole.{pairIn, rowCommit, bodyCommit, ReadsCommit, GivesParent};
+ghost use Rattle.hash.specs.Bytes.{idBytes};
 
 // A commit that was read whole, as painting does: where it stands, how many parents it has, and its place in the painting's order; or why
 // it cannot be read.
@@ -92,15 +94,15 @@ pub fn layout_of(cache: Cache) -> Layout
 
 // The commit of the row at a position.
 fn row_commit(graph: &[u8], l: Layout, position: usize) -> Commit
-    ensures { λ r. ⌜ r ≡ rowCommit position (pairIn (now (graph .entry)) l position) (parentsIn (now (graph .entry)) l position) ⌝ }
+    ensures { λ r. ⌜ r ≡ rowCommit position (pairIn (now (graph .entry)) l position) (parentsIn idBytes (now (graph .entry)) l position) ⌝ }
 {
-    match parents::parents(graph, l, position) {
+    match parents::parents(Kind::Sha1, graph, l, position) {
         ParentList::Good(n) => Commit::Row {
             position,
             parents: n,
             pair: GenThenTime {
-                generation: rows::level(graph, l, position),
-                time: rows::seconds(graph, l, position),
+                generation: rows::level(Kind::Sha1, graph, l, position),
+                time: rows::seconds(Kind::Sha1, graph, l, position),
             },
         },
         ParentList::Corrupt => Commit::Failed(Refusal::CommitUnreadable),
@@ -109,9 +111,9 @@ fn row_commit(graph: &[u8], l: Layout, position: usize) -> Commit
 
 // The commit of a body.
 fn body_commit(store: &[u8], start: usize, end: usize) -> Commit
-    ensures { λ r. ⌜ r ≡ bodyCommit start end (readingOf (header (partOf (now (store .entry)) (BodyAt start end)))) ⌝ }
+    ensures { λ r. ⌜ r ≡ bodyCommit start end (readingOf (header idBytes (partOf (now (store .entry)) (BodyAt start end)))) ⌝ }
 {
-    match object::readable(odb::body(store, Located::Body { start, end })) {
+    match object::readable(Kind::Sha1, odb::body(store, Located::Body { start, end })) {
         Reading::Readable { parents, seconds } => Commit::Body {
             start,
             end,
@@ -126,12 +128,13 @@ fn body_commit(store: &[u8], start: usize, end: usize) -> Commit
     }
 }
 
-// One commit, read whole: its graph row, else its body.
+// One commit, read whole: its graph row, else its body. No position is known where its row may stand, so that any will do to be looked at
+// first.
 pub fn read_commit(cache: Cache, graph: &[u8], store: &[u8], id: &[u8]) -> Commit
     ensures { λ r. ⌜ ReadsCommit cache (now (graph .entry)) (now (store .entry)) (now (id .entry)) r ⌝ }
 {
-    match commit::find(cache, graph, store, id) {
-        Either::CachedCommit(p) => row_commit(graph, layout_of(cache), p),
+    match commit::find(Kind::Sha1, cache, graph, store, id, 0) {
+        Either::CachedCommit { position, .. } => row_commit(graph, layout_of(cache), position),
         Either::CommitRefIter { start, end } => body_commit(store, start, end),
         Either::Absent => Commit::Failed(Refusal::CommitNotFound),
     }
@@ -152,6 +155,6 @@ pub fn parent_of(commit: Commit, k: usize, cache: Cache, graph: &[u8], store: &[
             odb::body(store, Located::Body { start, end }),
             k,
         ),
-        Commit::Failed(_) => ObjectId { bytes: [0u8; 20] },
+        Commit::Failed(_) => ObjectId { bytes: [0u8; 32] },
     }
 }

@@ -6,9 +6,11 @@ use commitgraph::parents;
 use commitgraph::parents::ParentList;
 use commitgraph::rows;
 use commitgraph::rows::Position;
+use hash::Kind;
 ghost use mathlib.Core.Path.{_≡_};
 ghost use Rattle.commitgraph.specs.Graph.{parentsIn};
-ghost use Rattle.reading.specs.Row.{rowReadOf, levelOf, ReadsRow, GivesRowParent};
+ghost use Rattle.reading.specs.Row.{rowReadOf, levelOf, ReadsRow, rowParent};
+ghost use Rattle.hash.specs.Bytes.{idBytes};
 
 // What the file has of a commit: nothing; a row with a corrupt parent list; or a row, its position, how many parents it has and its level.
 pub enum RowRead {
@@ -23,13 +25,13 @@ pub enum RowRead {
 
 // The row at a position.
 pub fn row_at(graph: &[u8], l: Layout, position: usize) -> RowRead
-    ensures { λ r. ⌜ r ≡ rowReadOf position (levelOf (now (graph .entry)) l position) (parentsIn (now (graph .entry)) l position) ⌝ }
+    ensures { λ r. ⌜ r ≡ rowReadOf position (levelOf (now (graph .entry)) l position) (parentsIn idBytes (now (graph .entry)) l position) ⌝ }
 {
-    match parents::parents(graph, l, position) {
+    match parents::parents(Kind::Sha1, graph, l, position) {
         ParentList::Good(n) => RowRead::Row {
             position,
             parents: n,
-            level: rows::level(graph, l, position),
+            level: rows::level(Kind::Sha1, graph, l, position),
         },
         ParentList::Corrupt => RowRead::Corrupt,
     }
@@ -40,7 +42,7 @@ pub fn row_of(cache: Cache, graph: &[u8], id: &[u8], near: usize) -> RowRead
     ensures { λ r. ⌜ ReadsRow cache (now (graph .entry)) (now (id .entry)) r ⌝ }
 {
     match cache {
-        Cache::Graph(l) => match rows::lookup_near(graph, l, id, near) {
+        Cache::Graph(l) => match rows::lookup_near(Kind::Sha1, graph, l, id, near) {
             Position::At(p) => row_at(graph, l, p),
             Position::Absent => RowRead::NoRow,
         },
@@ -48,10 +50,10 @@ pub fn row_of(cache: Cache, graph: &[u8], id: &[u8], near: usize) -> RowRead
     }
 }
 
-// The id of parent k of the row at a position: a part of the file.
+// The id of parent k of the row at a position, by its place in the row's list: a part of the file.
 pub fn row_parent<'a>(graph: &'a [u8], l: Layout, position: usize, k: usize) -> &'a [u8]
-    ensures { λ r. ⌜ GivesRowParent (now (graph .entry)) l position k (now r) ⌝ }
+    ensures { λ r. ⌜ now r ≡ rowParent (now (graph .entry)) l position k ⌝ }
 {
-    let parent = parents::parent(graph, l, position, k);
-    rows::id_at(graph, l, parent)
+    let parent = parents::parent(Kind::Sha1, graph, l, position, k);
+    rows::id_at(Kind::Sha1, graph, l, parent)
 }

@@ -1,7 +1,7 @@
 // A commit's committer time, from the store alone.
 use date::Seconds;
+use hash::Kind;
 use object::SecondsRead;
-use odb::Located;
 ghost use mathlib.Core.Path.{_≡_};
 ghost use Rattle.reading.specs.Tip.{tipSeconds, ReadsTip, GivesSeconds};
 
@@ -22,16 +22,16 @@ fn tip_seconds(read: SecondsRead) -> TipRead
     }
 }
 
-// A tip, read from the store alone.
+// A tip, read from the store alone: its body is a part of the store itself, not a copy.
 pub fn read_tip(store: &[u8], id: &[u8]) -> TipRead
     ensures { λ r. ⌜ ReadsTip (now (store .entry)) (now (id .entry)) r ⌝ }
 {
-    match odb::locate(store, id) {
-        Located::Body { start, end } => tip_seconds(object::seconds_only(odb::body(
-            store,
-            Located::Body { start, end },
-        ))),
-        Located::Absent => TipRead::Missing,
+    let mut found = false;
+    let body = odb::try_find(Kind::Sha1, store, id, &mut found);
+    if found {
+        tip_seconds(object::seconds_only(Kind::Sha1, body))
+    } else {
+        TipRead::Missing
     }
 }
 

@@ -17,13 +17,14 @@ use Rattle.revwalk.specs.Queue.{placeOf, GoodQueue, ReadsSlot}
 use Rattle.revwalk.proofs.QueueSorts.{same?}
 use Rattle.revwalk.proofs.QueueGood.{in-slots}
 use Rattle.refill.specs.Inner.{RereadsSlot, Rereads}
+use Rattle.hash.specs.Bytes.{idBytes}
 
 -- slot z has its seconds
 abbrev Right : List ℕ → List ℕ → List ℕ → List ℤ → ℕ → Type 0
-Right store names g times z = getD times z (pos 0) ≡ secondsFor (worldOf store g) (idOf names z)
+Right store names g times z = getD times z (pos 0) ≡ secondsFor (worldOf store g) (idOf idBytes names z)
 
 pub rereads-slot : {store names : List ℕ} {slot : ℕ} {times times′ : List ℤ} {v : ℤ} → times′ ≡ set times slot v
-    → (storeOk store ≡ true → (g : List ℕ) → v ≡ secondsFor (worldOf store g) (idOf names slot)) → RereadsSlot store names slot times times′
+    → (storeOk idBytes store ≡ true → (g : List ℕ) → v ≡ secondsFor (worldOf store g) (idOf idBytes names slot)) → RereadsSlot store names slot times times′
 rereads-slot {store} {names} {slot} {times} {times′} {v} e h = record {
   long = ap length e ∙ length-set times slot v;
   is = λ o g. e ∙ ap (set times slot) (h o g);
@@ -33,7 +34,7 @@ rereads-slot {store} {names} {slot} {times} {times′} {v} e h = record {
 pub record Rereading (q : Queue) (store names line : List ℕ) (n : ℕ) (times₀ times : List ℤ) (i : ℕ) : Type 0 where
   pub many : n ≡ cond (q .timed) (q .count) 0
   pub long : length times ≡ length times₀
-  pub so-far : (t : List ℤ) → GoodQueue q t line → storeOk store ≡ true → (g : List ℕ) (k : ℕ) → k < i → k < q .count → placeOf q line k < length times₀ → Right store names g times (placeOf q line k)
+  pub so-far : (t : List ℤ) → GoodQueue q t line → storeOk idBytes store ≡ true → (g : List ℕ) (k : ℕ) → k < i → k < q .count → placeOf q line k < length times₀ → Right store names g times (placeOf q line k)
 
 pub reread-none : {q : Queue} {store names line : List ℕ} {n : ℕ} {times : List ℤ} → n ≡ cond (q .timed) (q .count) 0 → Rereading q store names line n times times 0
 reread-none e = record { many = e; long = refl; so-far = λ t w o g k h. absurd (omega arith) }
@@ -50,10 +51,10 @@ reread-more {q} {store} {names} {line} {n} {times₀} {times} {times′} {i} {s}
   so-far = λ t good o g k l c in-times. set-down t good o g k l c in-times;
 }
   where
-    set-down : (t : List ℤ) → GoodQueue q t line → storeOk store ≡ true → (g : List ℕ) (k : ℕ) → k < i + 1 → k < q .count → placeOf q line k < length times₀ → Right store names g times′ (placeOf q line k)
+    set-down : (t : List ℤ) → GoodQueue q t line → storeOk idBytes store ≡ true → (g : List ℕ) (k : ℕ) → k < i + 1 → k < q .count → placeOf q line k < length times₀ → Right store names g times′ (placeOf q line k)
     set-down t good o g k l c in-times =
         let is : slot ≡ placeOf q line i = e ∙ r .is t good (below-count (q .timed) (v .many) h) in
-        let x : ℤ = secondsFor (worldOf store g) (idOf names slot) in
+        let x : ℤ = secondsFor (worldOf store g) (idOf idBytes names slot) in
         let long = v .long in
         subst (λ (u : List ℤ). Right store names g u (placeOf q line k)) (sym (w .is o g))
         (⊎-elim

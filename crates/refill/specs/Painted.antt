@@ -16,13 +16,14 @@ use Rattle.walk.specs.Next.{outside, paintedWith}
 use Rattle.state.specs.declared.Record.{Record}
 use Rattle.state.specs.Reads.{Memory, Shape, Reads}
 use Rattle.state.specs.Steps.{mem}
+use Rattle.hash.specs.Bytes.{idBytes}
 
 -- what painting does to the memory, m before it and m′ after it: more marks and new ids, but the seen ids stay the same, a slot that holds an
 -- id holds it still, and the line stays below 2 · cap
 pub record Painted (m m′ : Memory) (cap : ℕ) : Type 0 where
-  pub table : Table false (m′ .names) (m′ .marks) cap
-  pub seen-same : (x : Id) → seen (markFor false (m′ .names) (m′ .marks) cap x) ≡ seen (markFor false (m .names) (m .marks) cap x)
-  pub still : (x : Id) (k : ℕ) → Holds false (m .names) (m .marks) cap x k → Holds false (m′ .names) (m′ .marks) cap x k
+  pub table : Table idBytes false (m′ .names) (m′ .marks) cap
+  pub seen-same : (x : Id) → seen (markFor idBytes false (m′ .names) (m′ .marks) cap x) ≡ seen (markFor idBytes false (m .names) (m .marks) cap x)
+  pub still : (x : Id) (k : ℕ) → Holds idBytes false (m .names) (m .marks) cap x k → Holds idBytes false (m′ .names) (m′ .marks) cap x k
   pub long-times : length (m′ .times) ≡ length (m .times)
   pub long-line : length (m′ .line) ≡ length (m .line)
   pub line-same : (k : ℕ) → k < cap + cap → getD (m .line) k 0 ≡ getD (m′ .line) k 0
@@ -44,8 +45,8 @@ pub record Leaves (r : Record) (store names marks : List ℕ) (times times′ : 
   pub long-line : length line′ ≡ length line
   pub failed : r′ .failed ≡ false
   pub reads : (m : Memory) (sh : Shape) (st : State) (graph : List ℕ) (f : Id → Bool) → Due r m sh st → Painted m (mem names marks times line) (sh .cap)
-      → storeOk store ≡ true → Timed (worldOf store graph) sh st
-      → ((x : Id) → f x ≡ frontier (markFor false names marks (sh .cap) x)) → Reads r′ (mem names marks times′ line′) sh (paintedWith st (outside f (st .queue)) f)
+      → storeOk idBytes store ≡ true → Timed (worldOf store graph) sh st
+      → ((x : Id) → f x ≡ frontier (markFor idBytes false names marks (sh .cap) x)) → Reads r′ (mem names marks times′ line′) sh (paintedWith st (outside f (st .queue)) f)
 
 -- fail_painting, with its answer r′: "line emptied (all of it struck)"
 pub record Fails (r r′ : Record) : Type 0 where

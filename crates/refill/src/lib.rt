@@ -1,5 +1,6 @@
 // The end of painting (compute_hidden_frontier in gix_traverse::commit::simple): the frontier leaves the queue, and what left is struck;
 // or painting was refused, or was not due. Every function is total and safe on any bytes and numbers.
+use hash::Kind;
 use hashtable::marks::has_hidden;
 use hashtable::marks::has_visible;
 use hashtable::table;
@@ -96,7 +97,7 @@ fn set_time(times: &mut [i64], slot: usize, s: i64)
 fn read_slot(store: &[u8], names: &[u8], times: &mut [i64], slot: usize)
     ensures { λ r. ⌜ RereadsSlot (now (store .entry)) (now (names .entry)) slot (now (times .entry)) (now (times .exit)) ⌝ }
 {
-    let s = reading::seconds_for(store, table::id_of(names, slot));
+    let s = reading::seconds_for(store, table::id_of(Kind::Sha1, names, slot));
     set_time(times, slot, s.0);
 }
 

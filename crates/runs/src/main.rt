@@ -5,6 +5,7 @@
 ghost use Prim.Native.Nat.{_≤_, _<_};
 ghost use Rattle.io.specs.Counts.{Counts};
 use date::Seconds;
+use hash::Kind;
 use libc::STDOUT_FILENO;
 use state::Record;
 use traverse::Out;
@@ -111,7 +112,7 @@ fn few(ids: &[u8], n: usize)
     let mut k = 0;
     while k < n {
         text(b" ");
-        id(hash::id_at(ids, hash::ID_BYTES * k));
+        id(hash::id_at(Kind::Sha1, ids, 20 * k));
         k += 1;
     }
 }
@@ -141,9 +142,9 @@ fn many(ids: &[u8], n: usize)
     text(b" ");
     id(ids);
     text(b" to ");
-    id(hash::id_at(ids, hash::ID_BYTES * (n - 1)));
+    id(hash::id_at(Kind::Sha1, ids, 20 * (n - 1)));
     text(b" checksum ");
-    number(checksum(hash::part(ids, 0, hash::ID_BYTES * n)) as u64);
+    number(checksum(hash::part(ids, 0, 20 * n)) as u64);
 }
 
 // The ids that an answer counts, at the start of the buffer.

@@ -14,8 +14,8 @@ use Rattle.hashtable.specs.Table.{idOf}
 use Rattle.hashtable.proofs.TableIds.{width-of}
 use Rattle.date.specs.declared.Seconds.{Seconds}
 use Rattle.object.specs.declared.ObjectId.{ObjectId}
-use Rattle.object.specs.Ids.{padded}
-use Rattle.object.proofs.IdBytes.{padded-id}
+use Rattle.object.specs.Ids.{padded, idIn}
+use Rattle.object.proofs.IdBytes.{id-in}
 use Rattle.revwalk.specs.declared.queue.Popped.{Popped}
 use Rattle.revwalk.specs.Order.{In}
 use Rattle.revwalk.specs.Queue as queue
@@ -28,6 +28,7 @@ use Rattle.state.specs.Steps.{mem, NotWaiting, LineKept, Taken, Pops}
 use Rattle.state.proofs.Entries.{Split, split, none-left}
 use Rattle.state.proofs.States.{not-failed}
 use Rattle.state.proofs.Queueing.{requeue}
+use Rattle.hash.specs.Bytes.{idBytes}
 
 not-found : (b : Bool) → not b ≡ true → b ≡ false
 not-found true e = sym e
@@ -84,11 +85,11 @@ module _ {r : Record} {names : List ℕ} {times : List ℤ} {line line′ : List
         apart = pop-gone o (g .good) (took .found);
       }
 
-      pub taken : {b : ObjectId} {v : Seconds} → b .bytes ≡ padded (idOf names (p .slot)) → v .0 ≡ getD times (p .slot) (pos 0)
+      pub taken : {b : ObjectId} {v : Seconds} → b .bytes ≡ padded (idOf idBytes names (p .slot)) → v .0 ≡ getD times (p .slot) (pos 0)
           → Taken names marks times line′ sh st x t l (record { found = true; slot = p .slot; id = b; seconds = v; rest = requeued r (p .queue) (r .kept) (r .admitted) })
       taken c v = record {
         found = refl;
-        id = c ∙ padded-id (idOf names (p .slot)) (width-of (p .slot) (g .table .sized) (slot .low)) ∙ slot .holds;
+        id = ap (idIn idBytes) c ∙ id-in idBytes (idOf idBytes names (p .slot)) (width-of (p .slot) (g .table .sized) (slot .low)) (omega arith) ∙ slot .holds;
         seconds = λ h. v ∙ (ap (λ (b : Bool). cond b (getD times (p .slot) (pos 0)) (pos 0)) (sym h) ∙ ap (λ (y : Id × ℤ). y .1) entry);
         failed = failed;
         reads = left;
@@ -96,7 +97,7 @@ module _ {r : Record} {names : List ℕ} {times : List ℤ} {line line′ : List
         entry = entry;
       }
 
-  pub pops-some : {b : ObjectId} {v : Seconds} → not (p .found) ≡ false → b .bytes ≡ padded (idOf names (p .slot)) → v .0 ≡ getD times (p .slot) (pos 0)
+  pub pops-some : {b : ObjectId} {v : Seconds} → not (p .found) ≡ false → b .bytes ≡ padded (idOf idBytes names (p .slot)) → v .0 ≡ getD times (p .slot) (pos 0)
       → Pops r names times line line′ (record { found = true; slot = p .slot; id = b; seconds = v; rest = requeued r (p .queue) (r .kept) (r .admitted) })
   pops-some f c v = record {
     for-line = pops-line o;

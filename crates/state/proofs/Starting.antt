@@ -17,6 +17,7 @@ use Rattle.walk.specs.State.{emptyState}
 use Rattle.state.specs.Reads.{entryOf, waiting, Reads}
 use Rattle.state.specs.Shapes.{freshRecord}
 use Rattle.state.specs.Steps.{mem, Lent, Starts}
+use Rattle.hash.specs.Bytes.{idBytes}
 
 module _ (timed newest : Bool) {names marks : List ℕ} {times : List ℤ} {line : List ℕ} {cap : ℕ} (l : Lent names marks times line cap) where
   none-waits : waiting (freshRecord timed newest cap) (mem names (cleared cap marks) times line) ≡ []
@@ -34,12 +35,12 @@ module _ (timed newest : Bool) {names marks : List ℕ} {times : List ℤ} {line
     cap = refl;
     for-times = l .for-times;
     for-line = l .for-line;
-    table = cleared-table false (record { for-marks = l .for-marks; for-names = l .for-names });
+    table = cleared-table idBytes false (record { for-marks = l .for-marks; for-names = l .for-names });
     good = emptied (freshRecord timed newest cap .queue) times line refl refl (omega (arith, l .for-line));
     queue = sym (ap (map (entryOf timed names times)) none-waits);
     waits-seen = λ s h. absurd (none-in s h);
     numbers = omega arith;
-    seen-is = λ x. sym (ap seen (cleared-mark false names marks cap x) ∙ seen-0);
+    seen-is = λ x. sym (ap seen (cleared-mark idBytes false names marks cap x) ∙ seen-0);
     frontier-is = λ x. refl;
     only-seen = λ p k h a. clash a (nothing-live false (cleared cap marks) cap (cleared-low cap marks) k h);
     failed-empty = λ f. clash f refl;

@@ -23,6 +23,7 @@ use Rattle.walk.specs.State.{State}
 use Rattle.state.specs.declared.Record.{Record}
 use Rattle.state.specs.Reads.{Memory, Shape, entryOf, waiting, Reads, closedRecord}
 use Rattle.state.proofs.Entries.{map-agree}
+use Rattle.hash.specs.Bytes.{idBytes}
 
 module _ {r : Record} {m : Memory} {sh : Shape} {st : State} (g : Reads r m sh st) where
   pub waits-low : (s : ℕ) → In s (waiting r m) → s < sh .cap
@@ -74,26 +75,26 @@ one-state g h = λ k. record {
 pub record Likewise (painted : Bool) (names marks names′ marks′ : List ℕ) (cap : ℕ) : Type 0 where
   pub used : (k : ℕ) → k < cap → liveAt false marks k ≡ true → liveAt false marks′ k ≡ true
   pub alive : (k : ℕ) → k < cap → liveAt painted marks′ k ≡ liveAt painted marks k
-  pub id : (k : ℕ) → k < cap → liveAt painted marks k ≡ true → idOf names′ k ≡ idOf names k
+  pub id : (k : ℕ) → k < cap → liveAt painted marks k ≡ true → idOf idBytes names′ k ≡ idOf idBytes names k
   pub seen-bit : (k : ℕ) → k < cap → liveAt painted marks k ≡ true → seen (getD marks′ k 0) ≡ seen (getD marks k 0)
   pub frontier-bit : (k : ℕ) → k < cap → liveAt painted marks k ≡ true → frontier (getD marks′ k 0) ≡ frontier (getD marks k 0)
 
 module _ {painted : Bool} {names marks names′ marks′ : List ℕ} {cap : ℕ} (e : Likewise painted names marks names′ marks′ cap) where
-  likewise-keeps : Keeps painted names marks painted names′ marks′ cap
+  likewise-keeps : Keeps idBytes painted names marks painted names′ marks′ cap
   likewise-keeps = record { used = e .used; was = λ k l a. sym (e .alive k l) ∙ a; same = λ k l a. e .id k l (sym (e .alive k l) ∙ a) }
 
-  likewise-holds : {x : Id} {k : ℕ} → Holds painted names marks cap x k → Holds painted names′ marks′ cap x k
+  likewise-holds : {x : Id} {k : ℕ} → Holds idBytes painted names marks cap x k → Holds idBytes painted names′ marks′ cap x k
   likewise-holds {x} {k} h = record { low = h .low; alive = e .alive k (h .low) ∙ h .alive; is = e .id k (h .low) (h .alive) ∙ h .is }
 
-  likewise-has : (P : ℕ → Bool) → Table painted names′ marks′ cap → ((k : ℕ) → k < cap → liveAt painted marks k ≡ true → P (getD marks′ k 0) ≡ P (getD marks k 0)) → (x : Id)
-      → P (markFor painted names′ marks′ cap x) ≡ P (markFor painted names marks cap x)
+  likewise-has : (P : ℕ → Bool) → Table idBytes painted names′ marks′ cap → ((k : ℕ) → k < cap → liveAt painted marks k ≡ true → P (getD marks′ k 0) ≡ P (getD marks k 0)) → (x : Id)
+      → P (markFor idBytes painted names′ marks′ cap x) ≡ P (markFor idBytes painted names marks cap x)
   likewise-has P t same x =
       ⊎-elim
       (λ u. ap P (mark-held t (u .slot) (likewise-holds (u .holds))) ∙ same (u .slot) (u .holds .low) (u .holds .alive) ∙ ap P (sym (u .mark)))
       (λ u. ap P (mark-absent (λ k h. u .0 k (holds-was likewise-keeps h)) ∙ sym (u .1)))
-      (look painted names marks cap x)
+      (look idBytes painted names marks cap x)
 
-pub agrees-likewise : {painted : Bool} {names marks names′ marks′ : List ℕ} {cap : ℕ} → Agrees painted names marks names′ marks′ cap → Likewise painted names marks names′ marks′ cap
+pub agrees-likewise : {painted : Bool} {names marks names′ marks′ : List ℕ} {cap : ℕ} → Agrees idBytes painted names marks names′ marks′ cap → Likewise painted names marks names′ marks′ cap
 agrees-likewise {painted} g = record {
   used = λ k l a. ap (live false) (g .mark k l) ∙ a;
   alive = λ k l. ap (live painted) (g .mark k l);
@@ -104,7 +105,7 @@ agrees-likewise {painted} g = record {
 
 -- from m to m′ nothing changes that is read: neither the table, nor the seconds of waiting slots, nor the line below 2 · cap
 pub record Elsewhere (r : Record) (m m′ : Memory) (cap : ℕ) : Type 0 where
-  pub sized : Sized (m′ .names) (m′ .marks) cap
+  pub sized : Sized idBytes (m′ .names) (m′ .marks) cap
   pub for-times : cap ≤ length (m′ .times)
   pub for-line : 5 * cap ≤ length (m′ .line)
   pub table : Likewise (r .painted) (m .names) (m .marks) (m′ .names) (m′ .marks) cap
@@ -124,13 +125,13 @@ module _ {r : Record} {m m′ : Memory} {sh : Shape} {st : State} (g : Reads r m
   entry-same : (s : ℕ) → In s (waiting r m) → entryOf (sh .timed) (m .names) (m .times) s ≡ entryOf (sh .timed) (m′ .names) (m′ .times) s
   entry-same s h =
       ap {B = Id × ℤ} (λ (x : Id). (x, cond (sh .timed) (getD (m .times) s (pos 0)) (pos 0))) (sym (e .table .id s (waits-low g s h) (waits-live g s h)))
-      ∙ ap {B = Id × ℤ} (λ (t : ℤ). (idOf (m′ .names) s, cond (sh .timed) t (pos 0))) (e .times s h)
+      ∙ ap {B = Id × ℤ} (λ (t : ℤ). (idOf idBytes (m′ .names) s, cond (sh .timed) t (pos 0))) (e .times s h)
 
-  table-same : Table (r .painted) (m′ .names) (m′ .marks) (sh .cap)
+  table-same : Table idBytes (r .painted) (m′ .names) (m′ .marks) (sh .cap)
   table-same = table-kept (e .sized) (likewise-keeps (e .table)) (g .table)
 
-  frontier-same : (x : Id) → (r .painted && not (r .failed) && has (r .painted) (m .names) (m .marks) (sh .cap) frontier x)
-      ≡ (r .painted && not (r .failed) && has (r .painted) (m′ .names) (m′ .marks) (sh .cap) frontier x)
+  frontier-same : (x : Id) → (r .painted && not (r .failed) && has idBytes (r .painted) (m .names) (m .marks) (sh .cap) frontier x)
+      ≡ (r .painted && not (r .failed) && has idBytes (r .painted) (m′ .names) (m′ .marks) (sh .cap) frontier x)
   frontier-same x = ap (λ (b : Bool). r .painted && not (r .failed) && b) (sym (likewise-has (e .table) frontier table-same (e .table .frontier-bit) x))
 
   only : r .painted ≡ false → (k : ℕ) → k < sh .cap → liveAt false (m′ .marks) k ≡ true → (seen (getD (m′ .marks) k 0) ≡ true) × (frontier (getD (m′ .marks) k 0) ≡ false)

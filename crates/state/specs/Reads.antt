@@ -13,6 +13,7 @@ use Rattle.revwalk.specs.Order.{In}
 use Rattle.revwalk.specs.Queue.{GoodQueue, slotsOf}
 use Rattle.walk.specs.State.{State}
 use Rattle.state.specs.declared.Record.{Record}
+use Rattle.hash.specs.Bytes.{idBytes}
 
 -- the lent buffers that a state stands in
 pub record Memory : Type 0 where
@@ -29,7 +30,7 @@ pub record Shape : Type 0 where
 
 -- a waiting slot as an entry of the model's queue: its id, and by time the seconds it was queued with
 abbrev pub entryOf : Bool → List ℕ → List ℤ → ℕ → Id × ℤ
-entryOf timed names times s = (idOf names s, cond timed (getD times s (pos 0)) (pos 0))
+entryOf timed names times s = (idOf idBytes names s, cond timed (getD times s (pos 0)) (pos 0))
 
 -- the slots that wait, in order
 abbrev pub waiting : Record → Memory → List ℕ
@@ -43,7 +44,7 @@ pub record Reads (r : Record) (m : Memory) (sh : Shape) (st : State) : Type 0 wh
   pub cap : r .queue .cap ≡ sh .cap
   pub for-times : sh .cap ≤ length (m .times)
   pub for-line : 5 * sh .cap ≤ length (m .line)
-  pub table : Table (r .painted) (m .names) (m .marks) (sh .cap)
+  pub table : Table idBytes (r .painted) (m .names) (m .marks) (sh .cap)
   pub good : GoodQueue (r .queue) (m .times) (m .line)
   -- the queue, in order, with its queued seconds; a waiting id is seen
   pub queue : st .queue ≡ map (entryOf (sh .timed) (m .names) (m .times)) (waiting r m)
@@ -51,8 +52,8 @@ pub record Reads (r : Record) (m : Memory) (sh : Shape) (st : State) : Type 0 wh
   -- the numbers given to queued slots stay small
   pub numbers : r .queue .next ≤ r .admitted + cond (r .kept) 0 1
   -- the seen and the frontier
-  pub seen-is : (x : Id) → st .seen x ≡ has (r .painted) (m .names) (m .marks) (sh .cap) seen x
-  pub frontier-is : (x : Id) → st .frontier x ≡ (r .painted && not (r .failed) && has (r .painted) (m .names) (m .marks) (sh .cap) frontier x)
+  pub seen-is : (x : Id) → st .seen x ≡ has idBytes (r .painted) (m .names) (m .marks) (sh .cap) seen x
+  pub frontier-is : (x : Id) → st .frontier x ≡ (r .painted && not (r .failed) && has idBytes (r .painted) (m .names) (m .marks) (sh .cap) frontier x)
   -- before painting a live slot is seen, and not in the frontier, whatever else its mark holds
   pub only-seen : r .painted ≡ false → (k : ℕ) → k < sh .cap → liveAt false (m .marks) k ≡ true → (seen (getD (m .marks) k 0) ≡ true) × (frontier (getD (m .marks) k 0) ≡ false)
   -- after a refused painting nothing waits

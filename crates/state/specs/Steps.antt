@@ -9,6 +9,7 @@ use lib.IntN.{ℤ, pos}
 use Rattle.hash.specs.Bytes.{Id, idBytes}
 use Rattle.hashtable.specs.Marks.{seen}
 use Rattle.hashtable.specs.Table.{idOf, cleared}
+use Rattle.object.specs.Ids.{idIn}
 use Rattle.revwalk.specs.Order.{In}
 use Rattle.walk.specs.State.{State, emptyState, sees, withQueue}
 use Rattle.walk.specs.Next.{dropped}
@@ -24,7 +25,7 @@ mem names marks times line = record { names = names; marks = marks; times = time
 -- slot s holds the id x, which is seen and does not wait
 pub record NotWaiting (r : Record) (m : Memory) (sh : Shape) (x : Id) (s : ℕ) : Type 0 where
   pub low : s < sh .cap
-  pub holds : idOf (m .names) s ≡ x
+  pub holds : idOf idBytes (m .names) s ≡ x
   pub marked : seen (getD (m .marks) s 0) ≡ true
   pub apart : In s (waiting r m) → ⊥
 
@@ -77,7 +78,7 @@ pub record Visits (r : Record) (names marks names′ marks′ : List ℕ) (times
 -- x, queued with t seconds, has left the queue, which is l now
 pub record Taken (names marks : List ℕ) (times : List ℤ) (line : List ℕ) (sh : Shape) (st : State) (x : Id) (t : ℤ) (l : List (Id × ℤ)) (n : Next) : Type 0 where
   pub found : n .found ≡ true
-  pub id : n .id .bytes ≡ x
+  pub id : idIn idBytes (n .id .bytes) ≡ x
   pub seconds : sh .timed ≡ true → n .seconds .0 ≡ t
   pub failed : n .rest .failed ≡ false
   pub reads : Reads (n .rest) (mem names marks times line) sh (withQueue l st)

@@ -2,6 +2,7 @@
 // `insert_into_seen_and_next` and `insert_into_seen_and_queue` in gix_traverse::commit::simple). Every function is total and safe on any
 // bytes and numbers.
 use date::Seconds;
+use hash::Kind;
 use hashtable::marks::SEEN;
 use hashtable::table;
 use hashtable::table::Slot;
@@ -84,7 +85,7 @@ pub fn see(r: Record, names: &mut [u8], marks: &mut [u8], id: &[u8]) -> Seen
     ensures { λ a. ⌜ Sees r (now (names .entry)) (now (marks .entry)) (now (names .exit)) (now (marks .exit)) (now (id .entry)) a ⌝ }
 {
     let q = r.queue;
-    let s = table::insert(names, marks, q.cap, r.painted, id, SEEN);
+    let s = table::insert(Kind::Sha1, names, marks, q.cap, r.painted, id, SEEN);
     match s {
         Slot::Vacant(k) => Seen {
             fresh: true,
@@ -194,13 +195,13 @@ pub fn pop(r: Record, names: &[u8], times: &[i64], line: &mut [u32]) -> Next
         return Next {
             found: false,
             slot: 0,
-            id: ObjectId { bytes: [0u8; 20] },
+            id: ObjectId { bytes: [0u8; 32] },
             seconds: Seconds(0),
             rest: r,
         };
     }
     let slot = wide(p.slot);
-    let id = object::id_of(table::id_of(names, slot));
+    let id = object::id_of(table::id_of(Kind::Sha1, names, slot));
     let seconds = seconds_of(times, slot);
     let rest = with_queue(r, p.queue, r.kept, r.admitted);
     Next {

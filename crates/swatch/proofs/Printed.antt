@@ -112,7 +112,7 @@ whole : (b : List ℕ) → length b ≡ idBytes → wholeIds (inputIn b) ≡ tru
 unfolding wholeIds inputIn
 whole b h = rw (eq-eqb (length (tipsIn b) % idBytes) 0 (omega (arith, tips-long b (omega arith))))
 
-no-bytes : (b : List ℕ) → length b ≡ idBytes → storeOk (inputIn b .store) ≡ false
+no-bytes : (b : List ℕ) → length b ≡ idBytes → storeOk idBytes (inputIn b .store) ≡ false
 unfolding inputIn storeIn storeAll
 no-bytes b h = rw (le-ltb (length b) idBytes (omega arith), drop-of-length-le b {i = idBytes} (omega arith))
 

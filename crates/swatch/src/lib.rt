@@ -23,6 +23,9 @@ ghost use Rattle.swatch.specs.Contract.{leftAfter, ListsCall, ListsCalls
 // The most bytes of the input, and the fewest that `out` has.
 const MOST: usize = 65536;
 
+// The bytes of the tip that an input begins with.
+const TIP_BYTES: usize = 20;
+
 // What one call leaves: the record for the next call, the place after its line, and how many calls are left.
 struct Turn {
     record: Record,
@@ -203,17 +206,17 @@ fn list_store(
 fn tips_in(input: &[u8]) -> &[u8]
     ensures { λ r. ⌜ now r ≡ tipsIn (now (input .entry)) ⌝ }
 {
-    hash::part(input, 0, hash::ID_BYTES)
+    hash::part(input, 0, TIP_BYTES)
 }
 
 // The store of an input: what follows its first 20 bytes; an empty store where it has fewer.
 fn store_in<'a>(input: &'a [u8], empty: &'a [u8]) -> &'a [u8]
     ensures { λ r. ⌜ (now (empty .entry) ≡ emptyStore → now r ≡ storeIn (now (input .entry))) ⌝ }
 {
-    if input.len() < hash::ID_BYTES {
+    if input.len() < TIP_BYTES {
         return empty;
     }
-    &input[hash::ID_BYTES..]
+    &input[TIP_BYTES..]
 }
 
 // The list of an input, a tip and a store: puts its text down at the start of `out`, and answers how many bytes it has. Where `out` has

@@ -1,9 +1,15 @@
-// Prints the tokens of one commit's header, a line each: the commit's body comes on standard input, up to 65,536 bytes of it. Then its
-// first parent.
+// Prints the tokens of commits' headers, a line each, and an empty line after each commit. Standard input, up to 65,536 bytes of it, has a byte
+// for the id kind, `1` or `2`, then a commit's body, then a zero byte, for each commit. Beside the good ones there are headers whose lines
+// do not stand where they may.
+use commititer::Place;
+use commititer::State;
 use commititer::Token;
 use commititer::TokenRead;
 use date::Seconds;
+use hash::Kind;
 use libc::STDOUT_FILENO;
+ghost use Prim.Native.Nat.{_≤_};
+ghost use lib.ListN.{length};
 
 fn text(s: &[u8]) {
     io::write_all(STDOUT_FILENO, s);
@@ -28,14 +34,14 @@ fn seconds(s: Seconds) {
     io::print_decimal(STDOUT_FILENO, date::magnitude(s));
 }
 
-fn token(read: TokenRead) {
-    let kind = read.token;
+fn print(kind: Kind, read: TokenRead) {
+    let token = read.token;
     let id = read.id;
-    match kind {
+    match token {
         Token::Tree => text(b"tree"),
         Token::Parent => {
             text(b"parent ");
-            hex(&id.bytes);
+            hex(hash::part(&id.bytes, 0, hash::width(kind)));
         }
         Token::Author => text(b"author"),
         Token::Committer(s) => {
@@ -48,31 +54,66 @@ fn token(read: TokenRead) {
     text(b"\n");
 }
 
-// Every token from the start on, the end included.
-fn tokens(body: &[u8]) {
-    let mut at = 0;
-    while at < body.len() {
-        token(commititer::token_at(body, at));
-        at = commititer::after_token(body, at);
+fn is_end(read: TokenRead) -> bool {
+    let token = read.token;
+    match token {
+        Token::End => true,
+        _ => false,
     }
-    token(commititer::token_at(body, at));
 }
 
-fn first_parent(body: &[u8]) {
-    let first = commititer::first_parent(body);
-    if first.good {
-        text(b"first parent ");
-        let id = first.id;
-        hex(&id.bytes);
-    } else {
-        text(b"no parent");
+// Every token from the start on, the end included.
+fn tokens(kind: Kind, body: &[u8]) {
+    let mut place = Place {
+        at: 0,
+        state: State::Tree,
+    };
+    while !commititer::is_done(place) {
+        let read = commititer::read_token(kind, body, place);
+        print(kind, read);
+        if is_end(read) {
+            return;
+        }
+        place = commititer::place_after(kind, body, place);
     }
-    text(b"\n");
+    print(kind, commititer::read_token(kind, body, place));
+}
+
+fn kind_of(b: u8) -> Kind {
+    if b == 50 { Kind::Sha256 } else { Kind::Sha1 }
+}
+
+// The place of the first zero byte from a place on, or the end.
+fn zero_from(s: &[u8], at: usize) -> usize
+    requires { ⌜ at ≤ length (now s) ⌝ }
+    ensures { λ r. ⌜ (at ≤ r) × (r ≤ length (now (s .entry))) ⌝ }
+{
+    let mut i = at;
+    while i < s.len() {
+        if s[i] == 0 {
+            return i;
+        }
+        i += 1;
+    }
+    i
+}
+
+fn commits(s: &[u8]) {
+    let mut at = 0;
+    while at < s.len() {
+        let kind = kind_of(s[at]);
+        let end = zero_from(s, at + 1);
+        tokens(kind, &s[at + 1..end]);
+        text(b"\n");
+        if end == s.len() {
+            return;
+        }
+        at = end + 1;
+    }
 }
 
 fn main() {
     let mut space = io::large_buffer();
     let n = io::read_full(libc::STDIN_FILENO, &mut space);
-    tokens(&space[..n]);
-    first_parent(&space[..n]);
+    commits(&space[..n]);
 }

@@ -25,7 +25,7 @@ pub record Turns (store tips excluded : List ℕ) (o : Sorting) (m₀ : Memory) 
   pub count : n ≡ length tips / idBytes
   pub long : SameLengths m₀ m
   pub inside : (y : Id) → List·Memᴰ y (idsFrom n k tips) → List·Memᴰ y (listIds tips)
-  pub taken : (w : Walk) (c : ℕ) (st : State) → storeOk store ≡ true → Over store excluded o w → c ≤ 1048576 → Early (shapeFor (w .settings) c) (listIds tips) 0 r₀ m₀ st
+  pub taken : (w : Walk) (c : ℕ) (st : State) → storeOk idBytes store ≡ true → Over store excluded o w → c ≤ 1048576 → Early (shapeFor (w .settings) c) (listIds tips) 0 r₀ m₀ st
       → (s : State) × Early (shapeFor (w .settings) c) (listIds tips) k r m s × (tipsAll w (idsFrom n k tips) s ≡ tipsAll w (listIds tips) st)
 
 pub turns-start : {store tips excluded : List ℕ} {o : Sorting} {m : Memory} {r : Record} → Turns store tips excluded o m r (length tips / idBytes) m r 0

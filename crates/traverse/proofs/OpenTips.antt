@@ -161,7 +161,7 @@ tip-skipped {excluded = excluded} m x r e = record {
 -- another tip, with what see told and how it comes in
 module _ (store excluded : List ℕ) (o : Sorting) {names marks names′ marks′ : List ℕ} {times times′ : List ℤ} {line line′ : List ℕ} {x : Id} {r r′ : Record} {a : Seen} {how : Admission}
     (e : among x (listIds excluded) ≡ false) (s : Sees r names marks names′ marks′ x a)
-    (d : storeOk store ≡ true → (graph : List ℕ) → how ≡ admissionOf (worldOf store graph) o x) (j : Admits r times times′ line line′ a how r′) where
+    (d : storeOk idBytes store ≡ true → (graph : List ℕ) → how ≡ admissionOf (worldOf store graph) o x) (j : Admits r times times′ line line′ a how r′) where
   -- a repeat
   again : (w : Walk) (sh : Shape) (k : ℕ) (u : List Id) (st : State) → Early sh u k r (mem names marks times line) st → st .seen x ≡ true
       → Early sh u (suc k) r′ (mem names′ marks′ times′ line′) st

@@ -34,7 +34,7 @@ use Rattle.traverse.specs.Contract.{closedAnswer, OfPaper}
 
 -- ---- the ids of a list, end to end
 
-joined-cut : (n : ℕ) (b : List ℕ) → joined (idsOf n b) ≡ take (idBytes * n) b
+joined-cut : (n : ℕ) (b : List ℕ) → joined (idsOf idBytes n b) ≡ take (idBytes * n) b
 unfolding joined idsOf
 joined-cut zero b = refl
 joined-cut (suc n) b =

@@ -35,6 +35,7 @@ use Rattle.traverse.specs.declared.Out.{Out}
 use Rattle.traverse.specs.Contract.{Lent, lengthsOf, shapeOf}
 use Rattle.traverse.specs.Next.{Whole}
 use Rattle.traverse.proofs.OpenSaid.{shape-same}
+use Rattle.hash.specs.Bytes.{idBytes}
 
 -- ---- of every input
 
@@ -77,11 +78,11 @@ stands i m r k st e g =
     }
 
 module _ {i : Input} {m : Lent} {r : Record} {k : ℕ} {st : State} (s : Stands i m r k st) where
-  pub good-store : storeOk (i .store) ≡ true
+  pub good-store : storeOk idBytes (i .store) ≡ true
   good-store = passes i (s .passed) .store-good
 
-  pub good-graph : (isEmpty (i .graph) || graphOk (i .graph)) ≡ true
-  good-graph = ⊎-elim (or-left (isEmpty (i .graph)) (graphOk (i .graph))) (or-right (isEmpty (i .graph)) (graphOk (i .graph))) (passes i (s .passed) .graph-good)
+  pub good-graph : (isEmpty (i .graph) || graphOk idBytes (i .graph)) ≡ true
+  good-graph = ⊎-elim (or-left (isEmpty (i .graph)) (graphOk idBytes (i .graph))) (or-right (isEmpty (i .graph)) (graphOk idBytes (i .graph))) (passes i (s .passed) .graph-good)
 
   pub room-parents : 5120 ≤ length (m .parents)
   unfolding lengthsOf

@@ -92,13 +92,13 @@ Over store excluded o w = (graph : List ℕ) × (w .world ≡ worldOf store grap
 -- take_tip, with its answer r′: the tip x has come in, where there is room for all ids of u
 pub record TakesTip (store excluded : List ℕ) (o : Sorting) (m m′ : Memory) (x : Id) (r r′ : Record) : Type 0 where
   pub long : SameLengths m m′
-  pub taken : (w : Walk) (n k : ℕ) (u : List Id) (st : State) → storeOk store ≡ true → Over store excluded o w → length x ≡ idBytes → List·Memᴰ x u → n ≤ 1048576 → k < 1048576
+  pub taken : (w : Walk) (n k : ℕ) (u : List Id) (st : State) → storeOk idBytes store ≡ true → Over store excluded o w → length x ≡ idBytes → List·Memᴰ x u → n ≤ 1048576 → k < 1048576
       → Early (shapeFor (w .settings) n) u k r m st → Early (shapeFor (w .settings) n) u (suc k) r′ m′ (tipIn w st x)
 
 -- take_tips, with its answer r′: all tips have come in
 pub record TakesTips (store tips excluded : List ℕ) (o : Sorting) (m m′ : Memory) (r r′ : Record) : Type 0 where
   pub long : SameLengths m m′
-  pub taken : (w : Walk) (n : ℕ) (st : State) → storeOk store ≡ true → Over store excluded o w → n ≤ 1048576
+  pub taken : (w : Walk) (n : ℕ) (st : State) → storeOk idBytes store ≡ true → Over store excluded o w → n ≤ 1048576
       → Early (shapeFor (w .settings) n) (listIds tips) 0 r m st → Early (shapeFor (w .settings) n) (listIds tips) (length tips / idBytes) r′ m′ (tipsAll w (listIds tips) st)
 
 -- fill, with its answer r′: the memory reads as the walk's first state

@@ -1,6 +1,7 @@
 // An opening: all tests first, then the memory is emptied and the tips are let in, in list order.
 use super::Opened;
 use date::Seconds;
+use hash::Kind;
 use opening::Checked;
 use reading::TipRead;
 use revwalk::queue::Queue;
@@ -26,6 +27,7 @@ ghost use Rattle.state.specs.Shapes.{isNewest, newestOf, freshRecord};
 ghost use Rattle.state.specs.Steps.{mem};
 ghost use Rattle.traverse.specs.Contract.{OpenSays};
 ghost use Rattle.traverse.specs.Open.{lentOf, readAs, admissionOf, Admits, TakesTip, TakesTips, Fills, Refuses, Accepts};
+ghost use Rattle.hash.specs.Bytes.{idBytes};
 
 // How a tip that is neither excluded nor a repeat comes in: it waits, with its seconds, or a cutoff turns it away and it is only seen.
 pub enum Admission {
@@ -106,7 +108,7 @@ fn read_as(sorting: Sorting, read: TipRead) -> Admission
 
 // How a tip comes in: under a time order it is read, from the store alone.
 fn tip_admission(store: &[u8], sorting: Sorting, id: &[u8]) -> Admission
-    ensures { λ r. ⌜ (storeOk (now (store .entry)) ≡ true → (graph : List ℕ) → r ≡ admissionOf (worldOf (now (store .entry)) graph) sorting (now (id .entry))) ⌝ }
+    ensures { λ r. ⌜ (storeOk idBytes (now (store .entry)) ≡ true → (graph : List ℕ) → r ≡ admissionOf (worldOf (now (store .entry)) graph) sorting (now (id .entry))) ⌝ }
 {
     if !is_timed(sorting) {
         return Admission::Admitted(Seconds(0));
@@ -162,11 +164,11 @@ fn take_tips(
 ) -> Record
     ensures { λ a. ⌜ TakesTips (now (store .entry)) (now (tips .entry)) (now (excluded .entry)) sorting (mem (now (names .entry)) (now (marks .entry)) (now (times .entry)) (now (line .entry))) (mem (now (names .exit)) (now (marks .exit)) (now (times .exit)) (now (line .exit))) first a ⌝ }
 {
-    let n = tips.len() / hash::ID_BYTES;
+    let n = hash::ids_in(Kind::Sha1, tips.len());
     let mut r = first;
     let mut k = 0;
     while k < n {
-        let id = hash::id_at(tips, hash::ID_BYTES * k);
+        let id = hash::nth(Kind::Sha1, tips, k);
         r = take_tip(r, names, marks, times, line, store, excluded, sorting, id);
         k += 1;
     }

@@ -9,6 +9,7 @@ use commitgraph::parents::ParentList;
 use commitgraph::rows;
 use commitgraph::rows::Position;
 use date::Seconds;
+use hash::Kind;
 use libc::STDOUT_FILENO;
 use object::Line;
 use object::Reading;
@@ -51,11 +52,11 @@ fn hex(s: &[u8]) {
 // ---- the commit store
 
 fn store_id(store: &[u8], id: &[u8]) {
-    match odb::locate(store, id) {
+    match odb::locate(Kind::Sha1, store, id) {
         Located::Body { start, end } => {
             number(start);
             let mut found = false;
-            spaced(odb::try_find(store, id, &mut found).len());
+            spaced(odb::try_find(Kind::Sha1, store, id, &mut found).len());
             text(b"\n");
         }
         Located::Absent => text(b"absent\n"),
@@ -66,15 +67,15 @@ fn store_ids(store: &[u8], ids: &[u8]) {
     let n = ids.len() / 20;
     let mut k = 0;
     while k < n {
-        store_id(store, hash::id_at(ids, 20 * k));
+        store_id(store, hash::id_at(Kind::Sha1, ids, 20 * k));
         k += 1;
     }
 }
 
 fn store_case(store: &[u8], ids: &[u8]) {
-    if odb::is_good(store) {
+    if odb::is_good(Kind::Sha1, store) {
         text(b"store good");
-        spaced(odb::count(store));
+        spaced(odb::count(Kind::Sha1, store));
         text(b"\n");
         store_ids(store, ids);
     } else {
@@ -85,7 +86,7 @@ fn store_case(store: &[u8], ids: &[u8]) {
 // ---- one commit's header
 
 fn reading(body: &[u8]) {
-    match object::readable(body) {
+    match object::readable(Kind::Sha1, body) {
         Reading::Readable {
             parents,
             seconds: s,
@@ -102,20 +103,20 @@ fn reading(body: &[u8]) {
 }
 
 fn parent_at(body: &[u8], at: usize) {
-    let p = object::parent_line(body, at);
+    let p = object::parent_line(Kind::Sha1, body, at);
     if p.good {
         text(b"parent ");
-        hex(&p.id.bytes);
+        hex(object::id_slice(Kind::Sha1, &p.id.bytes));
     }
 }
 
 // The first and the last parent line.
 fn parent_lines(body: &[u8]) {
-    let Line::Good(at) = object::tree_line(body, 0) else {
+    let Line::Good(at) = object::tree_line(Kind::Sha1, body, 0) else {
         return;
     };
     parent_at(body, at);
-    let after = object::after_parents(body, at);
+    let after = object::after_parents(Kind::Sha1, body, at);
     if at < after {
         if 48 <= after {
             parent_at(body, after - 48);
@@ -127,7 +128,7 @@ fn header_case(body: &[u8]) {
     reading(body);
     parent_lines(body);
     text(b"seconds ");
-    match object::seconds_only(body) {
+    match object::seconds_only(Kind::Sha1, body) {
         SecondsRead::Good(s) => {
             seconds(s);
             text(b"\n");
@@ -142,7 +143,7 @@ fn positions(graph: &[u8], l: Layout, p: usize, n: usize) {
     number(n);
     let mut k = 0;
     while k < n {
-        spaced(parents::parent(graph, l, p, k));
+        spaced(parents::parent(Kind::Sha1, graph, l, p, k));
         k += 1;
     }
     text(b"\n");
@@ -152,19 +153,19 @@ fn row(graph: &[u8], l: Layout, p: usize) {
     text(b"at");
     spaced(p);
     text(b" level ");
-    let level = rows::level(graph, l, p);
+    let level = rows::level(Kind::Sha1, graph, l, p);
     io::print_decimal(STDOUT_FILENO, level.0 as u64);
     text(b" seconds ");
-    seconds(rows::seconds(graph, l, p));
+    seconds(rows::seconds(Kind::Sha1, graph, l, p));
     text(b" parents ");
-    match parents::parents(graph, l, p) {
+    match parents::parents(Kind::Sha1, graph, l, p) {
         ParentList::Good(n) => positions(graph, l, p, n),
         ParentList::Corrupt => text(b"corrupt\n"),
     }
 }
 
 fn graph_id(graph: &[u8], l: Layout, id: &[u8]) {
-    match rows::lookup(graph, l, id) {
+    match rows::lookup(Kind::Sha1, graph, l, id) {
         Position::At(p) => row(graph, l, p),
         Position::Absent => text(b"absent\n"),
     }
@@ -174,17 +175,17 @@ fn graph_ids(graph: &[u8], l: Layout, ids: &[u8]) {
     let n = ids.len() / 20;
     let mut k = 0;
     while k < n {
-        graph_id(graph, l, hash::id_at(ids, 20 * k));
+        graph_id(graph, l, hash::id_at(Kind::Sha1, ids, 20 * k));
         k += 1;
     }
 }
 
 fn graph_case(graph: &[u8], ids: &[u8]) {
-    if !commitgraph::has_header(graph) {
+    if !commitgraph::has_header(Kind::Sha1, graph) {
         text(b"graph foreign\n");
         return;
     }
-    if !commitgraph::is_good(graph) {
+    if !commitgraph::is_good(Kind::Sha1, graph) {
         text(b"graph torn\n");
         return;
     }
@@ -197,22 +198,29 @@ fn graph_case(graph: &[u8], ids: &[u8]) {
 
 // ---- find
 
-fn found<'a>(at: Either, l: Layout, graph: &'a [u8], store: &'a [u8]) {
+fn found<'a>(at: Either, graph: &'a [u8], store: &'a [u8]) {
     match at {
-        Either::CachedCommit(_) => text(b"graph "),
+        Either::CachedCommit { .. } => text(b"graph "),
         Either::CommitRefIter { .. } => text(b"store "),
         Either::Absent => text(b"absent"),
     }
-    hex(commit::part(at, l, graph, store));
+    hex(commit::part(at, graph, store));
 }
 
-fn find_ids<'a>(cache: Cache, l: Layout, graph: &'a [u8], store: &'a [u8], ids: &[u8]) {
+// Each id is looked for with another position tried first: the answer does not depend on it.
+fn find_ids<'a>(cache: Cache, graph: &'a [u8], store: &'a [u8], ids: &[u8]) {
     let n = ids.len() / 20;
     let mut k = 0;
     while k < n {
         found(
-            commit::find(cache, graph, store, hash::id_at(ids, 20 * k)),
-            l,
+            commit::find(
+                Kind::Sha1,
+                cache,
+                graph,
+                store,
+                hash::id_at(Kind::Sha1, ids, 20 * k),
+                k,
+            ),
             graph,
             store,
         );
@@ -223,9 +231,9 @@ fn find_ids<'a>(cache: Cache, l: Layout, graph: &'a [u8], store: &'a [u8], ids: 
 fn find_case<'a>(graph: &'a [u8], store: &'a [u8], ids: &[u8]) {
     let l = commitgraph::parse(graph);
     if graph.len() == 0 {
-        find_ids(Cache::NoGraph, l, graph, store, ids);
+        find_ids(Cache::NoGraph, graph, store, ids);
     } else {
-        find_ids(Cache::Graph(l), l, graph, store, ids);
+        find_ids(Cache::Graph(l), graph, store, ids);
     }
 }
 

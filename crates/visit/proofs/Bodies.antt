@@ -11,6 +11,7 @@ use lib.Seq.{length-take-le, take-suc, take-all}
 use lib.IntN.{ℤ}
 use Rattle.hash.specs.Bytes.{Id, idBytes, setDown}
 use Rattle.hash.proofs.Tests.{byCases, clash}
+use Rattle.object.specs.Ids.{idIn}
 use Rattle.object.specs.Header.{Header, header, most}
 use Rattle.object.proofs.Headers.{header-lines, no-header, parent-width}
 use Rattle.odb.specs.Store.{storeOk}
@@ -43,11 +44,11 @@ not-false true e = refl
 not-false false e = clash refl e
 
 -- a bad tree line leaves no parents
-pub no-ids : (d : List ℕ) → header d .tree ≡ false → length (header d .ids) ≡ 0
-no-ids d g = ap (λ (h : Header). length (h .ids)) (no-header d g)
+pub no-ids : (d : List ℕ) → header idBytes d .tree ≡ false → length (header idBytes d .ids) ≡ 0
+no-ids d g = ap (λ (h : Header). length (h .ids)) (no-header idBytes d g)
 
-good-tree : (d : List ℕ) (k : ℕ) → k < length (header d .ids) → header d .tree ≡ true
-good-tree d k h = byCases (header d .tree) (λ g. g) (λ g. absurd (omega (arith, h, no-ids d g)))
+good-tree : (d : List ℕ) (k : ℕ) → k < length (header idBytes d .ids) → header idBytes d .tree ≡ true
+good-tree d k h = byCases (header idBytes d .tree) (λ g. g) (λ g. absurd (omega (arith, h, no-ids d g)))
 
 -- the walk's own list of the parents with their seconds
 pub seconds-stored : (v : Walk) (l : List Id) → withSeconds v l ≡ stored (v .world) l
@@ -58,20 +59,20 @@ seconds-stored v (x ∷ l) = ap (λ (r : List (Id × ℤ)). (x, secondsFor (v .w
 -- ---- the visits
 
 pub body-parent : {excluded : List ℕ} {settings : Settings} {store d : List ℕ} {k : ℕ} {r r′ : Record} {m m′ : Memory} {b b′ : List ℕ} {y : Id}
-    → y ≡ parentIdAt d k → SetsParent k y b b′ → VisitsStored excluded settings store r m m′ y r′
+    → y ≡ idIn idBytes (parentIdAt d k) → SetsParent k y b b′ → VisitsStored excluded settings store r m m′ y r′
     → VisitsBodyParent excluded settings store d k r m m′ b b′ r′
 body-parent {excluded} {settings} {store} {d} {k} {r} {r′} {m} {m′} {b} {b′} {y} i s v = record {
   right = λ ok g t h.
       let e = i ∙ parent-right d k t h in (
         subst (λ (x : Id). Visits excluded settings r m m′ x (secondsFor (worldOf store g) x) r′) e (v .right ok g),
-        s .down (omega (arith, h, header-few d)) (omega (arith, ap length e, parent-width d t k h)) ∙ ap (setDown b (idBytes * k)) e,
+        s .down (omega (arith, h, header-few d)) (omega (arith, ap length e, parent-width idBytes d t k h)) ∙ ap (setDown b (idBytes * k)) e,
       );
   past = s .past;
 }
 
 -- after k parents of the body d
 pub record BodyRun (excluded : List ℕ) (settings : Settings) (store d : List ℕ) (k : ℕ) (r : Record) (m m′ : Memory) (b b′ : List ℕ) (r′ : Record) : Type 0 where
-  pub right : storeOk store ≡ true → (g : List ℕ) → k ≤ length (header d .ids) → Run excluded settings r m m′ b b′ (stored (worldOf store g) (take k (header d .ids))) r′
+  pub right : storeOk idBytes store ≡ true → (g : List ℕ) → k ≤ length (header idBytes d .ids) → Run excluded settings r m m′ b b′ (stored (worldOf store g) (take k (header idBytes d .ids))) r′
   pub past : Past k b b′
 
 module _ {excluded : List ℕ} {settings : Settings} {store d : List ℕ} {r : Record} {m : Memory} {b : List ℕ} where
@@ -82,7 +83,7 @@ module _ {excluded : List ℕ} {settings : Settings} {store d : List ℕ} {r : R
       → BodyRun excluded settings store d (k + 1) r m m″ b b″ r″
   body-next {k} run one = record {
     right = λ ok g h.
-        let l : List Id = header d .ids in
+        let l : List Id = header idBytes d .ids in
         let w : World = worldOf store g in
         let s : k < length l = omega (arith, h) in
         let n : k + 1 ≡ suc k = omega arith in
@@ -91,7 +92,7 @@ module _ {excluded : List ℕ} {settings : Settings} {store d : List ℕ} {r : R
         run-next (stored w (take (k + 1) l)) (getD l k [], secondsFor w (getD l k [])) k
         (ap (λ (j : ℕ). stored w (take j l)) n ∙ ap (stored w) (take-suc l k [] s) ∙ map-snoc (λ (x : Id). (x, secondsFor w x)) (take k l) (getD l k []))
         (length-map (take k l) (λ (x : Id). (x, secondsFor w x)) ∙ length-take-le k l (omega arith))
-        (omega (arith, s, header-few d)) (parent-width d t k s) (run .right ok g (omega arith)) (f .0) (f .1);
+        (omega (arith, s, header-few d)) (parent-width idBytes d t k s) (run .right ok g (omega arith)) (f .0) (f .1);
     past = past-next (run .past) (one .past);
   }
 
@@ -108,30 +109,30 @@ none-of : (l : List Id) → length l ≡ 0 → length (take 1 l) ≡ 0
 none-of [] h = refl
 none-of (x ∷ l) h = absurd (omega arith)
 
-pub first-taken : (d : List ℕ) {s : BodyStep} → s ≡ stepAt d 0 → s .taken ≡ true → EndsFirst (header d) (record { parents = 1; ends = Whole })
+pub first-taken : (d : List ℕ) {s : BodyStep} → s ≡ stepAt d 0 → s .taken ≡ true → EndsFirst (header idBytes d) (record { parents = 1; ends = Whole })
 first-taken d {s} e t = record {
-  parents = λ g. sym (one-of (header d .ids) (step-taken (header d) 0 (e ∙ step-right d 0 g (omega arith)) t));
+  parents = λ g. sym (one-of (header idBytes d .ids) (step-taken (header idBytes d) 0 (e ∙ step-right d 0 g (omega arith)) t));
   stopped = λ g h. refl;
-  ends = λ g z. absurd (omega (arith, z, step-taken (header d) 0 (e ∙ step-right d 0 g (omega arith)) t));
+  ends = λ g z. absurd (omega (arith, z, step-taken (header idBytes d) 0 (e ∙ step-right d 0 g (omega arith)) t));
 }
 
-pub first-ended : (d : List ℕ) {s : BodyStep} → s ≡ stepAt d 0 → s .taken ≡ false → EndsFirst (header d) (record { parents = 0; ends = s .ends })
+pub first-ended : (d : List ℕ) {s : BodyStep} → s ≡ stepAt d 0 → s .taken ≡ false → EndsFirst (header idBytes d) (record { parents = 0; ends = s .ends })
 first-ended d {s} e t = record {
-  parents = λ g. sym (none-of (header d .ids) (sym (step-ended (header d) 0 (e ∙ step-right d 0 g (omega arith)) (omega arith) t .0)));
-  stopped = λ g h. absurd (omega (arith, h, step-ended (header d) 0 (e ∙ step-right d 0 g (omega arith)) (omega arith) t .0));
-  ends = λ g z. step-ended (header d) 0 (e ∙ step-right d 0 g (omega arith)) (omega arith) t .1;
+  parents = λ g. sym (none-of (header idBytes d .ids) (sym (step-ended (header idBytes d) 0 (e ∙ step-right d 0 g (omega arith)) (omega arith) t .0)));
+  stopped = λ g h. absurd (omega (arith, h, step-ended (header idBytes d) 0 (e ∙ step-right d 0 g (omega arith)) (omega arith) t .0));
+  ends = λ g z. step-ended (header idBytes d) 0 (e ∙ step-right d 0 g (omega arith)) (omega arith) t .1;
 }
 
-pub all-ended : (d : List ℕ) (k : ℕ) {s : BodyStep} → (header d .tree ≡ true → k ≤ length (header d .ids)) → s ≡ stepAt d k → s .taken ≡ false → EndsAll (header d) (record { parents = k; ends = s .ends })
+pub all-ended : (d : List ℕ) (k : ℕ) {s : BodyStep} → (header idBytes d .tree ≡ true → k ≤ length (header idBytes d .ids)) → s ≡ stepAt d k → s .taken ≡ false → EndsAll (header idBytes d) (record { parents = k; ends = s .ends })
 all-ended d k {s} w e t = record {
-  parents = λ g. step-ended (header d) k (e ∙ step-right d k g (w g)) (w g) t .0;
-  ends = λ g. step-ended (header d) k (e ∙ step-right d k g (w g)) (w g) t .1;
+  parents = λ g. step-ended (header idBytes d) k (e ∙ step-right d k g (w g)) (w g) t .0;
+  ends = λ g. step-ended (header idBytes d) k (e ∙ step-right d k g (w g)) (w g) t .1;
 }
 
-pub all-on : (d : List ℕ) (k : ℕ) {s : BodyStep} → (header d .tree ≡ true → k ≤ length (header d .ids)) → s ≡ stepAt d k → s .taken ≡ true → header d .tree ≡ true → k + 1 ≤ length (header d .ids)
-all-on d k {s} w e t g = omega (arith, step-taken (header d) k (e ∙ step-right d k g (w g)) t)
+pub all-on : (d : List ℕ) (k : ℕ) {s : BodyStep} → (header idBytes d .tree ≡ true → k ≤ length (header idBytes d .ids)) → s ≡ stepAt d k → s .taken ≡ true → header idBytes d .tree ≡ true → k + 1 ≤ length (header idBytes d .ids)
+all-on d k {s} w e t g = omega (arith, step-taken (header idBytes d) k (e ∙ step-right d k g (w g)) t)
 
-pub all-past : (d : List ℕ) {k : ℕ} {a : BodyRead} → (header d .tree ≡ true → k ≤ length (header d .ids)) → 256 < k → EndsAll (header d) a
+pub all-past : (d : List ℕ) {k : ℕ} {a : BodyRead} → (header idBytes d .tree ≡ true → k ≤ length (header idBytes d .ids)) → 256 < k → EndsAll (header idBytes d) a
 all-past d w h = record { parents = λ g. absurd (omega (arith, h, w g, header-few d)); ends = λ g. absurd (omega (arith, h, w g, header-few d)) }
 
 -- ---- what the mode follows
@@ -164,15 +165,15 @@ crowded-end h k = go (h .crowded) (h .author) refl refl
     go false false c d = let q : refusalOf (endOf h) ≡ some CommitUnreadable = rw (c, d) in let z : _≡_ {A = ℕ} 0 1 = cc in absurd (omega arith)
 
 -- a header is refused for its parents after 256 of them: under First the reading stops after one
-pub crowded-followed : (s : Settings) (d : List ℕ) → ending s (header d) ≡ some TooManyParents → length (followed s (header d .ids)) ≡ most
+pub crowded-followed : (s : Settings) (d : List ℕ) → ending s (header idBytes d) ≡ some TooManyParents → length (followed s (header idBytes d .ids)) ≡ most
 unfolding isEmpty
 crowded-followed s d e = byCases (h .tree) good (λ t. let k = sym (ending-tree s h t) ∙ e in let z : _≡_ {A = ℕ} 0 1 = cc in absurd (omega arith))
   where
     h : Header
-    h = header d
+    h = header idBytes d
 
     full : h .tree ≡ true → (onlyFirst s && not (isEmpty (h .ids))) ≡ false → length (h .ids) ≡ most
-    full t f = header-lines d t .full (crowded-end h (sym (ending-read s h t f) ∙ e))
+    full t f = header-lines idBytes d t .full (crowded-end h (sym (ending-read s h t f) ∙ e))
 
     all : h .tree ≡ true → (b : Bool) → onlyFirst s ≡ b → (l : List Id) → h .ids ≡ l → (onlyFirst s && not (isEmpty (h .ids))) ≡ false → length (followed s (h .ids)) ≡ most
     all t false o l i f = ap length (followed-all s (h .ids) o) ∙ full t f
@@ -184,10 +185,10 @@ crowded-followed s d e = byCases (h .tree) good (λ t. let k = sym (ending-tree 
         (λ f. let k = sym (ending-stopped s h t f) ∙ e in let z : _≡_ {A = ℕ} 0 1 = cc in absurd (omega arith))
         (λ f. all t (onlyFirst s) refl (h .ids) refl f)
 
-pub reads-bad : (s : Settings) (d : List ℕ) → header d .tree ≡ false → ReadsBody s (header d) (record { parents = 0; ends = Unreadable })
+pub reads-bad : (s : Settings) (d : List ℕ) → header idBytes d .tree ≡ false → ReadsBody s (header idBytes d) (record { parents = 0; ends = Unreadable })
 reads-bad s d g = record {
-  parents = let n = no-ids d g in omega (arith, followed-take s (header d .ids) .1, n);
-  ends = sym (ending-tree s (header d) g);
+  parents = let n = no-ids d g in omega (arith, followed-take s (header idBytes d .ids) .1, n);
+  ends = sym (ending-tree s (header idBytes d) g);
 }
 
 pub reads-first : {s : Settings} {h : Header} {a : BodyRead} → h .tree ≡ true → onlyFirst s ≡ true → EndsFirst h a → ReadsBody s h a
@@ -207,13 +208,13 @@ reads-all {s} {h} {a} t o e = record {
   ends = ap refusalOf (e .ends t) ∙ sym (ending-read s h t (ap (λ (b : Bool). b && not (isEmpty (h .ids))) o));
 }
 
-pub body-visited : {excluded : List ℕ} {settings : Settings} {store d : List ℕ} {r r′ : Record} {m m′ : Memory} {b b′ : List ℕ} {a : BodyRead} {h : Header} → header d ≡ h → ReadsBody settings (header d) a
+pub body-visited : {excluded : List ℕ} {settings : Settings} {store d : List ℕ} {r r′ : Record} {m m′ : Memory} {b b′ : List ℕ} {a : BodyRead} {h : Header} → header idBytes d ≡ h → ReadsBody settings (header idBytes d) a
     → VisitsParents excluded settings store d (a .parents) r m m′ b b′ r′ → VisitsBody excluded settings store h r m m′ b b′ (record { after = r′; parents = a .parents; ends = a .ends })
 body-visited {excluded} {settings} {store} {d} {r} {r′} {m} {m′} {b} {b′} {a} {h} q e v = subst (λ (k : Header). VisitsBody excluded settings store k r m m′ b b′ (record { after = r′; parents = a .parents; ends = a .ends })) q (record {
   parents = e .parents;
   ends = e .ends;
   right = λ ok g.
-      let l : List Id = header d .ids in
+      let l : List Id = header idBytes d .ids in
       let f = followed-take settings l in
       let n : a .parents ≤ length l = omega (arith, e .parents, f .1) in
       let i : take (a .parents) l ≡ followed settings l = ap (λ (j : ℕ). take j l) (e .parents) ∙ f .0 in

@@ -11,7 +11,7 @@ use lib.Seq.{length-take-le, take-suc, take-append-seam, drop-append-add, drop-d
 use lib.IntN.{ℤ, pos}
 use Rattle.hash.specs.Bytes.{Id, idBytes, setDown}
 use Rattle.hash.proofs.Bytes.{setDown-fits}
-use Rattle.commitgraph.specs.Graph.{graphOk, layoutOf, idIn, secondsIn, parentsIn}
+use Rattle.commitgraph.specs.Graph.{graphOk, layoutOf, idIn, secondsIn, parentsIn, parentIn}
 use Rattle.commitgraph.specs.declared.Layout.{Layout}
 use Rattle.walk.specs.declared.Settings.{Settings}
 use Rattle.walk.specs.Lookup.{row, rowAt}
@@ -116,13 +116,13 @@ module _ {excluded : List ℕ} {settings : Settings} {r : Record} {m : Memory} {
 
 -- q is the position that the row lists as its k-th parent
 pub row-parent : {excluded : List ℕ} {settings : Settings} {g : List ℕ} {l : Layout} {p k q : ℕ} {r r′ : Record} {m m′ : Memory} {b b′ : List ℕ} {y : Id}
-    → ((qs : List ℕ) → parentsIn g l p ≡ some qs → k < length qs → q ≡ getD qs k 0) → y ≡ idIn g l q → SetsParent k y b b′ → Visits excluded settings r m m′ y (secondsIn g l q) r′
+    → q ≡ parentIn idBytes g l p k → y ≡ idIn idBytes g l q → SetsParent k y b b′ → Visits excluded settings r m m′ y (secondsIn idBytes g l q) r′
     → VisitsRowParent excluded settings g l p k r m m′ b b′ r′
 row-parent {excluded} {settings} {g} {l} {p} {k} {q} {r} {r′} {m} {m′} {b} {b′} {y} read i d v = record {
   right = λ own ps u w e h.
       let z = parent-there g p ps u w e own read h in
       let x : y ≡ getD ps k ([], pos 0) .0 = i ∙ ap (λ (a : Id × ℤ). a .0) z in (
-        subst (λ (a : Id × ℤ). Visits excluded settings r m m′ (a .0) (a .1) r′) z (subst (λ (j : Id). Visits excluded settings r m m′ j (secondsIn g l q) r′) i v),
+        subst (λ (a : Id × ℤ). Visits excluded settings r m m′ (a .0) (a .1) r′) z (subst (λ (j : Id). Visits excluded settings r m m′ j (secondsIn idBytes g l q) r′) i v),
         d .down (omega (arith, h, row-few g p ps u w e)) (omega (arith, ap length x, row-narrow g p ps u w e k h)) ∙ ap (setDown b (idBytes * k)) x,
       );
   past = d .past;
@@ -130,7 +130,7 @@ row-parent {excluded} {settings} {g} {l} {p} {k} {q} {r} {r′} {m} {m′} {b} {
 
 -- after k parents of the row at position p
 pub record RowRun (excluded : List ℕ) (settings : Settings) (g : List ℕ) (l : Layout) (p k : ℕ) (r : Record) (m m′ : Memory) (b b′ : List ℕ) (r′ : Record) : Type 0 where
-  pub right : graphOk g ≡ true → l ≡ layoutOf g → (ps : List (Id × ℤ)) (v : ℕ) (t : ℤ) → rowAt g p ≡ row ps v t → k ≤ length ps → Run excluded settings r m m′ b b′ (take k ps) r′
+  pub right : graphOk idBytes g ≡ true → l ≡ layoutOf g → (ps : List (Id × ℤ)) (v : ℕ) (t : ℤ) → rowAt g p ≡ row ps v t → k ≤ length ps → Run excluded settings r m m′ b b′ (take k ps) r′
   pub past : Past k b b′
 
 module _ {excluded : List ℕ} {settings : Settings} {g : List ℕ} {l : Layout} {p : ℕ} {r : Record} {m : Memory} {b : List ℕ} where

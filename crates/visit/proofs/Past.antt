@@ -15,7 +15,7 @@ use Rattle.hash.specs.Bytes.{Id, idBytes, at, setDown}
 use Rattle.hash.proofs.Bytes.{setDown-fits, setDown-not}
 use Rattle.hash.proofs.Tests.{byCases}
 use Rattle.object.specs.Header.{most}
-use Rattle.commitgraph.specs.Graph.{graphParents, layoutOf, idIn}
+use Rattle.commitgraph.specs.Graph.{graphParents, layoutOf, idIn, parentIn}
 use Rattle.commitgraph.specs.declared.Level.{Level}
 use Rattle.commit.specs.declared.Cache.{Cache}
 use Rattle.walk.specs.declared.Outcome.the-variants.{End, Refused}
@@ -81,9 +81,8 @@ parent-left f = record { down = λ i n. absurd (f i n); past = past-none }
 pub row-narrow : (g : List ℕ) (p : ℕ) (ps : List (Id × ℤ)) (v : ℕ) (t : ℤ) → rowAt g p ≡ row ps v t → (k : ℕ) → k < length ps → length (getD ps k ([], pos 0) .0) ≤ idBytes
 unfolding idIn at graphParents
 row-narrow g p ps v t e k h =
-    let parts = row-parts g p ps v t e in
-    let q : ℕ = getD (parts .places) k 0 in
-    let there = parent-there g p ps v t e {l = layoutOf g} {k = k} {q = q} refl (λ qs f n. let o : some (parts .places) ≡ some qs = sym (parts .listed) ∙ f in let z : parts .places ≡ qs = cc in ap (λ (l : List ℕ). getD l k 0) z) h in
+    let q : ℕ = parentIn idBytes g (layoutOf g) p k in
+    let there = parent-there g p ps v t e {l = layoutOf g} {k = k} {q = parentIn idBytes g (layoutOf g) p k} refl refl h in
     omega (arith, ap (λ (a : Id × ℤ). length (a .0)) there, length-take idBytes (drop (layoutOf g .ids + idBytes * q) g))
 
 -- a row that is read lists at most 256 parents, whatever the file holds

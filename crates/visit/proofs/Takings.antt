@@ -11,6 +11,7 @@ use lib.IntN.{ℤ}
 use Rattle.hash.specs.Bytes.{Id, setDown}
 use Rattle.hash.proofs.Tests.{byCases, clash}
 use Rattle.date.specs.declared.Seconds.{Seconds}
+use Rattle.object.specs.Ids.{idIn}
 use Rattle.object.specs.Header.{Header, header, most}
 use Rattle.odb.specs.Store.{storeOk}
 use Rattle.odb.specs.Lookup.{Locates, partOf}
@@ -60,6 +61,7 @@ use Rattle.visit.specs.Plain.{Plain}
 use Rattle.visit.proofs.Past.{past-none, plain-end, plain-bare, counted-lost, plain-ends}
 use Rattle.visit.proofs.Parents.{set-down-none}
 use Rattle.visit.proofs.Bodies.{followed-take, followed-one, followed-all, crowded-followed, seconds-stored}
+use Rattle.hash.specs.Bytes.{idBytes}
 
 -- ---- an answer as the code gives it
 
@@ -165,12 +167,12 @@ map-stored w [] = refl
 map-stored w (x ∷ l) = ap (λ (r : List Id). x ∷ r) (map-stored w l)
 
 pub takes-body : {excluded : List ℕ} {settings : Settings} {store : List ℕ} {r : Record} {x : Id} {s : Seconds} {m m′ : Memory} {b b′ : List ℕ} {seen : BodyVisited} {o : Located} {a : Taken} (y e : ℕ)
-    → Locates store x o → o ≡ Body y e → VisitsBody excluded settings store (header (partOf store (Body y e))) r m m′ b b′ seen → EndsBody seen x (timeGiven (r .queue .timed) s) a
+    → Locates idBytes store x o → o ≡ Body y e → VisitsBody excluded settings store (header idBytes (partOf store (Body y e))) r m m′ b b′ seen → EndsBody seen x (timeGiven (r .queue .timed) s) a
     → TakesBody excluded settings store r x (s .0) m m′ b b′ a
 unfolding fromBody
 takes-body {excluded} {settings} {store} {r} {x} {s} {m} {m′} {b} {b′} {seen} {o} {a} y e f i w k = record {
   right = λ ok g v sh st u t′ by own d j t z.
-      let h : Header = header (partOf store (Body y e)) in
+      let h : Header = header idBytes (partOf store (Body y e)) in
       let there : v .world .store x ≡ some h = ap (λ q. q .store x) own ∙ located-body g y e f i refl ok in
       let fs : List Id = followed (v .settings) (h .ids) in
       let same : followed settings (h .ids) ≡ fs = ap (λ (q : Settings). followed q (h .ids)) (sym (by .same-settings)) in
@@ -188,13 +190,13 @@ takes-body {excluded} {settings} {store} {r} {x} {s} {m} {m′} {b} {b′} {seen
       (ends-kind (seen .ends) (ending (v .settings) h) fs x (queuedSeconds v t′) (w .ends ∙ ap (λ (q : Settings). ending q h) (sym (by .same-settings))) reads (w .parents ∙ ap length same)
       (time-right by (d .reads) s t′ t) down (went .line-kept)));
   plain =
-      let h : Header = header (partOf store (Body y e)) in
+      let h : Header = header idBytes (partOf store (Body y e)) in
       let short : seen .parents ≤ most = omega (arith, w .parents, followed-take settings (h .ids) .1, header-few (partOf store (Body y e))) in
       let full : seen .ends ≡ Crowded → seen .parents ≡ most = λ z. w .parents ∙ crowded-followed settings (partOf store (Body y e)) (sym (w .ends) ∙ ap refusalOf z) in
       subst (λ (q : Taken). Plain b b′ (q .answer)) (sym (k .is)) (plain-ends (seen .ends) x (timeGiven (r .queue .timed) s) (seen .after) full short (w .past));
 }
 
-pub takes-absent : {excluded : List ℕ} {settings : Settings} {store : List ℕ} {r : Record} {x : Id} {t : ℤ} {m : Memory} {b : List ℕ} {o : Located} → Locates store x o → o ≡ Absent
+pub takes-absent : {excluded : List ℕ} {settings : Settings} {store : List ℕ} {r : Record} {x : Id} {t : ℤ} {m : Memory} {b : List ℕ} {o : Located} → Locates idBytes store x o → o ≡ Absent
     → TakesBody excluded settings store r x t m m b b (gave (Refused CommitNotFound) noId 0 NoGeneration NoTime r)
 unfolding fromBody joined
 takes-absent {excluded} {settings} {store} {r} {x} {t} {m} {b} f i = record {
@@ -244,11 +246,11 @@ gives-on k g = record { answer = g .answer; down = g .down; reads = g .reads; li
 
 module _ {excluded : List ℕ} {settings : Settings} {store : List ℕ} {r : Record} {names marks : List ℕ} {times : List ℤ} {line line′ : List ℕ} {b : List ℕ} {n : Next} where
   pub stored-some : {m′ : Memory} {b′ : List ℕ} {a : Taken} → Pops r names times line line′ n → n .found ≡ true
-      → TakesBody excluded settings store (n .rest) (n .id .bytes) (n .seconds .0) (mem names marks times line′) m′ b b′ a → TakesStored excluded settings store r (mem names marks times line) m′ b b′ a
+      → TakesBody excluded settings store (n .rest) (idIn idBytes (n .id .bytes)) (n .seconds .0) (mem names marks times line′) m′ b b′ a → TakesStored excluded settings store r (mem names marks times line) m′ b b′ a
   unfolding takeStore
   stored-some {m′} {b′} {a} p f w = record { right = λ ok g v sh st u by own d j z. go ok g v sh st u by own d j z (st .queue) refl; plain = w .plain }
     where
-      go : storeOk store ≡ true → (g : List ℕ) (v : Walk) (sh : Shape) (st : State) (u : List Id) → GoesBy v sh excluded settings → v .world ≡ worldOf store g
+      go : storeOk idBytes store ≡ true → (g : List ℕ) (v : Walk) (sh : Shape) (st : State) (u : List Id) → GoesBy v sh excluded settings → v .world ≡ worldOf store g
           → Rests sh r (mem names marks times line) st u → InStore v u → 5120 ≤ length b → (q : List (Id × ℤ)) → st .queue ≡ q → Gives sh (mem names marks times line) m′ b b′ a (takeStore v st q)
       go ok g v sh st u by own d j z [] e = clash f (p .none marks sh st (d .reads) e)
       go ok g v sh st u by own d j z (y ∷ l) e =
@@ -298,55 +300,55 @@ corrupt-kept graph store true x e = refl
 corrupt-kept graph store false x e = let q = sym (dropped-world graph store x) ∙ e in let z : _≡_ {A = ℕ} 0 1 = cc in absurd (omega arith)
 
 module _ {excluded : List ℕ} {settings : Settings} {graph store : List ℕ} {r : Record} {names marks : List ℕ} {times : List ℤ} {line line′ : List ℕ} {b : List ℕ} {n : Next} {w : RowRead}
-    (p : Pops r names times line line′ n) (f : n .found ≡ true) (read : ReadsRow (cacheOf graph (r .kept)) graph (n .id .bytes) w) where
-  pub next-body : {m′ : Memory} {b′ : List ℕ} {a : Taken} → w ≡ NoRow → TakesBody excluded settings store (n .rest) (n .id .bytes) (n .seconds .0) (mem names marks times line′) m′ b b′ a
+    (p : Pops r names times line line′ n) (f : n .found ≡ true) (read : ReadsRow (cacheOf graph (r .kept)) graph (idIn idBytes (n .id .bytes)) w) where
+  pub next-body : {m′ : Memory} {b′ : List ℕ} {a : Taken} → w ≡ NoRow → TakesBody excluded settings store (n .rest) (idIn idBytes (n .id .bytes)) (n .seconds .0) (mem names marks times line′) m′ b b′ a
       → TakesNext excluded settings graph store r (mem names marks times line) m′ b b′ a
   unfolding takeRow takeStore
   next-body {m′} {b′} {a} e t = record { right = λ ok good v sh st u by own d i j z. go ok good v sh st u by own d j z (st .queue) refl }
     where
-      go : storeOk store ≡ true → (isEmpty graph || graphOk graph) ≡ true → (v : Walk) (sh : Shape) (st : State) (u : List Id) → GoesBy v sh excluded settings → v .world ≡ worldOf store graph
+      go : storeOk idBytes store ≡ true → (isEmpty graph || graphOk idBytes graph) ≡ true → (v : Walk) (sh : Shape) (st : State) (u : List Id) → GoesBy v sh excluded settings → v .world ≡ worldOf store graph
           → Rests sh r (mem names marks times line) st u → InStore v u → 5120 ≤ length b → (q : List (Id × ℤ)) → st .queue ≡ q → Gives sh (mem names marks times line) m′ b b′ a (takeNext v st)
       go ok good v sh st u by own d j z [] o = clash f (p .none marks sh st (d .reads) o)
       go ok good v sh st u by own d j z (y ∷ l) o =
           let k = p .some marks sh st (y .0) (y .1) l (d .reads) o in
-          let told : worldUnder (cacheOf graph (r .kept)) graph store .graph (n .id .bytes) ≡ no-row = rw e at (row-right read (good-cache graph (r .kept) good) store) in
+          let told : worldUnder (cacheOf graph (r .kept)) graph store .graph (idIn idBytes (n .id .bytes)) ≡ no-row = rw e at (row-right read (good-cache graph (r .kept) good) store) in
           subst (Gives sh (mem names marks times line) m′ b b′ a) (sym (row-step v graph store y l no-row (d .reads) own o (k .id) told))
           (gives-on (pop-kept (d .reads) p)
           (subst (λ (x : Id). Gives sh (mem names marks times line′) m′ b b′ a (fromBody v (withQueue l st) x (y .1) (v .world .store x))) (k .id)
           (t .right ok graph v sh (withQueue l st) u (y .1) by own (pop-ready (y .0) (y .1) l d p o) j (k .seconds) z)))
 
   pub next-row : {m′ : Memory} {b′ : List ℕ} {a : Taken} {lay : Layout} (at many : ℕ) (c : Level) → w ≡ RowAt at many c → lay ≡ layoutUnder (cacheOf graph (r .kept))
-      → TakesRow excluded settings graph lay at many c (n .rest) (n .id .bytes) (n .seconds .0) (mem names marks times line′) m′ b b′ a
+      → TakesRow excluded settings graph lay at many c (n .rest) (idIn idBytes (n .id .bytes)) (n .seconds .0) (mem names marks times line′) m′ b b′ a
       → TakesNext excluded settings graph store r (mem names marks times line) m′ b b′ a
   unfolding takeRow
   next-row {m′} {b′} {a} {lay} at many c e own-layout t = record { right = λ ok good v sh st u by own d i j z. go good v sh st u by own d i z (st .queue) refl }
     where
-      go : (isEmpty graph || graphOk graph) ≡ true → (v : Walk) (sh : Shape) (st : State) (u : List Id) → GoesBy v sh excluded settings → v .world ≡ worldOf store graph
+      go : (isEmpty graph || graphOk idBytes graph) ≡ true → (v : Walk) (sh : Shape) (st : State) (u : List Id) → GoesBy v sh excluded settings → v .world ≡ worldOf store graph
           → Rests sh r (mem names marks times line) st u → InRows v u → 5120 ≤ length b → (q : List (Id × ℤ)) → st .queue ≡ q → Gives sh (mem names marks times line) m′ b b′ a (takeNext v st)
       go good v sh st u by own d i z [] o = clash f (p .none marks sh st (d .reads) o)
       go good v sh st u by own d i z (y ∷ l) o =
           let k = p .some marks sh st (y .0) (y .1) l (d .reads) o in
-          let told : RowIs (cacheOf graph (r .kept)) graph at many c (worldUnder (cacheOf graph (r .kept)) graph store .graph (n .id .bytes)) = rw e at (row-right read (good-cache graph (r .kept) good) store) in
+          let told : RowIs (cacheOf graph (r .kept)) graph at many c (worldUnder (cacheOf graph (r .kept)) graph store .graph (idIn idBytes (n .id .bytes))) = rw e at (row-right read (good-cache graph (r .kept) good) store) in
           let ps : List (Id × ℤ) = told .parents in
-          let says : v .world .graph (n .id .bytes) ≡ row ps (c .0) (told .seconds) = row-own v graph store (r .kept) (n .id .bytes) ps (c .0) (told .seconds) own (told .is) in
+          let says : v .world .graph (idIn idBytes (n .id .bytes)) ≡ row ps (c .0) (told .seconds) = row-own v graph store (r .kept) (idIn idBytes (n .id .bytes)) ps (c .0) (told .seconds) own (told .is) in
           subst (Gives sh (mem names marks times line) m′ b b′ a) (sym (row-step v graph store y l (row ps (c .0) (told .seconds)) (d .reads) own o (k .id) (told .is)))
           (gives-on (pop-kept (d .reads) p)
           (subst (λ (x : Id). Gives sh (mem names marks times line′) m′ b b′ a (fromRow v (withQueue l st) x (y .1) ps (c .0))) (k .id)
           (t .right (told .file) (own-layout ∙ told .layout) ps (told .seconds) (told .place ∙ told .is) (told .count) v sh (withQueue l st) u (y .1) by (pop-ready (y .0) (y .1) l d p o)
-          (λ q h. i .inside (n .id .bytes) q ps (c .0) (told .seconds) says h) (k .seconds) z)))
+          (λ q h. i .inside (idIn idBytes (n .id .bytes)) q ps (c .0) (told .seconds) says h) (k .seconds) z)))
 
   pub next-corrupt : {line″ : List ℕ} {m′ : Memory} {b′ : List ℕ} {a : Taken} {r′ : Record} → w ≡ Corrupt → Drops (n .rest) times line′ line″ (n .slot) r′
       → TakesStored excluded settings store r′ (mem names marks times line″) m′ b b′ a → TakesNext excluded settings graph store r (mem names marks times line) m′ b b′ a
   unfolding takeRow dropped withQueue
   next-corrupt {line″} {m′} {b′} {a} {r′} e x t = record { right = λ ok good v sh st u by own d i j z. go ok good v sh st u by own d j z (st .queue) refl }
     where
-      go : storeOk store ≡ true → (isEmpty graph || graphOk graph) ≡ true → (v : Walk) (sh : Shape) (st : State) (u : List Id) → GoesBy v sh excluded settings → v .world ≡ worldOf store graph
+      go : storeOk idBytes store ≡ true → (isEmpty graph || graphOk idBytes graph) ≡ true → (v : Walk) (sh : Shape) (st : State) (u : List Id) → GoesBy v sh excluded settings → v .world ≡ worldOf store graph
           → Rests sh r (mem names marks times line) st u → InStore v u → 5120 ≤ length b → (q : List (Id × ℤ)) → st .queue ≡ q → Gives sh (mem names marks times line) m′ b b′ a (takeNext v st)
       go ok good v sh st u by own d j z [] o = clash f (p .none marks sh st (d .reads) o)
       go ok good v sh st u by own d j z (y ∷ l) o =
           let k = p .some marks sh st (y .0) (y .1) l (d .reads) o in
-          let told : worldUnder (cacheOf graph (r .kept)) graph store .graph (n .id .bytes) ≡ corrupt = rw e at (row-right read (good-cache graph (r .kept) good) store) in
-          let held : n .rest .kept ≡ true = sym (k .reads .kept) ∙ d .reads .kept ∙ corrupt-kept graph store (r .kept) (n .id .bytes) told in
+          let told : worldUnder (cacheOf graph (r .kept)) graph store .graph (idIn idBytes (n .id .bytes)) ≡ corrupt = rw e at (row-right read (good-cache graph (r .kept) good) store) in
+          let held : n .rest .kept ≡ true = sym (k .reads .kept) ∙ d .reads .kept ∙ corrupt-kept graph store (r .kept) (idIn idBytes (n .id .bytes)) told in
           let small : n .rest .admitted + 2 < 4294967296 = omega (arith, d .numbers, k .reads .admitted) in
           let g = x .reads names marks sh (withQueue l st) (y .0) (y .1) (k .reads) (k .failed) held (k .slot) (k .entry) small in
           let shape : sh ≡ shapeFor (v .settings) (sh .cap) = by .shape ∙ ap (λ (s : Settings). shapeFor s (sh .cap)) (sym (by .same-settings)) in

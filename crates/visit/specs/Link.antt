@@ -55,4 +55,4 @@ pub record Visits (excluded : List ℕ) (settings : Settings) (r : Record) (m m�
 
 -- "from the book, else they are 0": the parent x of a commit from the store is visited
 pub record VisitsStored (excluded : List ℕ) (settings : Settings) (store : List ℕ) (r : Record) (m m′ : Memory) (x : Id) (r′ : Record) : Type 0 where
-  pub right : storeOk store ≡ true → (g : List ℕ) → Visits excluded settings r m m′ x (secondsFor (worldOf store g) x) r′
+  pub right : storeOk idBytes store ≡ true → (g : List ℕ) → Visits excluded settings r m m′ x (secondsFor (worldOf store g) x) r′

@@ -47,7 +47,7 @@ pub record VisitsRowParent (excluded : List ℕ) (settings : Settings) (g : List
 
 -- the first n parents of the row at position p
 pub record VisitsRow (excluded : List ℕ) (settings : Settings) (g : List ℕ) (l : Layout) (p n : ℕ) (r : Record) (m m′ : Memory) (b b′ : List ℕ) (r′ : Record) : Type 0 where
-  pub right : graphOk g ≡ true → l ≡ layoutOf g → (ps : List (Id × ℤ)) (v : ℕ) (t : ℤ) → rowAt g p ≡ row ps v t → n ≤ length ps → VisitsAll excluded settings r m m′ b b′ (take n ps) r′
+  pub right : graphOk idBytes g ≡ true → l ≡ layoutOf g → (ps : List (Id × ℤ)) (v : ℕ) (t : ℤ) → rowAt g p ≡ row ps v t → n ≤ length ps → VisitsAll excluded settings r m m′ b b′ (take n ps) r′
   pub past : Past n b b′
 
 -- ---- of a body
@@ -58,14 +58,14 @@ stored w l = map (λ x. (x, secondsFor w x)) l
 
 -- parent k of the body d
 pub record VisitsBodyParent (excluded : List ℕ) (settings : Settings) (store d : List ℕ) (k : ℕ) (r : Record) (m m′ : Memory) (b b′ : List ℕ) (r′ : Record) : Type 0 where
-  pub right : storeOk store ≡ true → (g : List ℕ) → header d .tree ≡ true → k < length (header d .ids)
-      → Visits excluded settings r m m′ (getD (header d .ids) k []) (secondsFor (worldOf store g) (getD (header d .ids) k [])) r′
-      × (b′ ≡ setDown b (idBytes * k) (getD (header d .ids) k []))
+  pub right : storeOk idBytes store ≡ true → (g : List ℕ) → header idBytes d .tree ≡ true → k < length (header idBytes d .ids)
+      → Visits excluded settings r m m′ (getD (header idBytes d .ids) k []) (secondsFor (worldOf store g) (getD (header idBytes d .ids) k [])) r′
+      × (b′ ≡ setDown b (idBytes * k) (getD (header idBytes d .ids) k []))
   pub past : Past (k + 1) b b′
 
 -- the first n parents of the body d
 pub record VisitsParents (excluded : List ℕ) (settings : Settings) (store d : List ℕ) (n : ℕ) (r : Record) (m m′ : Memory) (b b′ : List ℕ) (r′ : Record) : Type 0 where
-  pub right : storeOk store ≡ true → (g : List ℕ) → n ≤ length (header d .ids) → VisitsAll excluded settings r m m′ b b′ (stored (worldOf store g) (take n (header d .ids))) r′
+  pub right : storeOk idBytes store ≡ true → (g : List ℕ) → n ≤ length (header idBytes d .ids) → VisitsAll excluded settings r m m′ b b′ (stored (worldOf store g) (take n (header idBytes d .ids))) r′
   pub past : Past n b b′
 
 -- "save where First has stopped": the first parent alone, and how the reading of a header with a good tree line ends
@@ -88,5 +88,5 @@ pub record ReadsBody (settings : Settings) (h : Header) (r : BodyRead) : Type 0 
 pub record VisitsBody (excluded : List ℕ) (settings : Settings) (store : List ℕ) (h : Header) (r : Record) (m m′ : Memory) (b b′ : List ℕ) (a : BodyVisited) : Type 0 where
   pub parents : a .parents ≡ length (followed settings (h .ids))
   pub ends : refusalOf (a .ends) ≡ ending settings h
-  pub right : storeOk store ≡ true → (g : List ℕ) → VisitsAll excluded settings r m m′ b b′ (stored (worldOf store g) (followed settings (h .ids))) (a .after)
+  pub right : storeOk idBytes store ≡ true → (g : List ℕ) → VisitsAll excluded settings r m m′ b b′ (stored (worldOf store g) (followed settings (h .ids))) (a .after)
   pub past : Past (a .parents) b b′

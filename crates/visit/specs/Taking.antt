@@ -35,6 +35,7 @@ use Rattle.visit.specs.declared.body.BodyVisited.{BodyVisited}
 use Rattle.visit.specs.declared.next.Taken.{Taken}
 use Rattle.visit.specs.Link.{GoesBy, Ready}
 use Rattle.visit.specs.Plain.{Plain}
+use Rattle.hash.specs.Bytes.{idBytes}
 
 -- an answer with the running numbers of the record r
 abbrev pub gave : Outcome → Id → ℕ → MaybeLevel → MaybeSeconds → Record → Taken
@@ -83,24 +84,24 @@ pub record InStore (v : Walk) (u : List Id) : Type 0 where
 
 -- the commit x, queued with t seconds and out of the queue already, from its row
 pub record TakesRow (excluded : List ℕ) (settings : Settings) (g : List ℕ) (l : Layout) (p n : ℕ) (c : Level) (r : Record) (x : Id) (t : ℤ) (m m′ : Memory) (b b′ : List ℕ) (a : Taken) : Type 0 where
-  pub right : graphOk g ≡ true → l ≡ layoutOf g → (ps : List (Id × ℤ)) (s : ℤ) → rowAt g p ≡ row ps (c .0) s → n ≡ length ps → (v : Walk) (sh : Shape) (st : State) (u : List Id) (t′ : ℤ)
+  pub right : graphOk idBytes g ≡ true → l ≡ layoutOf g → (ps : List (Id × ℤ)) (s : ℤ) → rowAt g p ≡ row ps (c .0) s → n ≡ length ps → (v : Walk) (sh : Shape) (st : State) (u : List Id) (t′ : ℤ)
       → GoesBy v sh excluded settings → Ready sh r m st u 256 → ((q : Id) → List·Memᴰ q (map (λ q. q .0) ps) → List·Memᴰ q u) → (sh .timed ≡ true → t ≡ t′) → 5120 ≤ length b
       → Gives sh m m′ b b′ a (fromRow v st x t′ ps (c .0))
   pub plain : n ≤ most → Plain b b′ (a .answer)
 
 -- from the store
 pub record TakesBody (excluded : List ℕ) (settings : Settings) (store : List ℕ) (r : Record) (x : Id) (t : ℤ) (m m′ : Memory) (b b′ : List ℕ) (a : Taken) : Type 0 where
-  pub right : storeOk store ≡ true → (g : List ℕ) (v : Walk) (sh : Shape) (st : State) (u : List Id) (t′ : ℤ) → GoesBy v sh excluded settings → v .world ≡ worldOf store g
+  pub right : storeOk idBytes store ≡ true → (g : List ℕ) (v : Walk) (sh : Shape) (st : State) (u : List Id) (t′ : ℤ) → GoesBy v sh excluded settings → v .world ≡ worldOf store g
       → Ready sh r m st u 256 → InStore v u → (sh .timed ≡ true → t ≡ t′) → 5120 ≤ length b → Gives sh m m′ b b′ a (fromBody v st x t′ (v .world .store x))
   pub plain : Plain b b′ (a .answer)
 
 -- the first of the queue, from the store alone
 pub record TakesStored (excluded : List ℕ) (settings : Settings) (store : List ℕ) (r : Record) (m m′ : Memory) (b b′ : List ℕ) (a : Taken) : Type 0 where
-  pub right : storeOk store ≡ true → (g : List ℕ) (v : Walk) (sh : Shape) (st : State) (u : List Id) → GoesBy v sh excluded settings → v .world ≡ worldOf store g
+  pub right : storeOk idBytes store ≡ true → (g : List ℕ) (v : Walk) (sh : Shape) (st : State) (u : List Id) → GoesBy v sh excluded settings → v .world ≡ worldOf store g
       → Rests sh r m st u → InStore v u → 5120 ≤ length b → Gives sh m m′ b b′ a (takeStore v st (st .queue))
   pub plain : Plain b b′ (a .answer)
 
 -- the next commit
 pub record TakesNext (excluded : List ℕ) (settings : Settings) (graph store : List ℕ) (r : Record) (m m′ : Memory) (b b′ : List ℕ) (a : Taken) : Type 0 where
-  pub right : storeOk store ≡ true → (isEmpty graph || graphOk graph) ≡ true → (v : Walk) (sh : Shape) (st : State) (u : List Id) → GoesBy v sh excluded settings
+  pub right : storeOk idBytes store ≡ true → (isEmpty graph || graphOk idBytes graph) ≡ true → (v : Walk) (sh : Shape) (st : State) (u : List Id) → GoesBy v sh excluded settings
       → v .world ≡ worldOf store graph → Rests sh r m st u → InRows v u → InStore v u → 5120 ≤ length b → Gives sh m m′ b b′ a (takeNext v st)

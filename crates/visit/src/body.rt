@@ -2,6 +2,7 @@
 use crate::link::only_first;
 use crate::link::visit_stored;
 use crate::row::set_parent;
+use hash::Kind;
 use odb::Located;
 use reading::BodyEnd;
 use state::Record;
@@ -11,6 +12,7 @@ ghost use Rattle.odb.specs.Lookup.{partOf};
 ghost use Rattle.odb.specs.declared.Located.the-variants.{Body};
 ghost use Rattle.state.specs.Steps.{mem};
 ghost use Rattle.visit.specs.Parents.{VisitsBodyParent, VisitsParents, EndsFirst, EndsAll, ReadsBody, VisitsBody};
+ghost use Rattle.hash.specs.Bytes.{idBytes};
 
 // How many parents of a body are followed, and how its reading ends.
 pub struct BodyRead {
@@ -30,7 +32,7 @@ const MOST_PARENTS: usize = 256;
 
 // The first parent alone: the reading stops after it.
 fn first_parent(body: &[u8]) -> BodyRead
-    ensures { λ r. ⌜ EndsFirst (header (now (body .entry))) r ⌝ }
+    ensures { λ r. ⌜ EndsFirst (header idBytes (now (body .entry))) r ⌝ }
 {
     let step = reading::body_step(body, 0);
     if step.taken {
@@ -45,7 +47,7 @@ fn first_parent(body: &[u8]) -> BodyRead
 
 // All parents of a body with a good tree line.
 fn all_parents(body: &[u8]) -> BodyRead
-    ensures { λ r. ⌜ EndsAll (header (now (body .entry))) r ⌝ }
+    ensures { λ r. ⌜ EndsAll (header idBytes (now (body .entry))) r ⌝ }
 {
     let mut k = 0;
     while k <= MOST_PARENTS {
@@ -64,7 +66,7 @@ fn all_parents(body: &[u8]) -> BodyRead
 
 // How many parents of a body are followed, and how its reading ends.
 fn read_body(body: &[u8], settings: Settings) -> BodyRead
-    ensures { λ r. ⌜ ReadsBody settings (header (now (body .entry))) r ⌝ }
+    ensures { λ r. ⌜ ReadsBody settings (header idBytes (now (body .entry))) r ⌝ }
 {
     if !reading::body_tree_ok(body) {
         return BodyRead {
@@ -94,19 +96,10 @@ fn visit_body_parent(
 ) -> Record
     ensures { λ a. ⌜ VisitsBodyParent (now (excluded .entry)) settings (now (store .entry)) (now (body .entry)) k r (mem (now (names .entry)) (now (marks .entry)) (now (times .entry)) (now (line .entry))) (mem (now (names .exit)) (now (marks .exit)) (now (times .exit)) (now (line .exit))) (now (parents .entry)) (now (parents .exit)) a ⌝ }
 {
-    let id = reading::body_parent(body, k);
-    set_parent(parents, k, &id.bytes);
-    visit_stored(
-        r,
-        names,
-        marks,
-        times,
-        line,
-        excluded,
-        settings,
-        store,
-        &id.bytes,
-    )
+    let read = reading::body_parent(body, k);
+    let id = object::id_slice(Kind::Sha1, &read.bytes);
+    set_parent(parents, k, id);
+    visit_stored(r, names, marks, times, line, excluded, settings, store, id)
 }
 
 // Sets down and visits the first n parents of a body.
@@ -160,7 +153,7 @@ pub fn visit_body(
     excluded: &[u8],
     settings: Settings,
 ) -> BodyVisited
-    ensures { λ a. ⌜ VisitsBody (now (excluded .entry)) settings (now (store .entry)) (header (partOf (now (store .entry)) (Body start end))) r (mem (now (names .entry)) (now (marks .entry)) (now (times .entry)) (now (line .entry))) (mem (now (names .exit)) (now (marks .exit)) (now (times .exit)) (now (line .exit))) (now (parents .entry)) (now (parents .exit)) a ⌝ }
+    ensures { λ a. ⌜ VisitsBody (now (excluded .entry)) settings (now (store .entry)) (header idBytes (partOf (now (store .entry)) (Body start end))) r (mem (now (names .entry)) (now (marks .entry)) (now (times .entry)) (now (line .entry))) (mem (now (names .exit)) (now (marks .exit)) (now (times .exit)) (now (line .exit))) (now (parents .entry)) (now (parents .exit)) a ⌝ }
 {
     let body = odb::body(store, Located::Body { start, end });
     let read = read_body(body, settings);

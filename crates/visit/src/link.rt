@@ -2,6 +2,7 @@
 use commitgraph::Layout;
 use commitgraph::rows;
 use date::Seconds;
+use hash::Kind;
 use state::Record;
 use state::Seen;
 use walk::Parents;
@@ -14,6 +15,7 @@ ghost use Rattle.walk.specs.Settings.{onlyFirst, cutoffOf, notBefore};
 ghost use Rattle.reading.specs.Tip.{GivesSeconds};
 ghost use Rattle.state.specs.Steps.{mem};
 ghost use Rattle.visit.specs.Link.{Admits, Enters, Visits, VisitsStored};
+ghost use Rattle.hash.specs.Bytes.{idBytes};
 
 // The largest number that is noted beside a slot.
 const MOST: usize = 4294967295;
@@ -77,11 +79,11 @@ fn enter(
 
 // The seconds of a new parent in its own graph row, where commits wait by time; else they are not asked.
 fn new_row_seconds(graph: &[u8], l: Layout, parent: usize, fresh: bool, timed: bool) -> Seconds
-    ensures { λ r. ⌜ (fresh ≡ true → timed ≡ true → r .0 ≡ secondsIn (now (graph .entry)) l parent) ⌝ }
+    ensures { λ r. ⌜ (fresh ≡ true → timed ≡ true → r .0 ≡ secondsIn idBytes (now (graph .entry)) l parent) ⌝ }
 {
     if fresh {
         if timed {
-            return rows::seconds(graph, l, parent);
+            return rows::seconds(Kind::Sha1, graph, l, parent);
         }
     }
     Seconds(0)
@@ -115,7 +117,7 @@ pub fn visit_cached(
     parent: usize,
     id: &[u8],
 ) -> Record
-    ensures { λ a. ⌜ Visits (now (excluded .entry)) settings r (mem (now (names .entry)) (now (marks .entry)) (now (times .entry)) (now (line .entry))) (mem (now (names .exit)) (now (marks .exit)) (now (times .exit)) (now (line .exit))) (now (id .entry)) (secondsIn (now (graph .entry)) l parent) a ⌝ }
+    ensures { λ a. ⌜ Visits (now (excluded .entry)) settings r (mem (now (names .entry)) (now (marks .entry)) (now (times .entry)) (now (line .entry))) (mem (now (names .exit)) (now (marks .exit)) (now (times .exit)) (now (line .exit))) (now (id .entry)) (secondsIn idBytes (now (graph .entry)) l parent) a ⌝ }
 {
     let seen = state::see(r, names, marks, id);
     let q = r.queue;

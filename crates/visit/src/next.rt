@@ -6,6 +6,7 @@ use crate::row::visit_row;
 use commitgraph::Layout;
 use commitgraph::Level;
 use date::Seconds;
+use hash::Kind;
 use object::ObjectId;
 use odb::Located;
 use reading::BodyEnd;
@@ -23,6 +24,8 @@ ghost use Rattle.walk.specs.declared.Outcome.the-variants.{Refused};
 ghost use Rattle.walk.specs.declared.MaybeLevel.the-variants.{NoGeneration};
 ghost use Rattle.walk.specs.declared.MaybeSeconds.the-variants.{NoTime};
 ghost use Rattle.walk.specs.Given.{noId};
+ghost use Rattle.hash.specs.Bytes.{idBytes};
+ghost use Rattle.object.specs.Ids.{idIn};
 ghost use Rattle.state.specs.Steps.{mem};
 ghost use Rattle.visit.specs.Taking.{gave, timeGiven, Follows, EndsBody, TakesRow, TakesBody, TakesStored, TakesNext};
 ghost use Rattle.visit.specs.Plain.{Plain};
@@ -31,6 +34,15 @@ ghost use Rattle.visit.specs.Plain.{Plain};
 pub struct Taken {
     pub answer: Answer,
     pub after: Record,
+}
+
+// An id as an answer has it.
+fn id_given(id: ObjectId) -> [u8; 20]
+    ensures { λ r. ⌜ r ≡ idIn idBytes (id .bytes) ⌝ }
+{
+    let mut bytes = [0u8; 20];
+    hash::set_down(&mut bytes, 0, object::id_slice(Kind::Sha1, &id.bytes));
+    bytes
 }
 
 // An answer with the running numbers of a record.
@@ -42,10 +54,10 @@ fn give(
     time: MaybeSeconds,
     r: Record,
 ) -> Taken
-    ensures { λ a. ⌜ a ≡ gave outcome (id .bytes) parents generation time r ⌝ }
+    ensures { λ a. ⌜ a ≡ gave outcome (idIn idBytes (id .bytes)) parents generation time r ⌝ }
 {
     let q = r.queue;
-    let bytes = id.bytes;
+    let bytes = id_given(id);
     let answer = Answer {
         outcome,
         id: bytes,
@@ -65,7 +77,7 @@ fn refuse(why: Refusal, parents: usize, r: Record) -> Taken
 {
     give(
         Outcome::Refused(why),
-        ObjectId { bytes: [0u8; 20] },
+        ObjectId { bytes: [0u8; 32] },
         parents,
         MaybeLevel::NoGeneration,
         MaybeSeconds::NoTime,
@@ -114,7 +126,7 @@ fn take_row(
     excluded: &[u8],
     settings: Settings,
 ) -> Taken
-    ensures { λ a. ⌜ TakesRow (now (excluded .entry)) settings (now (graph .entry)) l position count level r (id .bytes) (s .0) (mem (now (names .entry)) (now (marks .entry)) (now (times .entry)) (now (line .entry))) (mem (now (names .exit)) (now (marks .exit)) (now (times .exit)) (now (line .exit))) (now (parents .entry)) (now (parents .exit)) a ⌝ }
+    ensures { λ a. ⌜ TakesRow (now (excluded .entry)) settings (now (graph .entry)) l position count level r (idIn idBytes (id .bytes)) (s .0) (mem (now (names .entry)) (now (marks .entry)) (now (times .entry)) (now (line .entry))) (mem (now (names .exit)) (now (marks .exit)) (now (times .exit)) (now (line .exit))) (now (parents .entry)) (now (parents .exit)) a ⌝ }
 {
     let q = r.queue;
     let time = time_given(q.timed, s);
@@ -146,7 +158,7 @@ fn take_row(
 
 // The answer after the parents of a body.
 fn end_body(seen: BodyVisited, id: ObjectId, time: MaybeSeconds) -> Taken
-    ensures { λ a. ⌜ EndsBody seen (id .bytes) time a ⌝ }
+    ensures { λ a. ⌜ EndsBody seen (idIn idBytes (id .bytes)) time a ⌝ }
 {
     let ends = seen.ends;
     match ends {
@@ -177,10 +189,10 @@ fn take_body(
     excluded: &[u8],
     settings: Settings,
 ) -> Taken
-    ensures { λ a. ⌜ TakesBody (now (excluded .entry)) settings (now (store .entry)) r (id .bytes) (s .0) (mem (now (names .entry)) (now (marks .entry)) (now (times .entry)) (now (line .entry))) (mem (now (names .exit)) (now (marks .exit)) (now (times .exit)) (now (line .exit))) (now (parents .entry)) (now (parents .exit)) a ⌝ }
+    ensures { λ a. ⌜ TakesBody (now (excluded .entry)) settings (now (store .entry)) r (idIn idBytes (id .bytes)) (s .0) (mem (now (names .entry)) (now (marks .entry)) (now (times .entry)) (now (line .entry))) (mem (now (names .exit)) (now (marks .exit)) (now (times .exit)) (now (line .exit))) (now (parents .entry)) (now (parents .exit)) a ⌝ }
 {
     let q = r.queue;
-    match odb::locate(store, &id.bytes) {
+    match odb::locate(Kind::Sha1, store, object::id_slice(Kind::Sha1, &id.bytes)) {
         Located::Body { start, end } => {
             let seen = visit_body(
                 r,
@@ -207,7 +219,7 @@ fn end_walk(r: Record) -> Taken
 {
     give(
         Outcome::End,
-        ObjectId { bytes: [0u8; 20] },
+        ObjectId { bytes: [0u8; 32] },
         0,
         MaybeLevel::NoGeneration,
         MaybeSeconds::NoTime,
@@ -287,7 +299,7 @@ pub fn take_next(
     let l = reading::layout_of(cache);
     let id = first.id;
     let near = noted(levels, first.slot);
-    match reading::row_of(cache, graph, &id.bytes, near) {
+    match reading::row_of(cache, graph, object::id_slice(Kind::Sha1, &id.bytes), near) {
         RowRead::Row {
             position,
             parents: count,

@@ -3,6 +3,7 @@ use crate::link::visit_cached;
 use commitgraph::Layout;
 use commitgraph::parents;
 use commitgraph::rows;
+use hash::Kind;
 use state::Record;
 use walk::Settings;
 ghost use Rattle.state.specs.Steps.{mem};
@@ -15,8 +16,8 @@ const MOST_PARENTS: usize = 256;
 pub(crate) fn set_parent(parents: &mut [u8], k: usize, id: &[u8])
     ensures { λ r. ⌜ SetsParent k (now (id .entry)) (now (parents .entry)) (now (parents .exit)) ⌝ }
 {
-    if k < MOST_PARENTS && id.len() <= hash::ID_BYTES {
-        hash::set_down(parents, hash::ID_BYTES * k, id);
+    if k < MOST_PARENTS && id.len() <= hash::width(Kind::Sha1) {
+        hash::set_nth(Kind::Sha1, parents, k, id);
     }
 }
 
@@ -38,8 +39,8 @@ fn visit_row_parent(
 ) -> Record
     ensures { λ a. ⌜ VisitsRowParent (now (excluded .entry)) settings (now (graph .entry)) l position k r (mem (now (names .entry)) (now (marks .entry)) (now (times .entry)) (now (line .entry))) (mem (now (names .exit)) (now (marks .exit)) (now (times .exit)) (now (line .exit))) (now (parents .entry)) (now (parents .exit)) a ⌝ }
 {
-    let parent = parents::parent(graph, l, position, k);
-    let id = rows::id_at(graph, l, parent);
+    let parent = parents::parent(Kind::Sha1, graph, l, position, k);
+    let id = rows::id_at(Kind::Sha1, graph, l, parent);
     set_parent(parents, k, id);
     visit_cached(
         r,

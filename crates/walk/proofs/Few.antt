@@ -17,22 +17,23 @@ use Rattle.commitgraph.proofs.Edges.{parents-few}
 use Rattle.walk.specs.Lookup.{row, worldOf}
 use Rattle.walk.specs.Opening.{Input, walkOf}
 use Rattle.walk.proofs.Rows.{is-row}
+use Rattle.hash.specs.Bytes.{idBytes}
 
-header-few : (b : List ℕ) → length (header b .ids) ≤ most
+header-few : (b : List ℕ) → length (header idBytes b .ids) ≤ most
 header-few b =
-    byCases (header b .tree)
-    (λ e. header-lines b e .few)
-    (λ e. let n : length (header b .ids) ≡ 0 = ap (λ (h : Header). length (h .ids)) (no-header b e) in omega arith)
+    byCases (header idBytes b .tree)
+    (λ e. header-lines idBytes b e .few)
+    (λ e. let n : length (header idBytes b .ids) ≡ 0 = ap (λ (h : Header). length (h .ids)) (no-header idBytes b e) in omega arith)
 
 pub rows-of : (i : Input) (x : Id) (ps : List (Id × ℤ)) (l : ℕ) (s : ℤ) → walkOf i .world .graph x ≡ row ps l s → length ps ≤ most
 unfolding walkOf
 rows-of i x ps l s e =
     let r = is-row (i .store) (i .graph) x ps l s e in
-    omega (arith, ap length (r .same), length-map {B = Id × ℤ} (r .places) (λ (q : ℕ). (graphId (i .graph) q, graphSeconds (i .graph) q)), parents-few (i .graph) (r .place) (r .places) (r .listed))
+    omega (arith, ap length (r .same), length-map {B = Id × ℤ} (r .places) (λ (q : ℕ). (graphId idBytes (i .graph) q, graphSeconds idBytes (i .graph) q)), parents-few idBytes (i .graph) (r .place) (r .places) (r .listed))
 
 pub headers-of : (i : Input) (x : Id) (h : Header) → walkOf i .world .store x ≡ some h → length (h .ids) ≤ most
 unfolding walkOf worldOf
 headers-of i x h e =
-    let o = some-of (storeFind (i .store) x) (λ body. some (header body)) h e in
-    let k : header (o .0) ≡ h = some-in (o .2) in
+    let o = some-of (storeFind idBytes (i .store) x) (λ body. some (header idBytes body)) h e in
+    let k : header idBytes (o .0) ≡ h = some-in (o .2) in
     omega (arith, header-few (o .0), ap (λ (q : Header). length (q .ids)) k)

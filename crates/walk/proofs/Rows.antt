@@ -21,11 +21,12 @@ use Rattle.walk.specs.Reach.{Mem}
 use Rattle.walk.proofs.Laws.{Coherent}
 use Rattle.commitgraph.proofs.LayoutRight.{right}
 use Rattle.commitgraph.proofs.Edges.{parents-below}
+use Rattle.hash.specs.Bytes.{idBytes}
 
 -- the id at a position is found there
-pub row-found : (g : List ℕ) → graphOk g ≡ true → (q : ℕ) → q < graphCount g → graphFind g (graphId g q) ≡ some q
+pub row-found : (g : List ℕ) → graphOk idBytes g ≡ true → (q : ℕ) → q < graphCount g → graphFind idBytes g (graphId idBytes g q) ≡ some q
 unfolding graphFind graphId
-row-found g ok q l = find-at (graphIds g) (graphId g q) (graphCount g) q (right g ok .idsRise) l refl
+row-found g ok q l = find-at (graphIds idBytes g) (graphId idBytes g q) (graphCount g) q (right idBytes g ok .idsRise) l refl
 
 pub mem-of-map : {A B : Type 0} (f : A → B) (l : List A) (b : B) → Mem b (map f l) → (a : A) × Mem a l × (b ≡ f a)
 mem-of-map f [] b m = absurd (List·Memᴰ·not-nil m)
@@ -35,42 +36,42 @@ mem-of-map f (x ∷ xs) b m =
 -- a row of the world is a row of the file
 pub record IsRow (g : List ℕ) (x : Id) (ps : List (Id × ℤ)) : Type 0 where
   pub place : ℕ
-  pub found : graphFind g x ≡ some place
+  pub found : graphFind idBytes g x ≡ some place
   pub places : List ℕ
-  pub listed : graphParents g place ≡ some places
-  pub same : ps ≡ map (λ q. (graphId g q, graphSeconds g q)) places
+  pub listed : graphParents idBytes g place ≡ some places
+  pub same : ps ≡ map (λ q. (graphId idBytes g q, graphSeconds idBytes g q)) places
 
 pub is-row : (b g : List ℕ) (x : Id) (ps : List (Id × ℤ)) (l : ℕ) (s : ℤ) → worldOf b g .graph x ≡ row ps l s → IsRow g x ps
 unfolding worldOf rowAt
-is-row b g x ps l s e = go (graphFind g x) refl e
+is-row b g x ps l s e = go (graphFind idBytes g x) refl e
   where
-    on : (p : ℕ) → graphFind g x ≡ some p → (o : Option (List ℕ)) → graphParents g p ≡ o
-        → ifSome o corrupt (λ qs. row (map (λ q. (graphId g q, graphSeconds g q)) qs) (generation g p) (graphSeconds g p)) ≡ row ps l s → IsRow g x ps
+    on : (p : ℕ) → graphFind idBytes g x ≡ some p → (o : Option (List ℕ)) → graphParents idBytes g p ≡ o
+        → ifSome o corrupt (λ qs. row (map (λ q. (graphId idBytes g q, graphSeconds idBytes g q)) qs) (generation idBytes g p) (graphSeconds idBytes g p)) ≡ row ps l s → IsRow g x ps
     on p f none k e′ = let z : _≡_ {A = ℕ} 0 1 = cc in absurd (omega arith)
     on p f (some qs) k e′ = record { place = p; found = f; places = qs; listed = k; same = cc }
 
-    go : (o : Option ℕ) → graphFind g x ≡ o → ifSome o no-row (λ p. rowAt g p) ≡ row ps l s → IsRow g x ps
+    go : (o : Option ℕ) → graphFind idBytes g x ≡ o → ifSome o no-row (λ p. rowAt g p) ≡ row ps l s → IsRow g x ps
     go none k e′ = let z : _≡_ {A = ℕ} 0 1 = cc in absurd (omega arith)
-    go (some p) k e′ = on p k (graphParents g p) refl e′
+    go (some p) k e′ = on p k (graphParents idBytes g p) refl e′
 
-row-or-corrupt : (b g : List ℕ) (x : Id) (p : ℕ) → graphFind g x ≡ some p
-    → (worldOf b g .graph x ≡ corrupt) ⊎ ((qs : List (Id × ℤ)) × (m : ℕ) × (worldOf b g .graph x ≡ row qs m (graphSeconds g p)))
+row-or-corrupt : (b g : List ℕ) (x : Id) (p : ℕ) → graphFind idBytes g x ≡ some p
+    → (worldOf b g .graph x ≡ corrupt) ⊎ ((qs : List (Id × ℤ)) × (m : ℕ) × (worldOf b g .graph x ≡ row qs m (graphSeconds idBytes g p)))
 unfolding worldOf rowAt
-row-or-corrupt b g x p f = go (graphParents g p) refl
+row-or-corrupt b g x p f = go (graphParents idBytes g p) refl
   where
-    go : (o : Option (List ℕ)) → graphParents g p ≡ o → (worldOf b g .graph x ≡ corrupt) ⊎ ((qs : List (Id × ℤ)) × (m : ℕ) × (worldOf b g .graph x ≡ row qs m (graphSeconds g p)))
+    go : (o : Option (List ℕ)) → graphParents idBytes g p ≡ o → (worldOf b g .graph x ≡ corrupt) ⊎ ((qs : List (Id × ℤ)) × (m : ℕ) × (worldOf b g .graph x ≡ row qs m (graphSeconds idBytes g p)))
     go none k = inl (rw (f, k))
-    go (some l) k = inr (map (λ q. (graphId g q, graphSeconds g q)) l, generation g p, rw (f, k))
+    go (some l) k = inr (map (λ q. (graphId idBytes g q, graphSeconds idBytes g q)) l, generation idBytes g p, rw (f, k))
 
-pub coherent-world : (b g : List ℕ) → graphOk g ≡ true → Coherent (worldOf b g)
+pub coherent-world : (b g : List ℕ) → graphOk idBytes g ≡ true → Coherent (worldOf b g)
 unfolding Coherent
 coherent-world b g ok x ps l s e t m =
     let r = is-row b g x ps l s e in
-    let q = mem-of-map (λ q. (graphId g q, graphSeconds g q)) (r .places) t (rw (r .same) at m) in
-    let f = row-found g ok (q .0) (parents-below g (r .place) (r .places) (r .listed) (q .0) (q .1)) in
-    rw (q .2) (row-or-corrupt b g (graphId g (q .0)) (q .0) f)
+    let q = mem-of-map (λ q. (graphId idBytes g q, graphSeconds idBytes g q)) (r .places) t (rw (r .same) at m) in
+    let f = row-found g ok (q .0) (parents-below idBytes g (r .place) (r .places) (r .listed) (q .0) (q .1)) in
+    rw (q .2) (row-or-corrupt b g (graphId idBytes g (q .0)) (q .0) f)
 
-pub find-nil : (y : Id) → graphFind [] y ≡ none
+pub find-nil : (y : Id) → graphFind idBytes [] y ≡ none
 unfolding graphFind graphCount findIn
 find-nil y = refl
 
@@ -79,10 +80,10 @@ pub no-rows : (b : List ℕ) → Coherent (worldOf b [])
 unfolding Coherent
 no-rows b x ps l s e t m = no-some (sym (find-nil x) ∙ is-row b [] x ps l s e .found)
 
-rowIds-in : (g : List ℕ) (k q : ℕ) → q < k → Mem (graphId g q) (rowIds g k)
+rowIds-in : (g : List ℕ) (k q : ℕ) → q < k → Mem (graphId idBytes g q) (rowIds g k)
 unfolding rowIds
 rowIds-in g zero q l = absurd (omega arith)
-rowIds-in g (suc k) q l = ⊎-elim (λ e. List·Memᴰ·head (ap (graphId g) e)) (λ h. List·Memᴰ·tail (rowIds-in g k q h)) (eq-or-lt-of-le le)
+rowIds-in g (suc k) q l = ⊎-elim (λ e. List·Memᴰ·head (ap (graphId idBytes g) e)) (λ h. List·Memᴰ·tail (rowIds-in g k q h)) (eq-or-lt-of-le le)
   where
     le : q ≤ k
     le = omega arith
@@ -96,6 +97,6 @@ pub rows-in : (b g : List ℕ) (x p : Id) (ps : List (Id × ℤ)) (l : ℕ) (s :
 rows-in b g x p ps l s e m =
     let r = is-row b g x ps l s e in
     let t = mem-of-map (λ (q : Id × ℤ). q .0) ps p m in
-    let q = mem-of-map (λ q. (graphId g q, graphSeconds g q)) (r .places) (t .0) (subst (λ (l : List (Id × ℤ)). Mem (t .0) l) (r .same) (t .1)) in
-    let e₁ : p ≡ graphId g (q .0) = t .2 ∙ ap (λ (u : Id × ℤ). u .0) (q .2) in
-    rw e₁ (rowIds-in g (graphCount g) (q .0) (parents-below g (r .place) (r .places) (r .listed) (q .0) (q .1)))
+    let q = mem-of-map (λ q. (graphId idBytes g q, graphSeconds idBytes g q)) (r .places) (t .0) (subst (λ (l : List (Id × ℤ)). Mem (t .0) l) (r .same) (t .1)) in
+    let e₁ : p ≡ graphId idBytes g (q .0) = t .2 ∙ ap (λ (u : Id × ℤ). u .0) (q .2) in
+    rw e₁ (rowIds-in g (graphCount g) (q .0) (parents-below idBytes g (r .place) (r .places) (r .listed) (q .0) (q .1)))

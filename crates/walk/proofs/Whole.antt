@@ -14,7 +14,8 @@ use Rattle.hash.specs.Bytes.{Id, among, idsOf}
 use Rattle.walk.specs.declared.Refusal.{Refusal}
 use Rattle.object.specs.Header.{Header, header}
 use Rattle.odb.specs.Store.{storeOk, storeFind}
-use Rattle.commitgraph.specs.Graph.{graphHead, graphOk, graphCount}
+use Rattle.hash.specs.declared.Kind.the-variants.{Sha1}
+use Rattle.commitgraph.specs.Graph.{hashVersion, graphHead, graphOk, graphCount}
 use Rattle.hash.proofs.Tests.{clash, or-cases, some-of, some-in, no-some}
 use Rattle.walk.proofs.Laws.{Coherent}
 use Rattle.walk.specs.Settings.{goesBefore, byTime}
@@ -38,12 +39,13 @@ use Rattle.walk.proofs.Tips.{open-accepted, open-keep}
 use Rattle.walk.proofs.Tally.{calls-sum, calls-end}
 use Rattle.walk.proofs.Files.{find-parents, storeParents-length}
 use Rattle.walk.proofs.Rows.{coherent-world, no-rows, rows-in, rowIds-length}
+use Rattle.hash.specs.Bytes.{idBytes}
 
 -- ---- what an accepted opening shows
 
 pub record Accepted (i : Input) : Type 0 where
-  pub store-ok : storeOk (i .store) ≡ true
-  pub graph-ok : (isEmpty (i .graph) ≡ true) ⊎ (graphOk (i .graph) ≡ true)
+  pub store-ok : storeOk idBytes (i .store) ≡ true
+  pub graph-ok : (isEmpty (i .graph) ≡ true) ⊎ (graphOk idBytes (i .graph) ≡ true)
 
 pick-none : (b : Bool) (n : Option Refusal) (r : Refusal) → cond b n (some r) ≡ none → (b ≡ true) × (n ≡ none)
 pick-none true n r e = (refl, e)
@@ -54,10 +56,10 @@ unfolding refusal
 accepted i e =
     let a = pick-none (sizesOk i) _ InputTooLarge e in
     let b = pick-none (wholeIds i) _ PartialId (a .1) in
-    let c = pick-none (storeOk (i .store)) _ CorruptStore (b .1) in
-    let d = pick-none (isEmpty (i .graph) || graphHead (i .graph)) _ UnknownGraph (c .1) in
-    let f = pick-none (isEmpty (i .graph) || graphOk (i .graph)) none CorruptGraph (d .1) in
-    record { store-ok = c .0; graph-ok = or-cases {a = isEmpty (i .graph)} {b = graphOk (i .graph)} (f .0) }
+    let c = pick-none (storeOk idBytes (i .store)) _ CorruptStore (b .1) in
+    let d = pick-none (isEmpty (i .graph) || graphHead (hashVersion Sha1) (i .graph)) _ UnknownGraph (c .1) in
+    let f = pick-none (isEmpty (i .graph) || graphOk idBytes (i .graph)) none CorruptGraph (d .1) in
+    record { store-ok = c .0; graph-ok = or-cases {a = isEmpty (i .graph)} {b = graphOk idBytes (i .graph)} (f .0) }
 
 empty-is : (g : List ℕ) → isEmpty g ≡ true → g ≡ []
 unfolding isEmpty
@@ -70,13 +72,13 @@ coherent-of i a = go (i .graph) (a .graph-ok)
     none-there : (g : List ℕ) → isEmpty g ≡ true → g ≡ []
     none-there g e = empty-is g e
 
-    go : (g : List ℕ) → (isEmpty g ≡ true) ⊎ (graphOk g ≡ true) → Coherent (worldOf (i .store) g)
+    go : (g : List ℕ) → (isEmpty g ≡ true) ⊎ (graphOk idBytes g ≡ true) → Coherent (worldOf (i .store) g)
     go g (inl e) = subst (λ (h : List ℕ). Coherent (worldOf (i .store) h)) (sym (none-there g e)) (no-rows (i .store))
     go g (inr e) = coherent-world (i .store) g e
 
 -- ---- the ids of a list
 
-length-cut : (k : ℕ) (b : List ℕ) → length (idsOf k b) ≡ k
+length-cut : (k : ℕ) (b : List ℕ) → length (idsOf idBytes k b) ≡ k
 unfolding idsOf
 length-cut zero b = refl
 length-cut (suc k) b = ap suc (length-cut k _)
@@ -90,8 +92,8 @@ length-list b = length-cut (length b / 20) b
 store-names : (i : Input) (x p : Id) (h : Header) → worldOf (i .store) (i .graph) .store x ≡ some h → Mem p (h .ids) → Mem p (storeParents (i .store))
 unfolding worldOf
 store-names i x p h e m =
-    let o = some-of (storeFind (i .store) x) (λ body. some (header body)) h e in
-    let k : header (o .0) ≡ h = some-in (o .2) in
+    let o = some-of (storeFind idBytes (i .store) x) (λ body. some (header idBytes body)) h e in
+    let k : header idBytes (o .0) ≡ h = some-in (o .2) in
     find-parents (i .store) x (o .0) (o .1) p (subst (λ (q : Header). Mem p (q .ids)) (sym k) m)
 
 store-names′ : (i : Input) (x p : Id) (h : Header) → walkOf i .world .store x ≡ some h → Mem p (h .ids) → Mem p (storeParents (i .store))

@@ -43,11 +43,11 @@ wide-at : (l : List Id) → ((k : ℕ) → k < length l → length (getD l k [])
 wide-at [] h = wide-nil
 wide-at (y ∷ l) h = wide-cons y l (h 0 (omega arith)) (wide-at l (λ k d. h (suc k) (omega arith)))
 
-cut-wide : (k : ℕ) (b : List ℕ) → idBytes * k ≤ length b → Wide (idsOf k b)
+cut-wide : (k : ℕ) (b : List ℕ) → idBytes * k ≤ length b → Wide (idsOf idBytes k b)
 unfolding idsOf
 cut-wide zero b h = wide-nil
 cut-wide (suc k) b h =
-    wide-cons (take idBytes b) (idsOf k (drop idBytes b)) (simp length-take (omega arith)) (cut-wide k (drop idBytes b) (simp length-drop (omega arith)))
+    wide-cons (take idBytes b) (idsOf idBytes k (drop idBytes b)) (simp length-take (omega arith)) (cut-wide k (drop idBytes b) (simp length-drop (omega arith)))
 
 -- the ids of a list
 pub list-wide : (b : List ℕ) → Wide (listIds b)
@@ -55,28 +55,28 @@ unfolding listIds
 list-wide b = cut-wide (length b / idBytes) b (omega arith)
 
 -- the parents of a body
-header-wide : (b : List ℕ) → Wide (header b .ids)
+header-wide : (b : List ℕ) → Wide (header idBytes b .ids)
 header-wide b =
-    byCases (header b .tree)
-    (λ g. wide-at (header b .ids) (parent-width b g))
-    (λ g. subst Wide (sym (ap (λ (h : Header). h .ids) (no-header b g))) wide-nil)
+    byCases (header idBytes b .tree)
+    (λ g. wide-at (header idBytes b .ids) (parent-width idBytes b g))
+    (λ g. subst Wide (sym (ap (λ (h : Header). h .ids) (no-header idBytes b g))) wide-nil)
 
 upTo-wide : (b : List ℕ) (k : ℕ) → Wide (parentsUpTo b k)
 unfolding parentsUpTo
 upTo-wide b zero = wide-nil
-upTo-wide b (suc k) = wide-append (parentsUpTo b k) (header (body b k) .ids) (upTo-wide b k) (header-wide (body b k))
+upTo-wide b (suc k) = wide-append (parentsUpTo b k) (header idBytes (body idBytes b k) .ids) (upTo-wide b k) (header-wide (body idBytes b k))
 
 -- the rows
-ids-stand : (g : List ℕ) → graphOk g ≡ true → Stands (graphIds g) (graphCount g)
+ids-stand : (g : List ℕ) → graphOk idBytes g ≡ true → Stands (graphIds idBytes g) (graphCount g)
 unfolding graphIds
-ids-stand g ok = record { moves = omega arith; apart = omega arith; inside = omega (arith, right g ok .places .ids) }
+ids-stand g ok = record { moves = omega arith; apart = omega arith; inside = omega (arith, right idBytes g ok .places .ids) }
 
-rows-wide : (g : List ℕ) (k : ℕ) → Stands (graphIds g) (graphCount g) → k ≤ graphCount g → Wide (rowIds g k)
+rows-wide : (g : List ℕ) (k : ℕ) → Stands (graphIds idBytes g) (graphCount g) → k ≤ graphCount g → Wide (rowIds g k)
 unfolding rowIds graphId graphIds
 rows-wide g zero s h = wide-nil
-rows-wide g (suc k) s h = wide-cons (graphId g k) (rowIds g k) (length-idOf (graphIds g) (graphCount g) k s h) (rows-wide g k s (omega arith))
+rows-wide g (suc k) s h = wide-cons (graphId idBytes g k) (rowIds g k) (length-idOf (graphIds idBytes g) (graphCount g) k s h) (rows-wide g k s (omega arith))
 
-graph-wide : (g : List ℕ) → (isEmpty g ≡ true) ⊎ (graphOk g ≡ true) → Wide (rowIds g (graphCount g))
+graph-wide : (g : List ℕ) → (isEmpty g ≡ true) ⊎ (graphOk idBytes g ≡ true) → Wide (rowIds g (graphCount g))
 unfolding isEmpty graphCount rowIds
 graph-wide [] o = wide-nil
 graph-wide (y ∷ g) (inl e) = clash refl (sym e)

@@ -14,6 +14,7 @@ use Rattle.commitgraph.specs.Graph.{graphFind, graphId, graphParents, graphSeco
 use Rattle.walk.specs.declared.GenThenTime.{GenThenTime}
 use Rattle.walk.specs.declared.Refusal.{Refusal}
 use Rattle.walk.specs.declared.Refusal.the-variants.{CommitNotFound, CommitUnreadable, TooManyParents}
+use Rattle.hash.specs.Bytes.{idBytes}
 
 -- what the commit-graph file says of an id: it does not list it; it lists it with a corrupt parent list; or with a good one, and then
 -- come the parents in order, each with the seconds of its own row, the generation (level) and the seconds
@@ -29,13 +30,13 @@ pub record World : Type 0 where
 
 unfoldable pub rowAt : List ℕ → ℕ → Row
 rowAt g p =
-    ifSome (graphParents g p) corrupt λ ps.
-    row (map (λ q. (graphId g q, graphSeconds g q)) ps) (generation g p) (graphSeconds g p)
+    ifSome (graphParents idBytes g p) corrupt λ ps.
+    row (map (λ q. (graphId idBytes g q, graphSeconds idBytes g q)) ps) (generation idBytes g p) (graphSeconds idBytes g p)
 
 unfoldable pub worldOf : List ℕ → List ℕ → World
 worldOf store g = record {
-  graph = λ x. ifSome (graphFind g x) no-row (λ p. rowAt g p);
-  store = λ x. ifSome (storeFind store x) none (λ body. some (header body));
+  graph = λ x. ifSome (graphFind idBytes g x) no-row (λ p. rowAt g p);
+  store = λ x. ifSome (storeFind idBytes store x) none (λ body. some (header idBytes body));
 }
 
 -- the committer time in the store; none where the commit is absent or its header not good through committer. "Where only seconds are

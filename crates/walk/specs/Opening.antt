@@ -9,7 +9,8 @@ use lib.Dec.{eqb, leb}
 use lib.IntN.{pos}
 use Rattle.hash.specs.Bytes.{Id, idBytes, among, idsOf, ifSome}
 use Rattle.odb.specs.Store.{storeOk}
-use Rattle.commitgraph.specs.Graph.{graphHead, graphOk, graphCount}
+use Rattle.hash.specs.declared.Kind.the-variants.{Sha1}
+use Rattle.commitgraph.specs.Graph.{hashVersion, graphHead, graphOk, graphCount}
 use Rattle.walk.specs.declared.Settings.{Settings}
 use Rattle.walk.specs.declared.Refusal.{Refusal}
 use Rattle.walk.specs.declared.Refusal.the-variants.{BufferTooSmall, InputTooLarge, PartialId, CorruptStore, UnknownGraph, CorruptGraph, TipNotFound, TipUnreadable}
@@ -28,7 +29,7 @@ pub record Input : Type 0 where
 
 -- the ids of a list
 unfoldable pub listIds : List ℕ → List Id
-listIds b = idsOf (length b / idBytes) b
+listIds b = idsOf idBytes (length b / idBytes) b
 
 -- "`parent ` likewise (48 bytes)": the length of a parent line
 abbrev pub parentBytes : ℕ
@@ -49,11 +50,15 @@ walkOf i = record {
 
 -- ---- 2 to 6
 
+-- the bytes of 1,024 ids: 20,480
+abbrev pub listLimit : ℕ
+listLimit = 1024 * idBytes
+
 -- 2: "book or graph over 16,777,216 bytes, or a list over 1,024 ids (20,480 bytes)"
 unfoldable pub sizesOk : Input → Bool
 sizesOk i =
     leb (length (i .store)) 16777216 && leb (length (i .graph)) 16777216
-    && leb (length (i .tips)) 20480 && leb (length (i .hidden)) 20480 && leb (length (i .excluded)) 20480
+    && leb (length (i .tips)) listLimit && leb (length (i .hidden)) listLimit && leb (length (i .excluded)) listLimit
 
 -- 3: "list bytes not a multiple of 20"
 unfoldable pub wholeIds : Input → Bool
@@ -62,9 +67,9 @@ wholeIds i = eqb (length (i .tips) % idBytes) 0 && eqb (length (i .hidden) % idB
 -- the first of 2 to 6 that applies. "A zero-length graph means none"
 unfoldable pub refusal : Input → Option Refusal
 refusal i =
-    let six : Option Refusal = cond (isEmpty (i .graph) || graphOk (i .graph)) none (some CorruptGraph) in
-    let five : Option Refusal = cond (isEmpty (i .graph) || graphHead (i .graph)) six (some UnknownGraph) in
-    let four : Option Refusal = cond (storeOk (i .store)) five (some CorruptStore) in
+    let six : Option Refusal = cond (isEmpty (i .graph) || graphOk idBytes (i .graph)) none (some CorruptGraph) in
+    let five : Option Refusal = cond (isEmpty (i .graph) || graphHead (hashVersion Sha1) (i .graph)) six (some UnknownGraph) in
+    let four : Option Refusal = cond (storeOk idBytes (i .store)) five (some CorruptStore) in
     let three : Option Refusal = cond (wholeIds i) four (some PartialId) in
     cond (sizesOk i) three (some InputTooLarge)
 
@@ -79,11 +84,15 @@ pub record Lengths : Type 0 where
   pub line : ℕ
   pub parents : ℕ
 
+-- the bytes of 256 parents' ids: 5,120
+abbrev pub parentsRoom : ℕ
+parentsRoom = 256 * idBytes
+
 -- "Lent: names 20·P bytes, marks P bytes, levels P u32, times P i64, line 5·P u32, parents 5,120 bytes": every buffer has its size
 unfoldable pub roomFor : Input → Lengths → Bool
 roomFor i l =
     leb (idBytes * P i) (l .names) && leb (P i) (l .marks) && leb (P i) (l .levels) && leb (P i) (l .times) && leb (5 * P i) (l .line)
-    && leb 5120 (l .parents)
+    && leb parentsRoom (l .parents)
 
 -- ---- 7 and 8, and the tips
 

@@ -7,11 +7,12 @@ use Rattle.object.specs.Header.{header}
 use Rattle.odb.specs.Store.{entries, body}
 use Rattle.commitgraph.specs.Graph.{graphCount, graphId}
 use Rattle.walk.specs.Opening.{Input, listIds}
+use Rattle.hash.specs.Bytes.{idBytes}
 
 -- the ids in the parent lines of the first k bodies
 unfoldable pub parentsUpTo : List ℕ → ℕ → List Id
 parentsUpTo b zero = []
-parentsUpTo b (suc k) = parentsUpTo b k ++ header (body b k) .ids
+parentsUpTo b (suc k) = parentsUpTo b k ++ header idBytes (body idBytes b k) .ids
 
 -- of all bodies
 unfoldable pub storeParents : List ℕ → List Id
@@ -20,7 +21,7 @@ storeParents b = parentsUpTo b (entries b)
 -- the ids of k rows
 unfoldable pub rowIds : List ℕ → ℕ → List Id
 rowIds g zero = []
-rowIds g (suc k) = graphId g k ∷ rowIds g k
+rowIds g (suc k) = graphId idBytes g k ∷ rowIds g k
 
 -- all that a visit can meet
 abbrev pub names : Input → List Id

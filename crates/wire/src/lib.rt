@@ -25,6 +25,9 @@ ghost use Rattle.wire.specs.Numbers.{timeOrder, sortingOf, parentsOf, se
 // How many words a record has.
 const RECORD_WORDS: usize = 12;
 
+// The bytes of an answer's id.
+const ID_BYTES: usize = 20;
+
 // How many numbers an opening's answer has, and a call's.
 const OPEN_NUMBERS: usize = 3;
 
@@ -53,7 +56,7 @@ pub fn can_call(words: &[u64], id: &[u8], numbers: &[u64], seconds: &[i64]) -> b
     if words.len() < RECORD_WORDS {
         return false;
     }
-    if id.len() < hash::ID_BYTES {
+    if id.len() < ID_BYTES {
         return false;
     }
     if numbers.len() < CALL_NUMBERS {

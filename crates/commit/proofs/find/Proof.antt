@@ -8,11 +8,14 @@ use Rattle.commit.proofs.find.Tie as tie
 enum-known-cache : tie.Need-enum-known-cache
 enum-known-cache c = search needs
 
-lookup-requires : tie.Need-lookup-requires
-lookup-requires c κs = search needs
+lookup-near-requires : tie.Need-lookup-near-requires
+lookup-near-requires c κs = search needs
 
 enum-known-p : tie.Need-enum-known-p
 enum-known-p c = search needs
+
+in-graph-requires : tie.Need-in-graph-requires
+in-graph-requires c κs = search needs
 
 enum-told : tie.Need-enum-told
 enum-told c = search needs
@@ -33,10 +36,10 @@ in-store-requires-2 : tie.Need-in-store-requires-2
 in-store-requires-2 c κs = search needs
 
 returns : tie.Need-returns
-returns c = rw (c .before .before .before .before .before .cache .given .1) (by-row (c .before .before .before .before .before .before .before .before .before .before .args .store .now) _ (c .before .before .before .lookup .ensures) (c .before .p .given .1))
+returns c = rw (c .before .before .before .before .before .before .cache .given .1, c .in-graph .ensures) (by-row (c .before .before .before .before .before .before .before .before .before .before .before .args .store .now) _ (c .before .before .before .before .lookup-near .ensures) (c .before .before .p .given .1))
 
 returns-2 : tie.Need-returns-2
-returns-2 c = rw (c .before .before .before .before .before .before .cache .given .1, c .in-store .ensures) (past-graph (c .before .before .before .before .before .before .before .before .before .before .before .args .store .now) _ (c .before .before .before .before .lookup .ensures) (c .before .before .enum-told .given .1) (c .before .locate .ensures))
+returns-2 c = rw (c .before .before .before .before .before .before .cache .given .1, c .in-store .ensures) (past-graph (c .before .before .before .before .before .before .before .before .before .before .before .args .store .now) _ (c .before .before .before .before .lookup-near .ensures) (c .before .before .enum-told .given .1) (c .before .locate .ensures))
 
 returns-3 : tie.Need-returns-3
 returns-3 c = rw (c .before .before .enum-told2 .given .1, c .in-store2 .ensures) (without-graph (c .before .before .before .before .before .before .before .args .graph .now) (c .before .before .before .before .before .before .before .args .store .now) _ (c .before .locate2 .ensures))
@@ -46,8 +49,9 @@ find-spec =
     tie.close
     (tie.spec
     enum-known-cache
-    lookup-requires
+    lookup-near-requires
     enum-known-p
+    in-graph-requires
     enum-told
     locate-requires
     in-store-requires

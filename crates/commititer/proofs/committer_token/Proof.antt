@@ -2,11 +2,14 @@
 use mathlib.Core.Path.{sym, ap, _∙_}
 use lib.ListN.{drop}
 use Rattle.object.specs.Header.{committerLine}
-use Rattle.commititer.specs.Token.{tokenOf}
+use Rattle.commititer.specs.Token.{here, tokenOf}
+use Rattle.commititer.specs.declared.State.the-variants.{Committer}
 use Rattle.commititer.proofs.Told.{committer-good, committer-bad}
 use borrow.Author.Needs.{needs}
 use Rattle.commititer.proofs.committer_token.Statement.{statement}
 use Rattle.commititer.proofs.committer_token.Tie as tie
+use Rattle.commititer.proofs.committer_token.Reads as reads
+use Rattle.commititer.proofs.committer_token.Lts as lts
 
 committer-line-requires : tie.Need-committer-line-requires
 committer-line-requires c κs = search needs
@@ -28,14 +31,14 @@ returns c =
     let x = c .before .before .before .before .before .before .args in
     let b = x .«data» .now in
     c .without-id .ensures
-    ∙ sym (ap (tokenOf b (x .at)) (committer-good (committerLine (drop (x .at) b)) _ (sym (c .before .before .before .before .committer-line .ensures) ∙ c .before .before .seconds .given .1)))
+    ∙ sym (ap (tokenOf b (here (x .at) Committer)) (committer-good (committerLine (drop (x .at) b)) _ (sym (c .before .before .before .before .committer-line .ensures) ∙ c .before .before .seconds .given .1)))
 
 returns-2 : tie.Need-returns-2
 returns-2 c =
     let x = c .before .before .before .before .before .args in
     let b = x .«data» .now in
     c .no-line .ensures
-    ∙ sym (ap (tokenOf b (x .at)) (committer-bad (committerLine (drop (x .at) b)) (sym (c .before .before .before .committer-line .ensures) ∙ c .before .enum-told .given .1)))
+    ∙ sym (ap (tokenOf b (here (x .at) Committer)) (committer-bad (committerLine (drop (x .at) b)) (sym (c .before .before .before .committer-line .ensures) ∙ c .before .enum-told .given .1)))
 
 pub committer-token-spec : {M : Type 1} → statement M
 committer-token-spec =

@@ -1,4 +1,4 @@
--- `commititer::no_line` meets its contract: the test tells a bad line from the end. Assumes nothing.
+-- `commititer::no_line` meets its contract: the place is tested. Assumes nothing.
 use mathlib.Core.Path.{sym, ap, _∙_}
 use mathlib.Core.Bool.{Bool}
 use borrow.Author.Tests.{lt-ltb, le-ltb}
@@ -8,6 +8,8 @@ use Rattle.commititer.specs.declared.Token.the-variants.{Bad, End}
 use borrow.Author.Needs.{needs}
 use Rattle.commititer.proofs.no_line.Statement.{statement}
 use Rattle.commititer.proofs.no_line.Tie as tie
+use Rattle.commititer.proofs.no_line.Reads as reads
+use Rattle.commititer.proofs.no_line.Lts as lts
 
 without-id-requires : tie.Need-without-id-requires
 without-id-requires c κs = search needs

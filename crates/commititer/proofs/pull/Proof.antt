@@ -35,6 +35,7 @@ use denote.Triple.Spec.{Meets, tripleOf}
 use denote.Triple.Table.{entered, cited}
 use denote.Triple.Walked.{says, Stays, walkOf, Walks, ends-at, walked, walk-meets}
 use denote.Triple.Clauses.{ensured, lasts}
+use Rattle.hash.specs.Bytes.{widthOf}
 use Rattle.commititer.specs.Token.{tokenAt, afterToken}
 use Rattle.commititer.specs.declared.CommitRefIter.{CommitRefIter}
 use Rattle.commititer.specs.declared.TokenRead.{TokenRead}
@@ -86,7 +87,7 @@ module _ {M : Type 1} (𝓤 : URA M) (H : Heap 𝓤) (A : Atoms 𝓤) (W : Given
   D = record { mir = named 1; lft = κ′ }
 
   abbrev mach : Val
-  mach = T′.lowered h
+  mach = LL.val (T.the-type D) (T′.the-laws D) h
 
   abbrev Own : Fml
   Own = B κ′ .own h (mach ∷ [])
@@ -102,7 +103,7 @@ module _ {M : Type 1} (𝓤 : URA M) (H : Heap 𝓤) (A : Atoms 𝓤) (W : Given
   goes-adv = qed W (‵ Own ∷ (‵ (flft κ′ q′) ⊛ ‵ ftrue) ∷ []) ∵ nothing ! $ move ! (1 ∷ 0 ∷ []) $ fjoin ! $ move ! (1 ∷ 0 ∷ []) $ join ! $ frame ! $ done !
 
   abbrev Advanced : CommitRefIter → Type 0
-  Advanced r = (r .data ≡ h .data) × (r .at ≡ afterToken (now (h .data)) (h .at))
+  Advanced r = (r .data ≡ h .data) × (r .place ≡ afterToken (widthOf (h .kind)) (now (h .data)) (h .place)) × (r .kind ≡ h .kind)
 
   adv-said : (r : CommitRefIter) → ent 𝓤 (ensured 𝓤 H A adv.ended (adv.clauses 𝓤 H A at-mem run) (κ′, tt) (h, tt) tt r) (fact 𝓤 (Advanced r))
   adv-said r = exE 𝓤 _ (λ ws. snd∗ 𝓤 (sem 𝓤 H A (lasts adv.ended (κ′, tt) (h, tt) ws)) (fact 𝓤 (Advanced r)))
@@ -114,7 +115,7 @@ module _ {M : Type 1} (𝓤 : URA M) (H : Heap 𝓤) (A : Atoms 𝓤) (W : Given
   goes-next = qed W (‵ Own ∷ (‵ (flft κ′ q′) ⊛ ‵ ftrue) ∷ []) ∵ nothing ! $ move ! (1 ∷ 0 ∷ []) $ fjoin ! $ move ! (1 ∷ 0 ∷ []) $ join ! $ frame ! $ done !
 
   abbrev Found : TokenRead → Type 0
-  Found t = t ≡ tokenAt (now (h .data)) (h .at)
+  Found t = t ≡ tokenAt (widthOf (h .kind)) (now (h .data)) (h .place)
 
   next-said : (t : TokenRead) → ent 𝓤 (ensured 𝓤 H A next.ended (next.clauses 𝓤 H A at-mem run) (κ′, tt) (h, tt) tt t) (fact 𝓤 (Found t))
   next-said t = exE 𝓤 _ (λ ws. snd∗ 𝓤 (sem 𝓤 H A (lasts next.ended (κ′, tt) (h, tt) ws)) (fact 𝓤 (Found t)))
@@ -123,7 +124,7 @@ module _ {M : Type 1} (𝓤 : URA M) (H : Heap 𝓤) (A : Atoms 𝓤) (W : Given
       → ent 𝓤 (⋆ 𝓤 H A (‵ (S.the-row .own t (u ∷ [])) ∷ (‵ (flft κ′ q′) ⊛ ‵ ftrue) ∷ ‵ (fobs γ (B κ′ .coded .code r)) ∷ ‵ (fbor κ (Body (mem (B κ′)) b o γ)) ∷ ‵ (flft κ q) ∷ [])) (Post u)
   exits r t u e e′ =
       qed W (‵ (S.the-row .own t (u ∷ [])) ∷ (‵ (flft κ′ q′) ⊛ ‵ ftrue) ∷ ‵ (fobs γ (B κ′ .coded .code r)) ∷ ‵ (fbor κ (Body (mem (B κ′)) b o γ)) ∷ ‵ (flft κ q) ∷ []) ∵
-      suffices ! _ (ends-at 𝓤 H A f.ended stayed (f.clauses 𝓤 H A at-mem run) W (((κ, (κ′, tt)), (q, (q′, tt)), bounds, x, at), tt) u t (r, tt) (tt, tt)) $ says ! (e′, (λ i. record { «data» = e .0 i; at = e .1 i })) $
+      suffices ! _ (ends-at 𝓤 H A f.ended stayed (f.clauses 𝓤 H A at-mem run) W (((κ, (κ′, tt)), (q, (q′, tt)), bounds, x, at), tt) u t (r, tt) (tt, tt)) $ says ! (e′, (λ i. record { «data» = e .0 i; place = e .1 i; kind = e .2 i })) $
       move ! (4 ∷ 1 ∷ []) $ join ! $ frame ! $ move ! (1 ∷ []) $ use1 W (‵ (fres γ (B κ′ .coded .code r))) (W .names .obs-res γ (B κ′ .coded .code r)) $ nothing ! $ move ! (1 ∷ 0 ∷ []) $ fjoin ! $ frame ! $ keep ! (0 ∷ []) $ done !
 
   module _ (C : Calls 𝓤 H) (Λ : Loops 𝓤 H) (fm : FmC 𝓤 H (W .laws) C) (known-adv : Triple 𝓤 (C #commititer·advanced) (Adv 𝓤 H A at-mem run)) (known-next : Triple 𝓤 (C #commititer·next) (Next 𝓤 H A at-mem run)) where

@@ -1,54 +1,73 @@
--- `commititer::token_at` meets its contract: the tree line is asked at the start, and further on a parent line before a person's.
--- Assumes nothing.
+-- `commititer::token_at` meets its contract: the place says which line is asked. Assumes nothing.
 use mathlib.Core.Path.{sym, ap, _∙_}
-use Prim.Native.Nat.{ℕ}
-use Rattle.object.specs.Header.{idLine, treeWord}
-use Rattle.object.proofs.Parents.{parent-id, parent-none}
-use Rattle.commititer.specs.Token.{treeTold, tokenOf, tokenAt}
-use Rattle.commititer.proofs.Told.{at-start, at-parent, at-person}
+use Rattle.hash.specs.Bytes.{widthOf}
+use Rattle.commititer.specs.Token.{here, lineIn, lineAt, tokenAt}
+use Rattle.commititer.specs.declared.State.{State}
 use borrow.Author.Needs.{needs}
 use Rattle.commititer.proofs.token_at.Statement.{statement}
 use Rattle.commititer.proofs.token_at.Tie as tie
+use Rattle.commititer.proofs.token_at.Reads as reads
+use Rattle.commititer.proofs.token_at.Lts as lts
+
+enum-told : tie.Need-enum-told
+enum-told c = search needs
 
 tree-token-requires : tie.Need-tree-token-requires
 tree-token-requires c κs = search needs
 
-returns : tie.Need-returns
-unfolding tokenAt
-returns c =
-    let x = c .before .before .before .args in
-    let b = x .«data» .now in
-    let e = c .before .if1 .taken in
-    c .tree-token .ensures ∙ ap (λ (i : ℕ). tokenOf b i (treeTold (idLine treeWord b))) (sym e) ∙ sym (ap (tokenOf b (x .at)) (at-start b (x .at) e))
+enum-told-2 : tie.Need-enum-told-2
+enum-told-2 c = search needs
 
-parent-line-requires : tie.Need-parent-line-requires
-parent-line-requires c κs = search needs
+parent-token-requires : tie.Need-parent-token-requires
+parent-token-requires c κs = search needs
+
+enum-told-3 : tie.Need-enum-told-3
+enum-told-3 c = search needs
+
+committer-token-requires : tie.Need-committer-token-requires
+committer-token-requires c κs = search needs
+
+enum-told-4 : tie.Need-enum-told-4
+enum-told-4 c = search needs
+
+without-id-requires : tie.Need-without-id-requires
+without-id-requires c κs = search needs
+
+returns : tie.Need-returns
+returns c =
+    let x = c .before .before .before .before .args in
+    c .tree-token .ensures ∙ sym (ap (λ (s : State). tokenAt (widthOf (x .kind)) (x .«data» .now) (here (x .place .at) s)) (c .before .enum-told .given .1))
 
 returns-2 : tie.Need-returns-2
-unfolding tokenAt
 returns-2 c =
-    let x = c .before .before .before .before .before .args in
-    let b = x .«data» .now in
-    sym (ap (tokenOf b (x .at)) (at-parent b (x .at) (c .before .before .before .if1 .left) _ (parent-id b (x .at) (c .before .before .parent-line .ensures) (c .before .if2 .taken))))
-
-person-token-requires : tie.Need-person-token-requires
-person-token-requires c κs = search needs
+    let x = c .before .before .before .before .args in
+    c .parent-token .ensures ∙ sym (ap (λ (s : State). tokenAt (widthOf (x .kind)) (x .«data» .now) (here (x .place .at) s)) (c .before .enum-told2 .given .1))
 
 returns-3 : tie.Need-returns-3
-unfolding tokenAt
+unfolding tokenAt lineAt lineIn
 returns-3 c =
-    let x = c .before .before .before .before .before .args in
-    let b = x .«data» .now in
-    c .person-token .ensures
-    ∙ sym (ap (tokenOf b (x .at)) (at-person b (x .at) (c .before .before .before .if1 .left) (parent-none b (x .at) (c .before .before .parent-line .ensures) (c .before .if2 .left))))
+    let x = c .before .before .before .before .args in
+    c .committer-token .ensures ∙ sym (ap (λ (s : State). tokenAt (widthOf (x .kind)) (x .«data» .now) (here (x .place .at) s)) (c .before .enum-told3 .given .1))
+
+returns-4 : tie.Need-returns-4
+unfolding tokenAt lineAt lineIn
+returns-4 c =
+    let x = c .before .before .before .before .args in
+    c .without-id .ensures ∙ sym (ap (λ (s : State). tokenAt (widthOf (x .kind)) (x .«data» .now) (here (x .place .at) s)) (c .before .enum-told4 .given .1))
 
 pub token-at-spec : {M : Type 1} → statement M
 token-at-spec =
     tie.close
     (tie.spec
+    enum-told
     tree-token-requires
+    enum-told-2
+    parent-token-requires
+    enum-told-3
+    committer-token-requires
+    enum-told-4
+    without-id-requires
     returns
-    parent-line-requires
     returns-2
-    person-token-requires
-    returns-3)
+    returns-3
+    returns-4)

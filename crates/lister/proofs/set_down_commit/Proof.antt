@@ -6,11 +6,8 @@ use Rattle.lister.proofs.set_down_commit.Tie as tie
 enum-told : tie.Need-enum-told
 enum-told c = search needs
 
-mul-set-down : tie.Need-mul-set-down
-mul-set-down c = search needs
-
-set-down-requires : tie.Need-set-down-requires
-set-down-requires c κs = search needs
+set-nth-requires : tie.Need-set-nth-requires
+set-nth-requires c κs = search needs
 
 enum-told-2 : tie.Need-enum-told-2
 enum-told-2 c = search needs
@@ -22,7 +19,7 @@ same-length : tie.Need-same-length
 same-length c = search needs
 
 returns : tie.Need-returns
-returns c = rw (c .before .before .before .before .before .before .before .enum-told .given .1) (c .before .before .set-down .ensures)
+returns c = rw (c .before .before .before .before .before .before .before .enum-told .given .1) (c .before .before .set-nth .ensures)
 
 returns-2 : tie.Need-returns-2
 returns-2 c = search needs
@@ -35,8 +32,7 @@ set-down-commit-spec =
     tie.close
     (tie.spec
     enum-told
-    mul-set-down
-    set-down-requires
+    set-nth-requires
     enum-told-2
     enum-told-3
     same-length

@@ -5,22 +5,46 @@ use Rattle.opening.proofs.Input.{count-of, count-fits}
 use borrow.Author.Needs.{needs}
 use Rattle.opening.proofs.capacity.Statement.{statement}
 use Rattle.opening.proofs.capacity.Tie as tie
+use Rattle.opening.proofs.capacity.Reads as reads
+use Rattle.opening.proofs.capacity.Lts as lts
+use Rattle.commitgraph.proofs.parse.Reads as parse-reads
+use Rattle.hash.proofs.ids_in.Reads as ids-in-reads
+use Rattle.opening.proofs.lines_in.Reads as lines-in-reads
 
 parse-requires : tie.Need-parse-requires
 parse-requires c κs = search needs
 
+ids-in-requires : tie.Need-ids-in-requires
+ids-in-requires c κs = search needs
+
+ids-in-requires-2 : tie.Need-ids-in-requires-2
+ids-in-requires-2 c κs = search needs
+
 add-result : tie.Need-add-result
 add-result c = search needs
+
+lines-in-requires : tie.Need-lines-in-requires
+lines-in-requires c κs = search needs
 
 add-result-2 : tie.Need-add-result-2
 add-result-2 c = search needs
 
 add-result-3 : tie.Need-add-result-3
-add-result-3 c = omega (arith, count-of (c .before .before .before .before .before .before .args .graph .now) (c .before .parse .ensures), count-fits (c .before .before .before .before .before .before .args .graph .now) (λ k. omega (arith, c .before .before .before .before .shared-slice-known2 .given k)))
+add-result-3 c = omega (arith, c .before .before .before .ids-in .ensures, c .before .before .ids-in2 .ensures, c .before .lines-in .ensures, count-of (c .before .before .before .before .before .before .before .before .before .args .graph .now) (c .before .before .before .before .parse .ensures), count-fits (c .before .before .before .before .before .before .before .before .before .args .graph .now) (λ k. omega (arith, c .before .before .before .before .before .before .before .shared-slice-known2 .given k)))
 
 returns : tie.Need-returns
 unfolding P
-returns c = λ excluded s. omega (arith, count-of (c .before .before .before .before .before .before .args .graph .now) (c .before .parse .ensures))
+returns c = λ excluded s. omega (arith, c .before .before .before .ids-in .ensures, c .before .before .ids-in2 .ensures, c .before .lines-in .ensures, count-of (c .before .before .before .before .before .before .before .before .before .args .graph .now) (c .before .before .before .before .parse .ensures))
 
 pub capacity-spec : {M : Type 1} → statement M
-capacity-spec = tie.close (tie.spec parse-requires add-result add-result-2 add-result-3 returns)
+capacity-spec =
+    tie.close
+    (tie.spec
+    parse-requires
+    ids-in-requires
+    ids-in-requires-2
+    add-result
+    lines-in-requires
+    add-result-2
+    add-result-3
+    returns)

@@ -4,7 +4,8 @@ use mathlib.Core.Bool.{true, false}
 use borrow.Author.Needs.{needs}
 use borrow.Author.Tests.{not-true, not-false}
 use Rattle.odb.specs.Store.{storeOk}
-use Rattle.commitgraph.specs.Graph.{graphHead}
+use Rattle.hash.specs.declared.Kind.the-variants.{Sha1}
+use Rattle.commitgraph.specs.Graph.{hashVersion, graphHead}
 use Rattle.walk.specs.declared.Settings.{Settings}
 use Rattle.walk.specs.State.{isEmpty}
 use Rattle.walk.specs.Opening.{Input, sizesOk, wholeIds}
@@ -12,6 +13,7 @@ use Rattle.opening.specs.Checks.{inputOf, checkedOf}
 use Rattle.opening.proofs.Input.{by-size, by-lists, by-store, no-graph, by-head, by-graph, all-good, empty-yes, empty-not}
 use Rattle.opening.proofs.check_input.Statement.{statement}
 use Rattle.opening.proofs.check_input.Tie as tie
+use Rattle.hash.specs.Bytes.{idBytes}
 
 -- ---- what is lent, and what the tests that pass show of it
 
@@ -24,13 +26,13 @@ fit c s = sym (c .before .sizes-fit .ensures s) ∙ not-false (c .before .sizes-
 whole : (c : tie.Else2) (s : Settings) → wholeIds (lent (c .before .before .before .before .before .before .before .before .before) s) ≡ true
 whole c s = sym (c .before .lists-whole .ensures (c .before .before .before .before .before .before .before .before .before .args .store .now) (c .before .before .before .before .before .before .before .before .before .args .graph .now) s) ∙ not-false (c .before .lists-whole .result) (c .if2 .left)
 
-good : (c : tie.Else3) → storeOk (c .before .before .before .before .before .before .before .before .before .before .before .args .store .now) ≡ true
+good : (c : tie.Else3) → storeOk idBytes (c .before .before .before .before .before .before .before .before .before .before .before .args .store .now) ≡ true
 good c = sym (c .before .is-good .ensures) ∙ not-false (c .before .is-good .result) (c .if3 .left)
 
 there : (c : tie.Else4) → isEmpty (c .before .before .before .before .before .before .before .before .before .before .before .before .args .graph .now) ≡ false
 there c = empty-not (c .before .before .before .before .before .before .before .before .before .before .before .before .args .graph .now) (c .if4 .left)
 
-known : (c : tie.Else5) → graphHead (c .before .before .before .before .before .before .before .before .before .before .before .before .before .before .args .graph .now) ≡ true
+known : (c : tie.Else5) → graphHead (hashVersion Sha1) (c .before .before .before .before .before .before .before .before .before .before .before .before .before .before .args .graph .now) ≡ true
 known c = sym (c .before .has-header .ensures) ∙ not-false (c .before .has-header .result) (c .if5 .left)
 
 -- ---- the tests

@@ -1,9 +1,9 @@
 -- `opening::read_tips` meets its contract: what the tips from place k on come to, all of them come to. Assumes nothing.
-use mathlib.Core.Path.{_≡_, refl, sym, subst}
+use mathlib.Core.Path.{_≡_, sym, _∙_, ap, subst}
 use mathlib.Core.List.{List}
-use Prim.Native.Nat.{_≤_, _-_, _/_}
+use Prim.Native.Nat.{ℕ, _≤_, _-_, _/_}
 use lib.ListN.{length}
-use Rattle.hash.specs.Bytes.{Id}
+use Rattle.hash.specs.Bytes.{Id, idBytes}
 use Rattle.walk.specs.Opening.{listIds}
 use Rattle.opening.specs.declared.Checked.{Checked}
 use Rattle.opening.specs.declared.Checked.the-variants.{Fine, Refused}
@@ -16,21 +16,23 @@ use Rattle.opening.proofs.read_tips.Tie as tie
 
 abbrev Inv-loop : tie.InvT-loop
 Inv-loop store tips excluded n k₀ k =
-    (k ≤ n) × (n ≡ length tips / 20)
+    (k ≤ n) × (n ≡ length tips / idBytes)
     × ((r : Checked) → TestsTips store (listIds excluded) (idsFrom n k tips) r → TestsTips store (listIds excluded) (listIds tips) r)
 
 abbrev μ-loop : tie.MeasureT-loop
 μ-loop store tips excluded n k₀ k = n - k
 
+ids-in-requires : tie.Need-ids-in-requires Inv-loop μ-loop
+ids-in-requires c κs = search needs
+
 loop-holds : tie.Need-loop-holds Inv-loop μ-loop
-loop-holds c = let x = c .before .before .before .args in
-    (search needs, refl, λ r t. subst (λ (l : List Id). TestsTips (x .store .now) (listIds (x .excluded .now)) l r) (ids-start (x .tips .now)) t)
+loop-holds c =
+    let x = c .before .before .before .before .args in
+    let n = c .ids-in .ensures in
+    (search needs, n, λ r t. subst (λ (l : List Id). TestsTips (x .store .now) (listIds (x .excluded .now)) l r) (ap (λ (m : ℕ). idsFrom m 0 (x .tips .now)) n ∙ ids-start (x .tips .now)) t)
 
-mul-id-at : tie.Need-mul-id-at Inv-loop μ-loop
-mul-id-at c = search needs
-
-id-at-requires : tie.Need-id-at-requires Inv-loop μ-loop
-id-at-requires c κs = search needs
+nth-requires : tie.Need-nth-requires Inv-loop μ-loop
+nth-requires c κs = search needs
 
 check-tip-requires : tie.Need-check-tip-requires Inv-loop μ-loop
 check-tip-requires c κs = search needs
@@ -40,10 +42,10 @@ enum-known-r c = search needs
 
 returns : tie.Need-returns Inv-loop μ-loop
 returns c =
-    let x = c .before .before .before .before .before .before .before .before .before .before .args in
+    let x = c .before .before .before .before .before .before .before .before .before .before .before .args in
     let l = c .before .before .before .before .before .before in
-    let one = rw (c .before .before .before .before .id-at .ensures) at (c .before .before .before .check-tip .ensures) in
-    l .loop .inv .2 _ (subst (λ (ids : List Id). TestsTips (x .store .now) (listIds (x .excluded .now)) ids (Refused (c .before .r .given .0 .0))) (sym (ids-next (x .tips .now) (length (x .tips .now) / 20) (l .loop .k) (c .before .before .before .before .before .loop-test .taken)))
+    let one = rw (c .before .before .before .before .nth .ensures) at (c .before .before .before .check-tip .ensures) in
+    l .loop .inv .2 _ (subst (λ (ids : List Id). TestsTips (x .store .now) (listIds (x .excluded .now)) ids (Refused (c .before .r .given .0 .0))) (sym (ids-next (x .tips .now) _ (l .loop .k) (c .before .before .before .before .before .loop-test .taken)))
     (one-refused _ one (c .before .r .given .1)))
 
 enum-told : tie.Need-enum-told Inv-loop μ-loop
@@ -57,19 +59,19 @@ loop-less c = search needs
 
 loop-again : tie.Need-loop-again Inv-loop μ-loop
 loop-again c =
-    let x = c .before .before .before .before .before .before .before .before .before .args in
+    let x = c .before .before .before .before .before .before .before .before .before .before .args in
     let l = c .before .before .before .before .before in
-    let one = rw (c .before .before .before .id-at .ensures) at (c .before .before .check-tip .ensures) in (
+    let one = rw (c .before .before .before .nth .ensures) at (c .before .before .check-tip .ensures) in (
       search needs,
-      refl,
-      λ r t. l .loop .inv .2 r (subst (λ (ids : List Id). TestsTips (x .store .now) (listIds (x .excluded .now)) ids r) (sym (ids-next (x .tips .now) (length (x .tips .now) / 20) (l .loop .k) (c .before .before .before .before .loop-test .taken)))
+      l .loop .inv .1,
+      λ r t. l .loop .inv .2 r (subst (λ (ids : List Id). TestsTips (x .store .now) (listIds (x .excluded .now)) ids r) (sym (ids-next (x .tips .now) _ (l .loop .k) (c .before .before .before .before .loop-test .taken)))
           (one-fine one (c .enum-told .given .1) t)),
     )
 
 returns-2 : tie.Need-returns-2 Inv-loop μ-loop
 returns-2 c =
-    let x = c .before .before .before .before .before .args in
-    c .before .loop .inv .2 _ (subst (λ (ids : List Id). TestsTips (x .store .now) (listIds (x .excluded .now)) ids Fine) (sym (ids-end (x .tips .now) (length (x .tips .now) / 20) (c .before .loop .k) (search needs))) no-tip)
+    let x = c .before .before .before .before .before .before .args in
+    c .before .loop .inv .2 _ (subst (λ (ids : List Id). TestsTips (x .store .now) (listIds (x .excluded .now)) ids Fine) (sym (ids-end (x .tips .now) _ (c .before .loop .k) (search needs))) no-tip)
 
 pub read-tips-spec : {M : Type 1} → statement M
 read-tips-spec =
@@ -77,9 +79,9 @@ read-tips-spec =
     (tie.spec
     Inv-loop
     μ-loop
+    ids-in-requires
     loop-holds
-    mul-id-at
-    id-at-requires
+    nth-requires
     check-tip-requires
     enum-known-r
     returns

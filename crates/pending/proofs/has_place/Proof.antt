@@ -2,7 +2,7 @@
 use borrow.Author.Needs.{needs}
 use native.Mathlib.Omega.{arith}
 use Prim.Native.Nat.{_-_}
-use Rattle.pending.proofs.Decided.{decided-no, decided-lt}
+use Rattle.hash.proofs.Decides.{decided-no, decided-lt}
 use Rattle.pending.proofs.has_place.Statement.{statement}
 use Rattle.pending.proofs.has_place.Tie as tie
 

@@ -4,7 +4,7 @@ use native.Mathlib.Omega.{arith}
 use borrow.Author.Tests.{not-true, not-false}
 use Prim.Native.Nat.{_-_}
 use Rattle.pending.specs.Pending.{waiting}
-use Rattle.pending.proofs.Decided.{decided-no, decided-lt}
+use Rattle.hash.proofs.Decides.{decided-no, decided-lt}
 use Rattle.pending.proofs.has_room.Statement.{statement}
 use Rattle.pending.proofs.has_room.Tie as tie
 

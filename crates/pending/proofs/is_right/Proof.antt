@@ -1,7 +1,7 @@
 -- `is_right` meets its contract: each refusal lacks a part of `Right`. Assumes nothing.
 use native.Mathlib.Omega.{arith}
 use lib.ListN.{length}
-use Rattle.pending.proofs.Decided.{decided-no, decided-le}
+use Rattle.hash.proofs.Decides.{decided-no, decided-le}
 use Rattle.pending.proofs.is_right.Statement.{statement}
 use Rattle.pending.proofs.is_right.Tie as tie
 

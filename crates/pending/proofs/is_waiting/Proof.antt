@@ -2,7 +2,7 @@
 use borrow.Author.Needs.{needs}
 use native.Mathlib.Omega.{arith}
 use borrow.Author.Tests.{not-true, not-false}
-use Rattle.pending.proofs.Decided.{decided-no, decided-yes, decided-lt}
+use Rattle.hash.proofs.Decides.{decided-no, decided-yes, decided-lt}
 use Rattle.pending.proofs.is_waiting.Statement.{statement}
 use Rattle.pending.proofs.is_waiting.Tie as tie
 

@@ -9,6 +9,7 @@ use Rattle.state.proofs.Popping.{pops-none, pops-some}
 use borrow.Author.Needs.{needs}
 use Rattle.state.proofs.pop.Statement.{statement}
 use Rattle.state.proofs.pop.Tie as tie
+use Rattle.hash.specs.Bytes.{idBytes}
 
 pop-requires : tie.Need-pop-requires
 pop-requires c κs = search needs
@@ -45,7 +46,7 @@ returns-2 c =
     let x = p .before .before .before .before .args in
     rw (c .with-queue .ensures)
     (pops-some (p .pop .ensures) (w .before .if1 .left)
-    (c .before .before .id-of2 .ensures ∙ ap padded (i .id-of .ensures ∙ ap (idOf (x .names .now)) (w .wide .ensures)))
+    (c .before .before .id-of2 .ensures ∙ ap padded (i .id-of .ensures ∙ ap (idOf idBytes (x .names .now)) (w .wide .ensures)))
     (c .before .seconds-of .ensures ∙ ap (λ (k : ℕ). getD (x .times .now) k (pos 0)) (w .wide .ensures)))
 
 pub pop-spec : {M : Type 1} → statement M

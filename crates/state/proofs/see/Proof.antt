@@ -23,7 +23,7 @@ same-length-2 : tie.Need-same-length-2
 same-length-2 c = search needs
 
 returns : tie.Need-returns
-returns c = let t = c .before .before .before .before .before .before .before in sees-vacant (t .insert .ensures) (t .insert .kept .0) (t .insert .kept .1 .0) (c .before .s .given .0 .0) (c .before .s .given .1)
+returns c = let t = c .before .before .before .before .before .before .before in sees-vacant (t .insert .ensures) (t .insert .kept .1 .0) (t .insert .kept .1 .1 .0) (c .before .s .given .0 .0) (c .before .s .given .1)
 
 same-length-3 : tie.Need-same-length-3
 same-length-3 c = search needs
@@ -32,7 +32,7 @@ same-length-4 : tie.Need-same-length-4
 same-length-4 c = search needs
 
 returns-2 : tie.Need-returns-2
-returns-2 c = let t = c .before .before .before .before .before .before in sees-found (t .insert .ensures) (t .insert .kept .0) (t .insert .kept .1 .0) (c .enum-told .given .0 .0) (c .enum-told .given .1)
+returns-2 c = let t = c .before .before .before .before .before .before in sees-found (t .insert .ensures) (t .insert .kept .1 .0) (t .insert .kept .1 .1 .0) (c .enum-told .given .0 .0) (c .enum-told .given .1)
 
 same-length-5 : tie.Need-same-length-5
 same-length-5 c = search needs
@@ -41,7 +41,7 @@ same-length-6 : tie.Need-same-length-6
 same-length-6 c = search needs
 
 returns-3 : tie.Need-returns-3
-returns-3 c = let t = c .before .before .before .before .before .before in sees-full (t .insert .ensures) (t .insert .kept .0) (t .insert .kept .1 .0) (c .enum-told2 .given .1)
+returns-3 c = let t = c .before .before .before .before .before .before in sees-full (t .insert .ensures) (t .insert .kept .1 .0) (t .insert .kept .1 .1 .0) (c .enum-told2 .given .1)
 
 pub see-spec : {M : Type 1} → statement M
 see-spec =

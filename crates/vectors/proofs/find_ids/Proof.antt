@@ -7,10 +7,10 @@ use Rattle.vectors.proofs.find_ids.Statement.{statement}
 use Rattle.vectors.proofs.find_ids.Tie as tie
 
 abbrev Inv-loop : tie.InvT-loop
-Inv-loop cache l graph store ids n k₀ k = (k ≤ n) × (n ≡ length ids / 20)
+Inv-loop cache graph store ids n k₀ k = (k ≤ n) × (n ≡ length ids / 20)
 
 abbrev μ-loop : tie.MeasureT-loop
-μ-loop cache l graph store ids n k₀ k = n - k
+μ-loop cache graph store ids n k₀ k = n - k
 
 loop-holds : tie.Need-loop-holds Inv-loop μ-loop
 loop-holds c = search needs

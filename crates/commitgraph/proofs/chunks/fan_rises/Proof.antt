@@ -10,10 +10,10 @@ use Rattle.commitgraph.proofs.chunks.fan_rises.Statement.{statement}
 use Rattle.commitgraph.proofs.chunks.fan_rises.Tie as tie
 
 abbrev Inv-loop : tie.InvT-loop
-Inv-loop graph fan i₀ i = (i ≤ 255) × ((j : ℕ) → j < i → fanAt graph j ≤ fanAt graph (suc j))
+Inv-loop w graph fan i₀ i = (i ≤ 255) × ((j : ℕ) → j < i → fanAt graph j ≤ fanAt graph (suc j))
 
 abbrev μ-loop : tie.MeasureT-loop
-μ-loop graph fan i₀ i = 255 - i
+μ-loop w graph fan i₀ i = 255 - i
 
 loop-holds : tie.Need-loop-holds Inv-loop μ-loop
 loop-holds c = (search needs, λ j l. absurd (omega arith))
@@ -30,7 +30,7 @@ fan-entry-requires-2 c κs = search needs
 returns : tie.Need-returns Inv-loop μ-loop
 returns c =
     let g = c .before .before .before .before .before .before .args .graph .now in
-    (λ e. clash e refl, λ e. fan-falls g (c .before .before .before .before .loop .i) (c .before .before .before .loop-test .taken) (rw (c .before .before .fan-entry .ensures, c .before .fan-entry2 .ensures) at (c .if1 .taken)))
+    (λ e. clash e refl, λ e. fan-falls (c .before .before .before .before .before .before .args .w) g (c .before .before .before .before .loop .i) (c .before .before .before .loop-test .taken) (rw (c .before .before .fan-entry .ensures, c .before .fan-entry2 .ensures) at (c .if1 .taken)))
 
 add-i : tie.Need-add-i Inv-loop μ-loop
 add-i c = search needs

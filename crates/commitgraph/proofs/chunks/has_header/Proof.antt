@@ -16,6 +16,9 @@ returns c =
     let h : length (c .before .before .args .graph .now) < 8 = omega arith in
     rw (lt-leb _ _ h)
 
+hash-version-requires : tie.Need-hash-version-requires
+hash-version-requires c κs = search needs
+
 part-requires : tie.Need-part-requires
 part-requires c κs = search needs
 
@@ -28,8 +31,8 @@ same-requires c κs = search needs
 returns-2 : tie.Need-returns-2
 unfolding graphHead at
 returns-2 c =
-    let h : 8 ≤ length (c .before .before .before .before .before .before .args .graph .now) = omega arith in
-    let p = rw (c .before .before .before .part .ensures) at (sym (c .before .same .ensures) ∙ not-true (c .before .same .result) (c .if2 .taken)) in
+    let h : 8 ≤ length (c .before .before .before .before .before .before .before .args .graph .now) = omega arith in
+    let p = rw (c .before .before .before .part .ensures, c .before .before .before .before .hash-version .ensures) at (sym (c .before .same .ensures) ∙ not-true (c .before .same .result) (c .if2 .taken)) in
     rw (le-leb _ _ h, p)
 
 byte-at-requires : tie.Need-byte-at-requires
@@ -38,8 +41,8 @@ byte-at-requires c κs = search needs
 returns-3 : tie.Need-returns-3
 unfolding graphHead at
 returns-3 c =
-    let h : 8 ≤ length (c .before .before .before .before .before .before .before .args .graph .now) = omega arith in
-    let p = rw (c .before .before .before .before .part .ensures) at (sym (c .before .before .same .ensures) ∙ not-false (c .before .before .same .result) (c .before .if2 .left)) in
+    let h : 8 ≤ length (c .before .before .before .before .before .before .before .before .args .graph .now) = omega arith in
+    let p = rw (c .before .before .before .before .part .ensures, c .before .before .before .before .before .hash-version .ensures) at (sym (c .before .before .same .ensures) ∙ not-false (c .before .before .same .result) (c .before .if2 .left)) in
     let q = c .byte-at .ensures in
     rw (le-leb _ _ h, p, q)
 
@@ -48,6 +51,7 @@ has-header-spec =
     tie.close
     (tie.spec
     returns
+    hash-version-requires
     part-requires
     slice-aggregate-same
     same-requires

@@ -27,9 +27,10 @@ add-if1-3 c = search needs
 returns : tie.Need-returns
 unfolding tableOk
 returns c =
+    let w = c .before .before .before .args .w in
     let g = c .before .before .before .args .graph .now in
     let n : c .before .chunk-count .result ≡ chunkCount g = c .before .chunk-count .ensures .0 in
-    let h : length g < 8 + 12 * (chunkCount g + 1) + 20 = omega arith in
+    let h : length g < 8 + 12 * (chunkCount g + 1) + w = omega arith in
     rw (lt-leb _ _ h)
 
 table-ends-requires : tie.Need-table-ends-requires
@@ -38,9 +39,10 @@ table-ends-requires c κs = search needs
 returns-2 : tie.Need-returns-2
 unfolding tableOk
 returns-2 c =
+    let w = c .before .before .before .before .before .args .w in
     let g = c .before .before .before .before .before .args .graph .now in
     let n : c .before .before .before .chunk-count .result ≡ chunkCount g = c .before .before .before .chunk-count .ensures .0 in
-    let h : 8 + 12 * (chunkCount g + 1) + 20 ≤ length g = omega arith in
+    let h : 8 + 12 * (chunkCount g + 1) + w ≤ length g = omega arith in
     let t = rw n at (sym (c .before .table-ends .ensures) ∙ not-true (c .before .table-ends .result) (c .if2 .taken)) in
     rw (le-leb _ _ h, t)
 
@@ -50,9 +52,10 @@ offsets-rise-requires c κs = search needs
 returns-3 : tie.Need-returns-3
 unfolding tableOk
 returns-3 c =
+    let w = c .before .before .before .before .before .before .before .args .w in
     let g = c .before .before .before .before .before .before .before .args .graph .now in
     let n : c .before .before .before .before .before .chunk-count .result ≡ chunkCount g = c .before .before .before .before .before .chunk-count .ensures .0 in
-    let h : 8 + 12 * (chunkCount g + 1) + 20 ≤ length g = omega arith in
+    let h : 8 + 12 * (chunkCount g + 1) + w ≤ length g = omega arith in
     let t = rw n at (sym (c .before .before .before .table-ends .ensures) ∙ not-false (c .before .before .before .table-ends .result) (c .before .before .if2 .left)) in
     let o = rw n at (sym (c .before .offsets-rise .ensures) ∙ not-true (c .before .offsets-rise .result) (c .if3 .taken)) in
     rw (le-leb _ _ h, t, o)
@@ -63,9 +66,10 @@ chunks-once-requires c κs = search needs
 returns-4 : tie.Need-returns-4
 unfolding tableOk
 returns-4 c =
+    let w = c .before .before .before .before .before .before .before .before .args .w in
     let g = c .before .before .before .before .before .before .before .before .args .graph .now in
     let n : c .before .before .before .before .before .before .chunk-count .result ≡ chunkCount g = c .before .before .before .before .before .before .chunk-count .ensures .0 in
-    let h : 8 + 12 * (chunkCount g + 1) + 20 ≤ length g = omega arith in
+    let h : 8 + 12 * (chunkCount g + 1) + w ≤ length g = omega arith in
     let t = rw n at (sym (c .before .before .before .before .table-ends .ensures) ∙ not-false (c .before .before .before .before .table-ends .result) (c .before .before .before .if2 .left)) in
     let o = rw n at (sym (c .before .before .offsets-rise .ensures) ∙ not-false (c .before .before .offsets-rise .result) (c .before .if3 .left)) in
     rw (le-leb _ _ h, t, o) (rw n at (c .chunks-once .ensures))

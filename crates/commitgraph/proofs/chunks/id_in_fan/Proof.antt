@@ -28,7 +28,7 @@ unfolding firstByte
 returns c =
     let x = c .before .before .before .before .before .args in
     let b = c .before .before .wide-byte .result in
-    let h : firstByte (x .graph .now) (x .k) ≡ b = sym (c .before .before .wide-byte .ensures .0 ∙ c .before .before .before .byte-at .ensures ∙ ap (λ (s : ℕ). getD (x .graph .now) (s + 20 * x .k) 0) (c .before .before .before .before .before .pre .2)) in
+    let h : firstByte (x .w) (x .graph .now) (x .k) ≡ b = sym (c .before .before .wide-byte .ensures .0 ∙ c .before .before .before .byte-at .ensures ∙ ap (λ (s : ℕ). getD (x .graph .now) (s + x .w * x .k) 0) (c .before .before .before .before .before .pre .2)) in
     (rw h (c .before .before .wide-byte .ensures .1), rw (h, lt-leb _ _ (rw (c .before .entry-before .ensures) at (c .if1 .taken))))
 
 fan-entry-requires : tie.Need-fan-entry-requires
@@ -39,7 +39,7 @@ unfolding firstByte
 returns-2 c =
     let x = c .before .before .before .before .before .before .args in
     let b = c .before .before .before .wide-byte .result in
-    let h : firstByte (x .graph .now) (x .k) ≡ b = sym (c .before .before .before .wide-byte .ensures .0 ∙ c .before .before .before .before .byte-at .ensures ∙ ap (λ (s : ℕ). getD (x .graph .now) (s + 20 * x .k) 0) (c .before .before .before .before .before .before .pre .2)) in
+    let h : firstByte (x .w) (x .graph .now) (x .k) ≡ b = sym (c .before .before .before .wide-byte .ensures .0 ∙ c .before .before .before .before .byte-at .ensures ∙ ap (λ (s : ℕ). getD (x .graph .now) (s + x .w * x .k) 0) (c .before .before .before .before .before .before .pre .2)) in
     (rw h (c .before .before .before .wide-byte .ensures .1), rw (h, le-leb _ _ (rw (c .before .before .entry-before .ensures) at (c .before .if1 .left)), c .fan-entry .ensures))
 
 pub id-in-fan-spec : {M : Type 1} → statement M

@@ -50,7 +50,7 @@ returns-3 c =
     let p : chunkId (x .graph .now) (x .count) ≡ 0 = sym (c .before .before .before .before .row-id .ensures) ∙ c .before .before .before .if1 .left in
     let q : chunkOffset (x .graph .now) 0 ≡ 8 + 12 * (x .count + 1) = sym (c .before .before .row-offset .ensures) ∙ c .before .if2 .left in
     let r : c .row-offset2 .result ≡ chunkOffset (x .graph .now) (x .count) = c .row-offset2 .ensures in
-    rw (eq-eqb _ _ p, eq-eqb _ _ q, r) (eqb-past (chunkOffset (x .graph .now) (x .count)) (length (x .graph .now)) (omega arith))
+    rw (eq-eqb _ _ p, eq-eqb _ _ q, r) (eqb-past (x .w) (chunkOffset (x .graph .now) (x .count)) (length (x .graph .now)) (omega arith))
 
 pub table-ends-spec : {M : Type 1} → statement M
 table-ends-spec =

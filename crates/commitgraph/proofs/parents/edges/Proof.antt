@@ -18,8 +18,8 @@ abbrev μ-loop : tie.MeasureT-loop
 loop-holds : tie.Need-loop-holds Inv-loop μ-loop
 loop-holds c = (search needs, left-start _ _ _)
 
-add-j : tie.Need-add-j Inv-loop μ-loop
-add-j c = search needs
+add-if1 : tie.Need-add-if1 Inv-loop μ-loop
+add-if1 c = search needs
 
 returns : tie.Need-returns Inv-loop μ-loop
 returns c =
@@ -39,8 +39,8 @@ returns-2 c =
     let x = a .before .before .args in
     sym (left-high (x .graph .now) (x .l) (x .from) (a .loop .i) (search needs) (omega (arith, c .before .before .before .edge .ensures))) ∙ a .loop .inv .1
 
-add-t10 : tie.Need-add-t10 Inv-loop μ-loop
-add-t10 c = search needs
+add-t9 : tie.Need-add-t9 Inv-loop μ-loop
+add-t9 c = search needs
 
 returns-3 : tie.Need-returns-3 Inv-loop μ-loop
 returns-3 c =
@@ -75,12 +75,12 @@ edges-spec =
     Inv-loop
     μ-loop
     loop-holds
-    add-j
+    add-if1
     returns
     edge-requires
     wide-requires
     returns-2
-    add-t10
+    add-t9
     returns-3
     add-i
     loop-less

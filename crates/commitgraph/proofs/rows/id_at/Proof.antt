@@ -1,25 +1,42 @@
--- `id_at` meets its contract: it reads at a place that is cut off at the end of the file, where the place itself reads as nothing too. Assumes nothing.
+-- `id_at` meets its contract: each arm names its own width. Assumes nothing.
+use mathlib.Core.Path.{_≡_}
 use borrow.Author.Needs.{needs}
-use mathlib.Core.Path.{_∙_, ap}
-use Prim.Native.Nat.{ℕ, _+_, _*_}
-use Rattle.hash.specs.Bytes.{at, idBytes}
-use Rattle.commitgraph.specs.Graph.{idIn}
-use Rattle.commitgraph.proofs.RowsPlace.{at-cut}
 use Rattle.commitgraph.proofs.rows.id_at.Statement.{statement}
 use Rattle.commitgraph.proofs.rows.id_at.Tie as tie
 
-place-requires : tie.Need-place-requires
-place-requires c κs = search needs
+enum-told : tie.Need-enum-told
+enum-told c = search needs
 
-id-at-requires : tie.Need-id-at-requires
-id-at-requires c κs = search needs
+width-requires : tie.Need-width-requires
+width-requires c κs = search needs
+
+id-in-requires : tie.Need-id-in-requires
+id-in-requires c κs = search needs
+
+enum-told-2 : tie.Need-enum-told-2
+enum-told-2 c = search needs
+
+width-requires-2 : tie.Need-width-requires-2
+width-requires-2 c κs = search needs
+
+id-in-requires-2 : tie.Need-id-in-requires-2
+id-in-requires-2 c κs = search needs
 
 returns : tie.Need-returns
-unfolding idIn
-returns c =
-    let x = c .before .before .before .args in
-    let g = x .graph .now in
-    c .id-at .ensures ∙ (ap (λ (k : ℕ). at g k idBytes) (c .before .place .ensures) ∙ at-cut g (x .l .ids + 20 * x .p) idBytes)
+returns c = rw (c .before .before .enum-told .given .1) (rw (c .before .width .ensures .0) at (c .id-in .ensures))
+
+returns-2 : tie.Need-returns-2
+returns-2 c = rw (c .before .before .enum-told2 .given .1) (rw (c .before .width2 .ensures .0) at (c .id-in2 .ensures))
 
 pub id-at-spec : {M : Type 1} → statement M
-id-at-spec = tie.close (tie.spec place-requires id-at-requires returns)
+id-at-spec =
+    tie.close
+    (tie.spec
+    enum-told
+    width-requires
+    id-in-requires
+    enum-told-2
+    width-requires-2
+    id-in-requires-2
+    returns
+    returns-2)

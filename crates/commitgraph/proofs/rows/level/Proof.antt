@@ -1,21 +1,26 @@
 -- `level` meets its contract: the number is read from the row, and the quotient by 4 is its high 30 bits. Assumes nothing.
-use borrow.Author.Needs.{needs}
 use mathlib.Core.Path.{ap}
 use Prim.Native.Nat.{ℕ, _/_}
-use Rattle.commitgraph.specs.Graph.{levelIn}
+use native.Mathlib.Omega.{arith}
+use Rattle.hash.specs.Bytes.{widthOf}
+use Rattle.commitgraph.specs.Graph.{rowIn, levelIn}
 use Rattle.commitgraph.proofs.RowsPlace.{field}
+use borrow.Author.Needs.{needs}
 use Rattle.commitgraph.proofs.rows.level.Statement.{statement}
 use Rattle.commitgraph.proofs.rows.level.Tie as tie
 
-row-requires : tie.Need-row-requires
-row-requires c κs = search needs
+numbers-requires : tie.Need-numbers-requires
+numbers-requires c κs = search needs
 
 be32-requires : tie.Need-be32-requires
 be32-requires c κs = search needs
 
 returns : tie.Need-returns
 unfolding levelIn
-returns c = ap (λ (n : ℕ). n / 4) (field 28 (c .be32 .ensures) (c .before .row .ensures))
+returns c =
+    let x = c .before .before .before .args in
+    let w = widthOf (x .kind) in
+    ap (λ (n : ℕ). n / 4) (field w 8 (rowIn w (x .graph .now) (x .l) (x .p)) (omega arith) (c .be32 .ensures) (c .before .numbers .ensures))
 
 pub level-spec : {M : Type 1} → statement M
-level-spec = tie.close (tie.spec row-requires be32-requires returns)
+level-spec = tie.close (tie.spec numbers-requires be32-requires returns)

@@ -1,25 +1,42 @@
--- `row` meets its contract: it reads at a place that is cut off at the end of the file, where the place itself reads as nothing too. Assumes nothing.
+-- `row` meets its contract: each arm names its own width. Assumes nothing.
+use mathlib.Core.Path.{_≡_}
 use borrow.Author.Needs.{needs}
-use mathlib.Core.Path.{_∙_, ap}
-use Prim.Native.Nat.{ℕ, _+_, _*_}
-use Rattle.hash.specs.Bytes.{at}
-use Rattle.commitgraph.specs.Graph.{rowIn}
-use Rattle.commitgraph.proofs.RowsPlace.{at-cut}
 use Rattle.commitgraph.proofs.rows.row.Statement.{statement}
 use Rattle.commitgraph.proofs.rows.row.Tie as tie
 
-place-requires : tie.Need-place-requires
-place-requires c κs = search needs
+enum-told : tie.Need-enum-told
+enum-told c = search needs
 
-part-requires : tie.Need-part-requires
-part-requires c κs = search needs
+width-requires : tie.Need-width-requires
+width-requires c κs = search needs
+
+row-in-requires : tie.Need-row-in-requires
+row-in-requires c κs = search needs
+
+enum-told-2 : tie.Need-enum-told-2
+enum-told-2 c = search needs
+
+width-requires-2 : tie.Need-width-requires-2
+width-requires-2 c κs = search needs
+
+row-in-requires-2 : tie.Need-row-in-requires-2
+row-in-requires-2 c κs = search needs
 
 returns : tie.Need-returns
-unfolding rowIn
-returns c =
-    let x = c .before .before .before .args in
-    let g = x .graph .now in
-    c .part .ensures ∙ (ap (λ (k : ℕ). at g k 36) (c .before .place .ensures) ∙ at-cut g (x .l .rows + 36 * x .p) 36)
+returns c = rw (c .before .before .enum-told .given .1) (rw (c .before .width .ensures .0) at (c .row-in .ensures))
+
+returns-2 : tie.Need-returns-2
+returns-2 c = rw (c .before .before .enum-told2 .given .1) (rw (c .before .width2 .ensures .0) at (c .row-in2 .ensures))
 
 pub row-spec : {M : Type 1} → statement M
-row-spec = tie.close (tie.spec place-requires part-requires returns)
+row-spec =
+    tie.close
+    (tie.spec
+    enum-told
+    width-requires
+    row-in-requires
+    enum-told-2
+    width-requires-2
+    row-in-requires-2
+    returns
+    returns-2)

@@ -10,14 +10,8 @@ use Rattle.walk.proofs.Whole.{length-list}
 use Rattle.frontier.specs.Paint.{lent}
 use Rattle.frontier.proofs.Steps.{Turning, on-first, on-next, on-last, markAll-nil, markAll-snoc, list-at, list-width}
 use borrow.Author.Needs.{needs}
--- HEAD-END
 use Rattle.frontier.proofs.lists.mark_list.Statement.{statement}
 use Rattle.frontier.proofs.lists.mark_list.Tie as tie
-use Rattle.frontier.proofs.lists.mark_list.Reads as reads
-use Rattle.frontier.proofs.lists.mark_list.Lts as lts
-use Rattle.frontier.proofs.lists.id_count.Reads as id-count-reads
-use Rattle.frontier.proofs.marking.mark_next.Reads as mark-next-reads
-use Rattle.hash.proofs.id_at.Reads as id-at-reads
 
 abbrev Inv-loop : tie.InvT-loop
 Inv-loop names₀ marks₀ levels₀ times₀ line₀ cap cache graph store list bits n r₀ i₀ names marks levels times line r i = Turning markAll cache graph store cap (lent names₀ marks₀ levels₀ times₀ line₀) (lent names marks levels times line) r₀ (listIds list) bits n i r
@@ -25,64 +19,47 @@ Inv-loop names₀ marks₀ levels₀ times₀ line₀ cap cache graph store list
 abbrev μ-loop : tie.MeasureT-loop
 μ-loop names₀ marks₀ levels₀ times₀ line₀ cap cache graph store list bits n r₀ i₀ names marks levels times line r i = n - i
 
--- src/lists.rt:45:9
 id-count-requires : tie.Need-id-count-requires Inv-loop μ-loop
 id-count-requires c κs = search needs
 
--- src/lists.rt:48:5
 loop-holds : tie.Need-loop-holds Inv-loop μ-loop
 loop-holds c = let x = c .before .before .before .before .before .before .before .before .args in on-first mark markAll markAll-nil markAll-snoc (x .cache) (x .graph .now) (x .store .now) (x .cap) _ (listIds (x .list .now)) (x .bits) _ (x .past)
 
--- src/lists.rt:49:36
-mul-id-at : tie.Need-mul-id-at Inv-loop μ-loop
-mul-id-at c = omega (arith, c .before .before .id-count .ensures)
+nth-requires : tie.Need-nth-requires Inv-loop μ-loop
+nth-requires c κs = search needs
 
--- src/lists.rt:49:13
-id-at-requires : tie.Need-id-at-requires Inv-loop μ-loop
-id-at-requires c κs = search needs
-
--- src/lists.rt:50:9
 mark-next-requires : tie.Need-mark-next-requires Inv-loop μ-loop
 mark-next-requires c κs = search needs
 
--- src/lists.rt:51:9
 add-i : tie.Need-add-i Inv-loop μ-loop
 add-i c = search needs
 
--- src/lists.rt:48:5
 loop-less : tie.Need-loop-less Inv-loop μ-loop
 loop-less c = search needs
 
--- src/lists.rt:48:5
 loop-again : tie.Need-loop-again Inv-loop μ-loop
 loop-again c = let l = c .before .before .before .before .before .before .before .before .before .before .before .before .before .before .before .before .before in
     let b = c .before .before .before .before .before .before .before .before .before .before .before .before .before .before .before .before .before .before .before .before .before .before .before .before .before .before .args .list .now in
     let n = c .before .before .before .before .before .before .before .before .before .before .before .before .before .before .before .before .before .before .id-count .ensures in
     let h : l .loop .i < length b / idBytes = omega (arith, n, c .before .before .before .before .before .before .before .before .before .before .before .before .before .before .before .before .loop-test .taken) in
-    let e = c .before .before .before .before .before .before .before .before .before .before .before .before .before .before .before .id-at .ensures in
+    let e = c .before .before .before .before .before .before .before .before .before .before .before .before .before .before .before .nth .ensures in
     on-next mark markAll markAll-nil markAll-snoc (l .loop .inv) (c .before .before .before .before .before .before .before .before .before .before .before .before .before .before .before .before .loop-test .taken) (n ∙ sym (length-list b)) (ap length e ∙ list-width b (l .loop .i) h) (e ∙ list-at b (l .loop .i) h) (record { names = c .before .before .before .before .before .before .before .before .before .mark-next .kept .0; marks = c .before .before .before .before .before .before .before .before .before .mark-next .kept .1 .0; levels = c .before .before .before .before .before .before .before .before .before .mark-next .kept .1 .1 .0; times = c .before .before .before .before .before .before .before .before .before .mark-next .kept .1 .1 .1 .0; line = c .before .before .before .before .before .before .before .before .before .mark-next .kept .1 .1 .1 .1 .0 }) (c .before .before .before .before .before .before .before .before .before .mark-next .ensures)
 
--- src/lists.rt:29:1
 same-length : tie.Need-same-length Inv-loop μ-loop
 same-length c = c .before .loop .inv .long .names
 
--- src/lists.rt:29:1
 same-length-2 : tie.Need-same-length-2 Inv-loop μ-loop
 same-length-2 c = c .before .loop .inv .long .marks
 
--- src/lists.rt:29:1
 same-length-3 : tie.Need-same-length-3 Inv-loop μ-loop
 same-length-3 c = c .before .loop .inv .long .levels
 
--- src/lists.rt:29:1
 same-length-4 : tie.Need-same-length-4 Inv-loop μ-loop
 same-length-4 c = c .before .loop .inv .long .times
 
--- src/lists.rt:29:1
 same-length-5 : tie.Need-same-length-5 Inv-loop μ-loop
 same-length-5 c = c .before .loop .inv .long .line
 
--- src/lists.rt:29:1
 returns : tie.Need-returns Inv-loop μ-loop
 returns c = on-last mark markAll markAll-nil markAll-snoc (c .before .loop .inv) (c .loop-test .left) (c .before .before .id-count .ensures ∙ sym (length-list (c .before .before .before .before .before .before .before .before .before .before .args .list .now)))
 
@@ -94,8 +71,7 @@ mark-list-spec =
     μ-loop
     id-count-requires
     loop-holds
-    mul-id-at
-    id-at-requires
+    nth-requires
     mark-next-requires
     add-i
     loop-less

@@ -3,16 +3,15 @@ use mathlib.Core.Path.{sym, ap, _∙_}
 use Prim.Native.Nat.{_-_}
 use native.Mathlib.Omega.{arith}
 use Rattle.frontier.specs.Paint.{lent}
+use lib.ListN.{length}
+use Rattle.hash.specs.Bytes.{idBytes}
+use Rattle.object.specs.Ids.{idIn}
+use Rattle.object.proofs.IdBytes.{padded-length}
+use Rattle.reading.proofs.ByValue.{id-in-width}
 use Rattle.frontier.proofs.Runs.{Running, running-first, running-next, running-last}
 use borrow.Author.Needs.{needs}
--- HEAD-END
 use Rattle.frontier.proofs.lists.mark_run.Statement.{statement}
 use Rattle.frontier.proofs.lists.mark_run.Tie as tie
-use Rattle.frontier.proofs.lists.mark_run.Reads as reads
-use Rattle.frontier.proofs.lists.mark_run.Lts as lts
-use Rattle.frontier.proofs.lists.id_in.Reads as id-in-reads
-use Rattle.frontier.proofs.lists.slot_after.Reads as slot-after-reads
-use Rattle.frontier.proofs.marking.mark_next.Reads as mark-next-reads
 
 abbrev Inv-loop : tie.InvT-loop
 Inv-loop names₀ marks₀ levels₀ times₀ line₀ cap cache graph store from n bits r₀ i₀ names marks levels times line r i = Running cache graph store cap (lent names₀ marks₀ levels₀ times₀ line₀) (lent names marks levels times line) r₀ from n bits i r
@@ -20,56 +19,46 @@ Inv-loop names₀ marks₀ levels₀ times₀ line₀ cap cache graph store from
 abbrev μ-loop : tie.MeasureT-loop
 μ-loop names₀ marks₀ levels₀ times₀ line₀ cap cache graph store from n bits r₀ i₀ names marks levels times line r i = n - i
 
--- src/lists.rt:99:5
 loop-holds : tie.Need-loop-holds Inv-loop μ-loop
 loop-holds c = let x = c .before .before .before .before .before .before .args in running-first (x .cache) (x .graph .now) (x .store .now) (x .cap) _ _ (x .from) (x .n) (x .bits)
 
--- src/lists.rt:100:13
 slot-after-requires : tie.Need-slot-after-requires Inv-loop μ-loop
 slot-after-requires c κs = search needs
 
--- src/lists.rt:101:18
 id-in-requires : tie.Need-id-in-requires Inv-loop μ-loop
 id-in-requires c κs = search needs
 
--- src/lists.rt:102:9
+id-slice-requires : tie.Need-id-slice-requires Inv-loop μ-loop
+id-slice-requires c κs = search needs
+
 mark-next-requires : tie.Need-mark-next-requires Inv-loop μ-loop
 mark-next-requires c κs = search needs
 
--- src/lists.rt:103:9
 add-i : tie.Need-add-i Inv-loop μ-loop
 add-i c = omega (arith, c .before .before .before .before .before .before .before .before .before .before .before .before .before .before .before .before .before .before .before .before .before .before .before .before .before .before .before .before .before .before .fits .n)
 
--- src/lists.rt:99:5
 loop-less : tie.Need-loop-less Inv-loop μ-loop
 loop-less c = search needs
 
--- src/lists.rt:99:5
 loop-again : tie.Need-loop-again Inv-loop μ-loop
 loop-again c = let l = c .before .before .before .before .before .before .before .before .before .before .before .before .before .before .before .before .before .before .before .before .before .before .before in
-    running-next (c .before .before .before .before .before .before .before .before .before .before .before .before .before .before .before .before .before .before .before .before .slot-after .result) (l .loop .inv) (c .before .before .before .before .before .before .before .before .before .before .before .before .before .before .before .before .before .before .before .before .before .before .loop-test .taken) (c .before .before .before .before .before .before .before .before .before .before .before .before .before .before .before .before .before .before .before .before .slot-after .ensures) (c .before .before .before .before .before .before .before .before .before .before .before .before .before .before .before .before .before .before .id-in .ensures) (search needs) (record { names = c .before .before .before .before .before .before .before .before .before .mark-next .kept .0; marks = c .before .before .before .before .before .before .before .before .before .mark-next .kept .1 .0; levels = c .before .before .before .before .before .before .before .before .before .mark-next .kept .1 .1 .0; times = c .before .before .before .before .before .before .before .before .before .mark-next .kept .1 .1 .1 .0; line = c .before .before .before .before .before .before .before .before .before .mark-next .kept .1 .1 .1 .1 .0 }) (c .before .before .before .before .before .before .before .before .before .mark-next .ensures)
+    running-next (c .before .before .before .before .before .before .before .before .before .before .before .before .before .before .before .before .before .before .before .before .slot-after .result) (l .loop .inv) (c .before .before .before .before .before .before .before .before .before .before .before .before .before .before .before .before .before .before .before .before .before .before .loop-test .taken) (c .before .before .before .before .before .before .before .before .before .before .before .before .before .before .before .before .before .before .before .before .slot-after .ensures) (c .before .before .before .before .before .before .before .before .before .before .id-slice .ensures ∙ ap (idIn idBytes) (c .before .before .before .before .before .before .before .before .before .before .before .before .before .before .before .before .before .before .id-in .ensures)) (ap length (c .before .before .before .before .before .before .before .before .before .before .id-slice .ensures ∙ ap (idIn idBytes) (c .before .before .before .before .before .before .before .before .before .before .before .before .before .before .before .before .before .before .id-in .ensures)) ∙ id-in-width _ (padded-length _)) (record { names = c .before .before .before .before .before .before .before .before .before .mark-next .kept .0; marks = c .before .before .before .before .before .before .before .before .before .mark-next .kept .1 .0; levels = c .before .before .before .before .before .before .before .before .before .mark-next .kept .1 .1 .0; times = c .before .before .before .before .before .before .before .before .before .mark-next .kept .1 .1 .1 .0; line = c .before .before .before .before .before .before .before .before .before .mark-next .kept .1 .1 .1 .1 .0 }) (c .before .before .before .before .before .before .before .before .before .mark-next .ensures)
 
--- src/lists.rt:80:1
 same-length : tie.Need-same-length Inv-loop μ-loop
 same-length c = c .before .loop .inv .long .names
 
--- src/lists.rt:80:1
 same-length-2 : tie.Need-same-length-2 Inv-loop μ-loop
 same-length-2 c = c .before .loop .inv .long .marks
 
--- src/lists.rt:80:1
 same-length-3 : tie.Need-same-length-3 Inv-loop μ-loop
 same-length-3 c = c .before .loop .inv .long .levels
 
--- src/lists.rt:80:1
 same-length-4 : tie.Need-same-length-4 Inv-loop μ-loop
 same-length-4 c = c .before .loop .inv .long .times
 
--- src/lists.rt:80:1
 same-length-5 : tie.Need-same-length-5 Inv-loop μ-loop
 same-length-5 c = c .before .loop .inv .long .line
 
--- src/lists.rt:80:1
 returns : tie.Need-returns Inv-loop μ-loop
 returns c = running-last (c .before .loop .inv) (c .loop-test .left)
 
@@ -82,6 +71,7 @@ mark-run-spec =
     loop-holds
     slot-after-requires
     id-in-requires
+    id-slice-requires
     mark-next-requires
     add-i
     loop-less

@@ -3,16 +3,12 @@ use mathlib.Core.Path.{sym, ap, _∙_}
 use Prim.Native.Nat.{_-_}
 use native.Mathlib.Omega.{arith}
 use Rattle.frontier.specs.Paint.{lent}
+use lib.ListN.{length}
+use Rattle.reading.proofs.ByValue.{id-in-width, gives-length}
 use Rattle.frontier.proofs.Steps.{Passing, passing-first, passing-next, passing-last}
 use borrow.Author.Needs.{needs}
--- HEAD-END
 use Rattle.frontier.proofs.lists.pass_to_parents.Statement.{statement}
 use Rattle.frontier.proofs.lists.pass_to_parents.Tie as tie
-use Rattle.frontier.proofs.lists.pass_to_parents.Reads as reads
-use Rattle.frontier.proofs.lists.pass_to_parents.Lts as lts
-use Rattle.frontier.proofs.lists.parent_count.Reads as parent-count-reads
-use Rattle.frontier.proofs.lists.pass_next.Reads as pass-next-reads
-use Rattle.reading.proofs.parent_of.Reads as parent-of-reads
 
 abbrev Inv-loop : tie.InvT-loop
 Inv-loop names₀ marks₀ levels₀ times₀ line₀ cap cache graph store commit bits n r₀ i₀ names marks levels times line r i = Passing cache graph store cap (lent names₀ marks₀ levels₀ times₀ line₀) (lent names marks levels times line) r₀ commit bits i r
@@ -20,57 +16,47 @@ Inv-loop names₀ marks₀ levels₀ times₀ line₀ cap cache graph store comm
 abbrev μ-loop : tie.MeasureT-loop
 μ-loop names₀ marks₀ levels₀ times₀ line₀ cap cache graph store commit bits n r₀ i₀ names marks levels times line r i = n - i
 
--- src/lists.rt:135:9
 parent-count-requires : tie.Need-parent-count-requires Inv-loop μ-loop
 parent-count-requires c κs = search needs
 
--- src/lists.rt:138:5
 loop-holds : tie.Need-loop-holds Inv-loop μ-loop
 loop-holds c = let x = c .before .before .before .before .before .before .before .args in passing-first (x .cache) (x .graph .now) (x .store .now) (x .cap) _ _ (x .commit) (x .bits)
 
--- src/lists.rt:139:18
 parent-of-requires : tie.Need-parent-of-requires Inv-loop μ-loop
 parent-of-requires c κs = search needs
 
--- src/lists.rt:140:9
+id-slice-requires : tie.Need-id-slice-requires Inv-loop μ-loop
+id-slice-requires c κs = search needs
+
 pass-next-requires : tie.Need-pass-next-requires Inv-loop μ-loop
 pass-next-requires c κs = search needs
 
--- src/lists.rt:141:9
 add-i : tie.Need-add-i Inv-loop μ-loop
 add-i c = search needs
 
--- src/lists.rt:138:5
 loop-less : tie.Need-loop-less Inv-loop μ-loop
 loop-less c = search needs
 
--- src/lists.rt:138:5
 loop-again : tie.Need-loop-again Inv-loop μ-loop
 loop-again c = let l = c .before .before .before .before .before .before .before .before .before .before .before .before .before .before .before .before .before .before .before .before in
     let n = c .before .before .before .before .before .before .before .before .before .before .before .before .before .before .before .before .before .before .before .before .before .parent-count .ensures in
-    passing-next (l .loop .inv) (omega (arith, n, c .before .before .before .before .before .before .before .before .before .before .before .before .before .before .before .before .before .before .before .loop-test .taken)) (search needs) (c .before .before .before .before .before .before .before .before .before .before .before .before .before .before .before .before .before .before .parent-of .ensures) (record { names = c .before .before .before .before .before .before .before .before .before .pass-next .kept .0; marks = c .before .before .before .before .before .before .before .before .before .pass-next .kept .1 .0; levels = c .before .before .before .before .before .before .before .before .before .pass-next .kept .1 .1 .0; times = c .before .before .before .before .before .before .before .before .before .pass-next .kept .1 .1 .1 .0; line = c .before .before .before .before .before .before .before .before .before .pass-next .kept .1 .1 .1 .1 .0 }) (c .before .before .before .before .before .before .before .before .before .pass-next .ensures)
+    passing-next (l .loop .inv) (omega (arith, n, c .before .before .before .before .before .before .before .before .before .before .before .before .before .before .before .before .before .before .before .loop-test .taken)) (c .before .before .before .before .before .before .before .before .before .before .id-slice .ensures) (ap length (c .before .before .before .before .before .before .before .before .before .before .id-slice .ensures) ∙ id-in-width _ (gives-length _ (c .before .before .before .before .before .before .before .before .before .before .before .before .before .before .before .before .before .before .parent-of .ensures))) (c .before .before .before .before .before .before .before .before .before .before .before .before .before .before .before .before .before .before .parent-of .ensures) (record { names = c .before .before .before .before .before .before .before .before .before .pass-next .kept .0; marks = c .before .before .before .before .before .before .before .before .before .pass-next .kept .1 .0; levels = c .before .before .before .before .before .before .before .before .before .pass-next .kept .1 .1 .0; times = c .before .before .before .before .before .before .before .before .before .pass-next .kept .1 .1 .1 .0; line = c .before .before .before .before .before .before .before .before .before .pass-next .kept .1 .1 .1 .1 .0 }) (c .before .before .before .before .before .before .before .before .before .pass-next .ensures)
 
--- src/lists.rt:119:1
 same-length : tie.Need-same-length Inv-loop μ-loop
 same-length c = c .before .loop .inv .long .names
 
--- src/lists.rt:119:1
 same-length-2 : tie.Need-same-length-2 Inv-loop μ-loop
 same-length-2 c = c .before .loop .inv .long .marks
 
--- src/lists.rt:119:1
 same-length-3 : tie.Need-same-length-3 Inv-loop μ-loop
 same-length-3 c = c .before .loop .inv .long .levels
 
--- src/lists.rt:119:1
 same-length-4 : tie.Need-same-length-4 Inv-loop μ-loop
 same-length-4 c = c .before .loop .inv .long .times
 
--- src/lists.rt:119:1
 same-length-5 : tie.Need-same-length-5 Inv-loop μ-loop
 same-length-5 c = c .before .loop .inv .long .line
 
--- src/lists.rt:119:1
 returns : tie.Need-returns Inv-loop μ-loop
 returns c = passing-last (c .before .loop .inv) (omega (arith, c .before .before .parent-count .ensures, c .loop-test .left))
 
@@ -83,6 +69,7 @@ pass-to-parents-spec =
     parent-count-requires
     loop-holds
     parent-of-requires
+    id-slice-requires
     pass-next-requires
     add-i
     loop-less

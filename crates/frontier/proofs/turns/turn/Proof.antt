@@ -1,83 +1,63 @@
 -- `turns::turn` meets its contract: the slot that leaves has the first commit of the queue, and what it passes are that commit's marks. Assumes nothing.
+use mathlib.Core.Path.{_∙_, ap}
+use Rattle.hash.specs.Bytes.{idBytes}
+use Rattle.object.specs.Ids.{idIn}
 use Rattle.frontier.proofs.TurnLaws.{turn-some, turn-none}
--- HEAD-END
 use borrow.Author.Needs.{needs}
 use Rattle.frontier.proofs.turns.turn.Statement.{statement}
 use Rattle.frontier.proofs.turns.turn.Tie as tie
-use Rattle.frontier.proofs.turns.turn.Reads as reads
-use Rattle.frontier.proofs.turns.turn.Lts as lts
-use Rattle.frontier.proofs.bits.passed_bits.Reads as passed-bits-reads
-use Rattle.frontier.proofs.lists.id_in.Reads as id-in-reads
-use Rattle.frontier.proofs.lists.pass_to_parents.Reads as pass-to-parents-reads
-use Rattle.hashtable.proofs.table.mark_of.Reads as mark-of-reads
-use Rattle.reading.proofs.read_commit.Reads as read-commit-reads
-use Rattle.pending.proofs.pop.Reads as pop-reads
 
--- src/turns.rt:28:9
 pop-requires : tie.Need-pop-requires
 pop-requires c κs = search needs
 
--- src/turns.rt:32:61
 cast-mark-of : tie.Need-cast-mark-of
 cast-mark-of c = search needs
 
--- src/turns.rt:32:39
 mark-of-requires : tie.Need-mark-of-requires
 mark-of-requires c κs = search needs
 
--- src/turns.rt:32:13
 passed-bits-requires : tie.Need-passed-bits-requires
 passed-bits-requires c κs = search needs
 
--- src/turns.rt:33:18
 id-in-requires : tie.Need-id-in-requires
 id-in-requires c κs = search needs
 
--- src/turns.rt:34:13
+id-slice-requires : tie.Need-id-slice-requires
+id-slice-requires c κs = search needs
+
 read-commit-requires : tie.Need-read-commit-requires
 read-commit-requires c κs = search needs
 
--- src/turns.rt:35:9
 pass-to-parents-requires : tie.Need-pass-to-parents-requires
 pass-to-parents-requires c κs = search needs
 
--- src/turns.rt:14:1
 same-length : tie.Need-same-length
 same-length c = search needs
 
--- src/turns.rt:14:1
 same-length-2 : tie.Need-same-length-2
 same-length-2 c = search needs
 
--- src/turns.rt:14:1
 same-length-3 : tie.Need-same-length-3
 same-length-3 c = search needs
 
--- src/turns.rt:14:1
 same-length-4 : tie.Need-same-length-4
 same-length-4 c = search needs
 
--- src/turns.rt:14:1
 same-length-5 : tie.Need-same-length-5
 same-length-5 c = search needs
 
--- src/turns.rt:14:1
 returns : tie.Need-returns
-returns c = turn-some (c .before .before .before .before .before .before .before .before .before .before .before .before .before .before .before .before .before .before .before .before .before .before .before .before .before .before .pop .ensures) (c .before .before .before .before .before .before .before .before .before .before .before .before .before .before .before .before .before .before .before .before .before .before .before .before .before .if1 .taken) (c .before .before .before .before .before .before .before .before .before .before .before .before .before .before .before .before .before .before .before .before .before .before .mark-of .ensures) (c .before .before .before .before .before .before .before .before .before .before .before .before .before .before .before .before .before .before .before .before .before .passed-bits .ensures) (c .before .before .before .before .before .before .before .before .before .before .before .before .before .before .before .before .before .before .before .id-in .ensures) (c .before .before .before .before .before .before .before .before .before .before .before .before .before .before .before .read-commit .ensures) (c .before .before .before .before .before .before .before .before .before .pass-to-parents .ensures)
+returns c = turn-some (c .before .before .before .before .before .before .before .before .before .before .before .before .before .before .before .before .before .before .before .before .before .before .before .before .before .before .pop .ensures) (c .before .before .before .before .before .before .before .before .before .before .before .before .before .before .before .before .before .before .before .before .before .before .before .before .before .if1 .taken) (c .before .before .before .before .before .before .before .before .before .before .before .before .before .before .before .before .before .before .before .before .before .before .mark-of .ensures) (c .before .before .before .before .before .before .before .before .before .before .before .before .before .before .before .before .before .before .before .before .before .passed-bits .ensures) (c .before .before .before .before .before .before .before .before .before .before .before .before .before .before .before .before .id-slice .ensures ∙ ap (idIn idBytes) (c .before .before .before .before .before .before .before .before .before .before .before .before .before .before .before .before .before .before .before .id-in .ensures)) (c .before .before .before .before .before .before .before .before .before .before .before .before .before .before .before .read-commit .ensures) (c .before .before .before .before .before .before .before .before .before .pass-to-parents .ensures)
 
--- src/turns.rt:14:1
 same-length-6 : tie.Need-same-length-6
 same-length-6 c = search needs
 
--- src/turns.rt:14:1
 same-length-7 : tie.Need-same-length-7
 same-length-7 c = search needs
 
--- src/turns.rt:14:1
 same-length-8 : tie.Need-same-length-8
 same-length-8 c = search needs
 
--- src/turns.rt:14:1
 returns-2 : tie.Need-returns-2
 returns-2 c = turn-none (c .before .pop .ensures) (c .if1 .left)
 
@@ -90,6 +70,7 @@ turn-spec =
     mark-of-requires
     passed-bits-requires
     id-in-requires
+    id-slice-requires
     read-commit-requires
     pass-to-parents-requires
     same-length

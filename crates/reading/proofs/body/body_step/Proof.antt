@@ -1,43 +1,48 @@
--- `reading::body_step` meets its contract: the parent line after k parents is the next one, or the reading ends. Assumes nothing.
+-- `reading::body_step` meets its contract: the token after k parents is the next one, or the reading ends. Assumes nothing.
 use native.Mathlib.Omega.{arith}
-use borrow.Author.Tests.{not-true, not-false}
-use Rattle.reading.proofs.Lines.{step-far, step-end, step-crowd, step-parent}
+use Rattle.commititer.proofs.ByHeader.{neither}
+use Rattle.reading.proofs.Lines.{step-far, by-parent, by-author, by-neither}
 use borrow.Author.Needs.{needs}
 use Rattle.reading.proofs.body.body_step.Statement.{statement}
 use Rattle.reading.proofs.body.body_step.Tie as tie
+use Rattle.reading.proofs.body.body_step.Reads as reads
+use Rattle.reading.proofs.body.body_step.Lts as lts
+use Rattle.reading.proofs.body.counted.Reads as counted-reads
+use Rattle.reading.proofs.body.ended.Reads as ended-reads
+use Rattle.reading.proofs.body.token_after.Reads as token-after-reads
 
 ended-requires : tie.Need-ended-requires
 ended-requires c κs = search needs
 
 returns : tie.Need-returns
-returns c = let x = c .before .before .before .args in step-far (x .body .now) (x .k) (c .before .if1 .taken) (c .ended .ensures)
+returns c = step-far _ _ (c .before .if1 .taken) (c .ended .ensures)
 
-mul-at : tie.Need-mul-at
-mul-at c = search needs
+token-after-requires : tie.Need-token-after-requires
+token-after-requires c κs = search needs
 
-add-at : tie.Need-add-at
-add-at c = search needs
+enum-told : tie.Need-enum-told
+enum-told c = search needs
 
-is-parent-line-requires : tie.Need-is-parent-line-requires
-is-parent-line-requires c κs = search needs
+counted-requires : tie.Need-counted-requires
+counted-requires c κs = search needs
 
-end-at-requires : tie.Need-end-at-requires
-end-at-requires c κs = search needs
+enum-told-2 : tie.Need-enum-told-2
+enum-told-2 c = search needs
 
 ended-requires-2 : tie.Need-ended-requires-2
 ended-requires-2 c κs = search needs
 
-returns-2 : tie.Need-returns-2
-returns-2 c = let x = c .before .before .before .before .before .before .args in step-end (x .body .now) (x .k) (c .before .before .before .is-parent-line .ensures) (omega arith) (not-true _ (c .before .before .if2 .taken)) (c .before .end-at .ensures) (c .ended2 .ensures)
-
 ended-requires-3 : tie.Need-ended-requires-3
 ended-requires-3 c κs = search needs
 
+returns-2 : tie.Need-returns-2
+returns-2 c = by-parent _ _ (omega arith) (c .before .before .before .token-after .ensures) (c .before .enum-told .given .1) (c .counted .ensures)
+
 returns-3 : tie.Need-returns-3
-returns-3 c = let x = c .before .before .before .before .before .before .args in step-crowd (x .body .now) (x .k) (c .before .before .before .is-parent-line .ensures) (omega arith) (not-false _ (c .before .before .if2 .left)) (c .before .if3 .taken) (c .ended3 .ensures)
+returns-3 c = by-author _ _ (omega arith) (c .before .before .before .token-after .ensures) (c .before .enum-told2 .given .1) (c .ended2 .ensures)
 
 returns-4 : tie.Need-returns-4
-returns-4 c = let x = c .before .before .before .before .before .args in step-parent (x .body .now) (x .k) (c .before .before .is-parent-line .ensures) (omega arith) (not-false _ (c .before .if2 .left)) (omega arith)
+returns-4 c = by-neither _ _ (omega arith) (c .before .before .token-after .ensures) (neither (c .before .before .token-after .result .token) (c .before .match .keys3)) (c .ended3 .ensures)
 
 pub body-step-spec : {M : Type 1} → statement M
 body-step-spec =
@@ -45,12 +50,12 @@ body-step-spec =
     (tie.spec
     ended-requires
     returns
-    mul-at
-    add-at
-    is-parent-line-requires
-    end-at-requires
+    token-after-requires
+    enum-told
+    counted-requires
+    enum-told-2
     ended-requires-2
-    returns-2
     ended-requires-3
+    returns-2
     returns-3
     returns-4)

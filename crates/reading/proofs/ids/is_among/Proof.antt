@@ -3,26 +3,28 @@ use borrow.Author.Needs.{needs}
 use mathlib.Core.Path.{_≡_, sym, _∙_, ap}
 use Prim.Native.Nat.{_-_, _/_, _≤_}
 use lib.ListN.{length}
-use Rattle.hash.specs.Bytes.{eqId, among}
+use Rattle.hash.specs.Bytes.{idBytes, eqId, among}
 use Rattle.walk.specs.Opening.{listIds}
 use Rattle.reading.proofs.IdLists.{fromId, among-start, among-here, among-later, among-none}
 use Rattle.reading.proofs.ids.is_among.Statement.{statement}
 use Rattle.reading.proofs.ids.is_among.Tie as tie
 
 abbrev Inv-loop : tie.InvT-loop
-Inv-loop list id n k₀ k = (n ≡ length list / 20) × (k ≤ n) × (among id (listIds list) ≡ among id (fromId list n k))
+Inv-loop list id n k₀ k = (n ≡ length list / idBytes) × (k ≤ n) × (among id (listIds list) ≡ among id (fromId list n k))
 
 abbrev μ-loop : tie.MeasureT-loop
 μ-loop list id n k₀ k = n - k
 
+ids-in-requires : tie.Need-ids-in-requires Inv-loop μ-loop
+ids-in-requires c κs = search needs
+
 loop-holds : tie.Need-loop-holds Inv-loop μ-loop
-loop-holds c = let x = c .before .before .args in (search needs, search needs, among-start (x .id .now) (x .list .now))
+loop-holds c =
+    let x = c .before .before .before .args in
+    (c .ids-in .ensures, search needs, rw (c .ids-in .ensures) (among-start (x .id .now) (x .list .now)))
 
-mul-id-at : tie.Need-mul-id-at Inv-loop μ-loop
-mul-id-at c = search needs
-
-id-at-requires : tie.Need-id-at-requires Inv-loop μ-loop
-id-at-requires c κs = search needs
+nth-requires : tie.Need-nth-requires Inv-loop μ-loop
+nth-requires c κs = search needs
 
 same-requires : tie.Need-same-requires Inv-loop μ-loop
 same-requires c κs = search needs
@@ -30,8 +32,8 @@ same-requires c κs = search needs
 returns : tie.Need-returns Inv-loop μ-loop
 returns c =
     let l = c .before .before .before .before in
-    let x = l .before .before .before .args in
-    let e = sym (c .before .same .ensures ∙ ap (eqId (x .id .now)) (c .before .before .id-at .ensures)) ∙ c .if1 .taken in
+    let x = l .before .before .before .before .args in
+    let e = sym (c .before .same .ensures ∙ ap (eqId (x .id .now)) (c .before .before .nth .ensures)) ∙ c .if1 .taken in
     sym (l .loop .inv .2 ∙ among-here (x .id .now) (x .list .now) _ (l .loop .k) (search needs) e)
 
 add-k : tie.Need-add-k Inv-loop μ-loop
@@ -43,12 +45,12 @@ loop-less c = search needs
 loop-again : tie.Need-loop-again Inv-loop μ-loop
 loop-again c =
     let l = c .before .before .before .before in
-    let x = l .before .before .before .args in
-    let e = sym (c .before .same .ensures ∙ ap (eqId (x .id .now)) (c .before .before .id-at .ensures)) ∙ c .if1 .left in
+    let x = l .before .before .before .before .args in
+    let e = sym (c .before .same .ensures ∙ ap (eqId (x .id .now)) (c .before .before .nth .ensures)) ∙ c .if1 .left in
     (search needs, search needs, l .loop .inv .2 ∙ among-later (x .id .now) (x .list .now) _ (l .loop .k) (search needs) e)
 
 returns-2 : tie.Need-returns-2 Inv-loop μ-loop
-returns-2 c = let l = c .before in let x = l .before .before .before .args in sym (l .loop .inv .2 ∙ among-none (x .id .now) (x .list .now) _ (l .loop .k) (search needs))
+returns-2 c = let l = c .before in let x = l .before .before .before .before .args in sym (l .loop .inv .2 ∙ among-none (x .id .now) (x .list .now) _ (l .loop .k) (search needs))
 
 pub is-among-spec : {M : Type 1} → statement M
 is-among-spec =
@@ -56,9 +58,9 @@ is-among-spec =
     (tie.spec
     Inv-loop
     μ-loop
+    ids-in-requires
     loop-holds
-    mul-id-at
-    id-at-requires
+    nth-requires
     same-requires
     returns
     add-k

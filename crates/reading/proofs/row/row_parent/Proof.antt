@@ -1,5 +1,5 @@
--- `reading::row_parent` meets its contract: the id at the position that the file lists is the parent's. Assumes nothing.
-use Rattle.reading.proofs.Rows.{gives-parent}
+-- `reading::row_parent` meets its contract: the id at the parent's position is the parent's. Assumes nothing.
+use Rattle.reading.proofs.Rows.{parent-by-place}
 use borrow.Author.Needs.{needs}
 use Rattle.reading.proofs.row.row_parent.Statement.{statement}
 use Rattle.reading.proofs.row.row_parent.Tie as tie
@@ -11,7 +11,7 @@ id-at-requires : tie.Need-id-at-requires
 id-at-requires c κs = search needs
 
 returns : tie.Need-returns
-returns c = let x = c .before .before .before .args in gives-parent (x .graph .now) (x .l) (x .position) (x .k) (c .before .parent .ensures) (c .id-at .ensures)
+returns c = let x = c .before .before .before .args in parent-by-place (x .graph .now) (x .l) (x .position) (x .k) (c .before .parent .ensures) (c .id-at .ensures)
 
 pub row-parent-spec : {M : Type 1} → statement M
 row-parent-spec = tie.close (tie.spec parent-requires id-at-requires returns)

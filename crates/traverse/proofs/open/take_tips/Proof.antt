@@ -14,14 +14,14 @@ Inv-loop names₀ marks₀ times₀ line₀ store tips excluded sorting n r₀ k
 abbrev μ-loop : tie.MeasureT-loop
 μ-loop names₀ marks₀ times₀ line₀ store tips excluded sorting n r₀ k₀ names marks times line r k = n - k
 
+ids-in-requires : tie.Need-ids-in-requires Inv-loop μ-loop
+ids-in-requires c κs = search needs
+
 loop-holds : tie.Need-loop-holds Inv-loop μ-loop
-loop-holds c = turns-start
+loop-holds c = rw (c .ids-in .ensures) turns-start
 
-mul-id-at : tie.Need-mul-id-at Inv-loop μ-loop
-mul-id-at c = search needs
-
-id-at-requires : tie.Need-id-at-requires Inv-loop μ-loop
-id-at-requires c κs = search needs
+nth-requires : tie.Need-nth-requires Inv-loop μ-loop
+nth-requires c κs = search needs
 
 take-tip-requires : tie.Need-take-tip-requires Inv-loop μ-loop
 take-tip-requires c κs = search needs
@@ -40,7 +40,7 @@ loop-again : tie.Need-loop-again Inv-loop μ-loop
 loop-again c =
     let t = c .before .before .before .before .before .before .before in
     let d = t .before .before .before .before .before in
-    turns-next (d .before .before .loop .inv) (d .before .loop-test .taken) (rw (d .id-at .ensures) at (t .take-tip .ensures))
+    turns-next (d .before .before .loop .inv) (d .before .loop-test .taken) (rw (d .nth .ensures) at (t .take-tip .ensures))
 
 same-length : tie.Need-same-length Inv-loop μ-loop
 same-length c = c .before .loop .inv .long .names
@@ -63,9 +63,9 @@ take-tips-spec =
     (tie.spec
     Inv-loop
     μ-loop
+    ids-in-requires
     loop-holds
-    mul-id-at
-    id-at-requires
+    nth-requires
     take-tip-requires
     add-k
     loop-less

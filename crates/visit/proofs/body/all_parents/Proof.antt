@@ -9,9 +9,10 @@ use lib.ListN.{length}
 use Rattle.object.specs.Header.{header}
 use Rattle.visit.proofs.body.all_parents.Statement.{statement}
 use Rattle.visit.proofs.body.all_parents.Tie as tie
+use Rattle.hash.specs.Bytes.{idBytes}
 
 abbrev Inv-loop : tie.InvT-loop
-Inv-loop body k₀ k = (k ≤ 257) × (header body .tree ≡ true → k ≤ length (header body .ids))
+Inv-loop body k₀ k = (k ≤ 257) × (header idBytes body .tree ≡ true → k ≤ length (header idBytes body .ids))
 
 abbrev μ-loop : tie.MeasureT-loop
 μ-loop body k₀ k = 257 - k

@@ -5,6 +5,7 @@ use Rattle.visit.proofs.Bodies.{body-visited}
 use borrow.Author.Needs.{needs}
 use Rattle.visit.proofs.body.visit_body.Statement.{statement}
 use Rattle.visit.proofs.body.visit_body.Tie as tie
+use Rattle.hash.specs.Bytes.{idBytes}
 
 body-requires : tie.Need-body-requires
 body-requires c κs = search needs
@@ -31,7 +32,7 @@ same-length-5 : tie.Need-same-length-5
 same-length-5 c = search needs
 
 returns : tie.Need-returns
-returns c = body-visited (ap header (c .before .before .before .before .before .before .before .before .before .before .before .before .before .before .before .before .body .ensures)) (c .before .before .before .before .before .before .before .before .before .before .before .before .before .before .before .read-body .ensures) (c .before .before .before .before .before .before .before .before .before .visit-parents .ensures)
+returns c = body-visited (ap (header idBytes) (c .before .before .before .before .before .before .before .before .before .before .before .before .before .before .before .before .body .ensures)) (c .before .before .before .before .before .before .before .before .before .before .before .before .before .before .before .read-body .ensures) (c .before .before .before .before .before .before .before .before .before .visit-parents .ensures)
 
 pub visit-body-spec : {M : Type 1} → statement M
 visit-body-spec =

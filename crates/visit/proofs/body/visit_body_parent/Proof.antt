@@ -1,11 +1,17 @@
 -- `visit::body::visit_body_parent` meets its contract: the id is that of the line, and its seconds are in the store. Assumes nothing.
 use Rattle.visit.proofs.Bodies.{body-parent}
+use mathlib.Core.Path.{_∙_, ap}
+use Rattle.hash.specs.Bytes.{idBytes}
+use Rattle.object.specs.Ids.{idIn}
 use borrow.Author.Needs.{needs}
 use Rattle.visit.proofs.body.visit_body_parent.Statement.{statement}
 use Rattle.visit.proofs.body.visit_body_parent.Tie as tie
 
 body-parent-requires : tie.Need-body-parent-requires
 body-parent-requires c κs = search needs
+
+id-slice-requires : tie.Need-id-slice-requires
+id-slice-requires c κs = search needs
 
 set-parent-requires : tie.Need-set-parent-requires
 set-parent-requires c κs = search needs
@@ -29,13 +35,14 @@ same-length-5 : tie.Need-same-length-5
 same-length-5 c = search needs
 
 returns : tie.Need-returns
-returns c = body-parent (c .before .before .before .before .before .before .before .before .before .before .before .before .before .before .before .before .before .before .before .before .before .before .body-parent .ensures) (c .before .before .before .before .before .before .before .before .before .before .before .before .before .before .before .before .before .set-parent .ensures) (c .before .before .before .before .before .before .before .visit-stored .ensures)
+returns c = body-parent (c .before .before .before .before .before .before .before .before .before .before .before .before .before .before .before .before .id-slice .ensures ∙ ap (idIn idBytes) (c .before .before .before .before .before .before .before .before .before .before .before .before .before .before .before .before .before .before .before .body-parent .ensures)) (c .before .before .before .before .before .before .before .before .before .before .before .before .before .before .set-parent .ensures) (c .before .before .before .before .before .before .before .visit-stored .ensures)
 
 pub visit-body-parent-spec : {M : Type 1} → statement M
 visit-body-parent-spec =
     tie.close
     (tie.spec
     body-parent-requires
+    id-slice-requires
     set-parent-requires
     visit-stored-requires
     same-length

@@ -5,6 +5,7 @@ use Rattle.visit.proofs.Links.{visits}
 use borrow.Author.Needs.{needs}
 use Rattle.visit.proofs.link.visit_cached.Statement.{statement}
 use Rattle.visit.proofs.link.visit_cached.Tie as tie
+use Rattle.hash.specs.Bytes.{idBytes}
 
 see-requires : tie.Need-see-requires
 see-requires c κs = search needs
@@ -37,7 +38,7 @@ returns : tie.Need-returns
 returns c =
     let x = c .before .before .before .before .before .before .before .before .before .before .before .before .before .before .before .before .before .before .before .before .before .before .before .before .before .before .args in
     let s = c .before .before .before .before .before .before .before .before .before .before .new-row-seconds in
-    visits (c .before .before .before .before .before .before .before .before .before .before .before .before .before .before .before .before .see .ensures) (s .result .0) (secondsIn (x .graph .now) (x .l) (x .parent)) (s .ensures) (c .before .before .before .enter .ensures)
+    visits (c .before .before .before .before .before .before .before .before .before .before .before .before .before .before .before .before .see .ensures) (s .result .0) (secondsIn idBytes (x .graph .now) (x .l) (x .parent)) (s .ensures) (c .before .before .before .enter .ensures)
 
 pub visit-cached-spec : {M : Type 1} → statement M
 visit-cached-spec =

@@ -2,6 +2,8 @@
 use mathlib.Core.Path.{sym, ap, _∙_}
 use Rattle.reading.specs.declared.body.BodyEnd.{BodyEnd}
 use Rattle.visit.specs.Taking.{endGiven}
+use Rattle.hash.specs.Bytes.{idBytes}
+use Rattle.object.specs.Ids.{idIn}
 use borrow.Author.Needs.{needs}
 use Rattle.visit.proofs.next.end_body.Statement.{statement}
 use Rattle.visit.proofs.next.end_body.Tie as tie
@@ -25,13 +27,13 @@ refuse-requires-2 : tie.Need-refuse-requires-2
 refuse-requires-2 c κs = search needs
 
 returns : tie.Need-returns
-returns c = let a = c .before .before .before .args in record { is = c .give .ensures ∙ ap (λ (e : BodyEnd). endGiven e (a .id .bytes) (a .seen .parents) (a .time) (a .seen .after)) (sym (c .before .enum-told .given .1)) }
+returns c = let a = c .before .before .before .args in record { is = c .give .ensures ∙ ap (λ (e : BodyEnd). endGiven e (idIn idBytes (a .id .bytes)) (a .seen .parents) (a .time) (a .seen .after)) (sym (c .before .enum-told .given .1)) }
 
 returns-2 : tie.Need-returns-2
-returns-2 c = let a = c .before .before .before .args in record { is = c .refuse .ensures ∙ ap (λ (e : BodyEnd). endGiven e (a .id .bytes) (a .seen .parents) (a .time) (a .seen .after)) (sym (c .before .enum-told2 .given .1)) }
+returns-2 c = let a = c .before .before .before .args in record { is = c .refuse .ensures ∙ ap (λ (e : BodyEnd). endGiven e (idIn idBytes (a .id .bytes)) (a .seen .parents) (a .time) (a .seen .after)) (sym (c .before .enum-told2 .given .1)) }
 
 returns-3 : tie.Need-returns-3
-returns-3 c = let a = c .before .before .before .args in record { is = c .refuse2 .ensures ∙ ap (λ (e : BodyEnd). endGiven e (a .id .bytes) (a .seen .parents) (a .time) (a .seen .after)) (sym (c .before .enum-told3 .given .1)) }
+returns-3 c = let a = c .before .before .before .args in record { is = c .refuse2 .ensures ∙ ap (λ (e : BodyEnd). endGiven e (idIn idBytes (a .id .bytes)) (a .seen .parents) (a .time) (a .seen .after)) (sym (c .before .enum-told3 .given .1)) }
 
 pub end-body-spec : {M : Type 1} → statement M
 end-body-spec =

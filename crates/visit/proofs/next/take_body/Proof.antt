@@ -4,6 +4,9 @@ use borrow.Author.Needs.{needs}
 use Rattle.visit.proofs.next.take_body.Statement.{statement}
 use Rattle.visit.proofs.next.take_body.Tie as tie
 
+id-slice-requires : tie.Need-id-slice-requires
+id-slice-requires c κs = search needs
+
 locate-requires : tie.Need-locate-requires
 locate-requires c κs = search needs
 
@@ -41,15 +44,16 @@ same-length-5 : tie.Need-same-length-5
 same-length-5 c = search needs
 
 returns : tie.Need-returns
-returns c = let k = c .before .before .before .before .before .before .before .before .before .before .before .before .before .before .before .before .before .before .start .given in takes-body (k .0 .0) (k .0 .1 .0) (c .before .before .before .before .before .before .before .before .before .before .before .before .before .before .before .before .before .before .before .before .locate .ensures) (k .1) (c .before .before .before .before .before .before .before .before .before .before .before .visit-body .ensures) (rw (c .before .time-given .ensures) at (c .end-body .ensures))
+returns c = let k = c .before .before .before .before .before .before .before .before .before .before .before .before .before .before .before .before .before .before .start .given in takes-body (k .0 .0) (k .0 .1 .0) (rw (c .before .before .before .before .before .before .before .before .before .before .before .before .before .before .before .before .before .before .before .before .before .id-slice .ensures) at (c .before .before .before .before .before .before .before .before .before .before .before .before .before .before .before .before .before .before .before .before .locate .ensures)) (k .1) (c .before .before .before .before .before .before .before .before .before .before .before .visit-body .ensures) (rw (c .before .time-given .ensures) at (c .end-body .ensures))
 
 returns-2 : tie.Need-returns-2
-returns-2 c = rw (c .refuse .ensures) (takes-absent (c .before .before .before .locate .ensures) (c .before .enum-told .given .1))
+returns-2 c = rw (c .refuse .ensures) (takes-absent (rw (c .before .before .before .before .id-slice .ensures) at (c .before .before .before .locate .ensures)) (c .before .enum-told .given .1))
 
 pub take-body-spec : {M : Type 1} → statement M
 take-body-spec =
     tie.close
     (tie.spec
+    id-slice-requires
     locate-requires
     enum-known-start
     visit-body-requires

@@ -8,20 +8,21 @@ use Rattle.visit.proofs.Past.{parent-set, parent-left}
 use Rattle.visit.proofs.row.set_parent.Statement.{statement}
 use Rattle.visit.proofs.row.set_parent.Tie as tie
 
-mul-set-down : tie.Need-mul-set-down
-mul-set-down c = search needs
+width-requires : tie.Need-width-requires
+width-requires c κs = search needs
 
-set-down-requires : tie.Need-set-down-requires
-set-down-requires c κs = search needs
+set-nth-requires : tie.Need-set-nth-requires
+set-nth-requires c κs = search needs
 
 same-length : tie.Need-same-length
 same-length c = search needs
 
 returns : tie.Need-returns
-returns c = parent-set (leb-true _ _ (c .before .before .before .before .if2 .taken)) (c .before .before .set-down .ensures)
+returns c = parent-set (omega (arith, leb-true (length (c .before .before .before .before .before .before .before .before .before .args .id .now)) (c .before .before .before .before .before .width .result) (c .before .before .before .before .if2 .taken), c .before .before .before .before .before .width .ensures .0)) (c .before .before .set-nth .ensures)
 
 returns-2 : tie.Need-returns-2
-returns-2 c = parent-left (λ i n. ⊎-elim (λ w. omega (arith, n, leb-false (length (c .before .before .before .args .id .now)) 20 (w .1 .left))) (λ w. omega (arith, i, w .left)) (c .if1 .came))
+returns-2 c = parent-left (λ i n. ⊎-elim (λ w. omega (arith, n, w .1 .ensures .0, leb-false (length (c .before .before .before .args .id .now)) (w .1 .result) (w .2 .left))) (λ w. omega (arith, i, w .left)) (c .if1 .came))
 
 pub set-parent-spec : {M : Type 1} → statement M
-set-parent-spec = tie.close (tie.spec mul-set-down set-down-requires same-length returns returns-2)
+set-parent-spec =
+    tie.close (tie.spec width-requires set-nth-requires same-length returns returns-2)

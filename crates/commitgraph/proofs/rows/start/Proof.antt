@@ -1,0 +1,45 @@
+-- `start` meets its contract: each arm names its own width. Assumes nothing.
+use mathlib.Core.Path.{_≡_}
+use Rattle.commitgraph.specs.Graph.{rowStart}
+use borrow.Author.Needs.{needs}
+use Rattle.commitgraph.proofs.rows.start.Statement.{statement}
+use Rattle.commitgraph.proofs.rows.start.Tie as tie
+
+enum-told : tie.Need-enum-told
+enum-told c = search needs
+
+width-requires : tie.Need-width-requires
+width-requires c κs = search needs
+
+start-in-requires : tie.Need-start-in-requires
+start-in-requires c κs = search needs
+
+enum-told-2 : tie.Need-enum-told-2
+enum-told-2 c = search needs
+
+width-requires-2 : tie.Need-width-requires-2
+width-requires-2 c κs = search needs
+
+start-in-requires-2 : tie.Need-start-in-requires-2
+start-in-requires-2 c κs = search needs
+
+returns : tie.Need-returns
+unfolding rowStart
+returns c = rw (c .before .before .enum-told .given .1) (rw (c .before .width .ensures .0) at (c .start-in .ensures))
+
+returns-2 : tie.Need-returns-2
+unfolding rowStart
+returns-2 c = rw (c .before .before .enum-told2 .given .1) (rw (c .before .width2 .ensures .0) at (c .start-in2 .ensures))
+
+pub start-spec : {M : Type 1} → statement M
+start-spec =
+    tie.close
+    (tie.spec
+    enum-told
+    width-requires
+    start-in-requires
+    enum-told-2
+    width-requires-2
+    start-in-requires-2
+    returns
+    returns-2)

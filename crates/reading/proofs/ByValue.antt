@@ -1,0 +1,46 @@
+-- Ids by value have room for either kind, whatever was read, so that the id in front has the width of the walk's ids. Assumes nothing.
+use mathlib.Core.Path.{_≡_, refl, _∙_, ap}
+use Prim.Native.Nat.{ℕ}
+use mathlib.Core.Bool.{Bool, true, false}
+use mathlib.Core.Option.{Option, none, some}
+use mathlib.Core.List.{List}
+use native.Mathlib.Omega.{arith}
+use lib.ListN.{length, drop}
+use lib.Seq.{length-take-le}
+use lib.Dec.{ltb}
+use Rattle.hash.specs.Bytes.{Id, idBytes, pick}
+use Rattle.object.specs.Header.{idLine, parentWord, most}
+use Rattle.object.specs.Ids.{idRoom, idIn, padded}
+use Rattle.object.specs.Read.{idRead, parentAt}
+use Rattle.object.specs.declared.ObjectId.{ObjectId}
+use Rattle.object.proofs.IdBytes.{padded-length}
+use Rattle.odb.specs.Lookup.{partOf}
+use Rattle.odb.specs.declared.Located.the-variants.{Body as BodyAt}
+use Rattle.commit.specs.declared.Cache.{Cache}
+use Rattle.reading.specs.Body.{noBytes, parentPlace, parentIdAt}
+use Rattle.reading.specs.Row.{rowParent}
+use Rattle.reading.specs.Whole.{ParentAt, GivesParent}
+use Rattle.reading.specs.declared.Commit.{Commit}
+use Rattle.reading.specs.declared.Commit.the-variants.{Row, Body, Failed}
+
+pub id-in-width : (o : List ℕ) → length o ≡ idRoom → length (idIn idBytes o) ≡ idBytes
+unfolding idIn
+id-in-width o e = length-take-le idBytes o (omega (arith, e))
+
+read-length : (o : Option (Id × List ℕ)) → length (idRead o .id .bytes) ≡ idRoom
+read-length none = refl
+read-length (some t) = padded-length (t .0)
+
+either-length : (b : Bool) (x y : List ℕ) → length x ≡ idRoom → length y ≡ idRoom → length (pick b x y) ≡ idRoom
+either-length true x y h k = h
+either-length false x y h k = k
+
+parent-length : (b : List ℕ) (k : ℕ) → length (parentIdAt b k) ≡ idRoom
+unfolding parentIdAt parentAt
+parent-length b k = either-length (ltb k most) _ _ (read-length (idLine idBytes parentWord (drop (parentPlace k) b))) refl
+
+-- what `parent_of` gives
+pub gives-length : {c : Cache} {g s : List ℕ} {k : ℕ} {r : ObjectId} (m : Commit) → GivesParent c g s m k r → length (r .bytes) ≡ idRoom
+gives-length (Row p n q) v = ap length (v .is) ∙ padded-length _
+gives-length {s = s} {k} (Body a e n q) v = ap length (v .is) ∙ parent-length (partOf s (BodyAt a e)) k
+gives-length (Failed r) v = ap length (v .is)
