@@ -10,12 +10,9 @@ use native.Mathlib.Nat.{eq-or-lt-of-le}
 use lib.ListN.{length}
 use lib.Dec.{eqb, leb}
 use borrow.Author.Tests.{eqb-true, eq-eqb, leb-true, le-leb}
-use Rattle.hash.specs.Bytes.{Id, eqId, ltId, compareId, at}
-use Rattle.hash.specs.declared.Order.{Order}
-use Rattle.hash.specs.declared.Order.the-variants.{Less, Equal, Greater}
 use Rattle.hash.proofs.Widths.{apart}
-use Rattle.hash.proofs.Tests.{byCases, and-both, guard-test, guarded, guard-of, not-yes}
-use Rattle.idlist.specs.IdList.{idOf, rising, risesAt, Stands}
+use Rattle.hash.proofs.Tests.{and-both, guard-test, guarded, guard-of, not-yes}
+use Rattle.idlist.specs.IdList.{rising, Stands}
 use Rattle.odb.specs.Store.{entrySize, start, entries, entryIds, bodyEnd, bodyStart, endsRise, standing, standingEntries, storeOk}
 
 -- ---- the entries stand in the file
@@ -88,24 +85,6 @@ pub good-count : (w : ℕ) (b : List ℕ) → storeOk w b ≡ true → standingE
 good-count w b e = standing-count w b (good w b e .stands)
 
 -- ---- an entry and the one before it
-
-abbrev pub isLess : Order → Bool
-isLess Less = true
-isLess Equal = false
-isLess Greater = false
-
-less-test : (a b : Id) → ltId a b ≡ isLess (compareId a b)
-unfolding compareId
-less-test a b = byCases (ltId a b) (λ h. rw h) (λ h. byCases (eqId a b) (λ e. rw (h, e)) (λ e. rw (h, e)))
-
--- the id of entry k is above the one before it where the comparison of the two says so
-pub rises-test : (w : ℕ) (b : List ℕ) (base k : ℕ) {o : Order} → base ≡ start b → (k ≡ 0 → ⊥) → o ≡ compareId (at b (base + entrySize w * (k - 1)) w) (at b (base + entrySize w * k) w)
-    → isLess o ≡ risesAt (entryIds w b) k
-unfolding risesAt idOf entryIds
-rises-test w b base zero s n e = absurd (n refl)
-rises-test w b base (suc k) s n e =
-    let m : suc k - 1 ≡ k = omega arith in
-    rw (e, m, s) (sym (less-test (at b (start b + entrySize w * k) w) (at b (start b + entrySize w * suc k) w)))
 
 pub start-next : (w : ℕ) (b : List ℕ) (k : ℕ) → (k ≡ 0 → ⊥) → bodyStart w b k ≡ bodyEnd w b (k - 1)
 unfolding bodyStart

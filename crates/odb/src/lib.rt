@@ -1,16 +1,14 @@
 // The commit store (gix_object::Find; document 01's book): bodies end to end, then one entry for each, then a trailer.
 // Every public function is total and safe on any bytes. The functions below them take the width of an id and hold for any.
 use hash::Kind;
-use hash::Order;
 use idlist::Found;
 ghost use mathlib.Core.Path.{_≡_};
 ghost use mathlib.Core.Bool.{_&&_};
 ghost use Prim.Native.Nat.{_+_, _*_, _-_, _<_, _≤_};
-ghost use lib.Dec.{leb};
+ghost use lib.Dec.{eqb};
 ghost use lib.ListN.{length};
 ghost use Rattle.hash.specs.Bytes.{u32At, widthOf};
-ghost use Rattle.idlist.specs.IdList.{risesAt};
-ghost use Rattle.odb.specs.Store.{entrySize, start, entries, entryIds, bodyEnd, bodyStart, standing, standingEntries, storeOk};
+ghost use Rattle.odb.specs.Store.{entrySize, start, entries, bodyEnd, bodyStart, endsRise, standing, standingEntries, storeOk};
 ghost use Rattle.odb.specs.Lookup.{partAt, partOf, isBody, Locates, TriesFind};
 
 // Where a body lies in the store: its first byte, and the byte after its last.
@@ -96,34 +94,22 @@ fn body_start(w: usize, store: &[u8], base: usize, k: usize) -> usize
     body_end(w, store, base, k - 1)
 }
 
-// Whether the id of entry k is above the id before it.
-fn id_rises(w: usize, store: &[u8], base: usize, k: usize) -> bool
-    requires { ⌜ (base ≡ start (now store)) × (base + entrySize w * k ≤ length (now store)) ⌝ }
-    ensures { λ r. ⌜ r ≡ risesAt (entryIds w (now (store .entry))) k ⌝ }
+// Whether the ends of the n entries never fall, and the last of them, 0 where there is none, is the start of the entries.
+fn ends_rise(w: usize, store: &[u8], base: usize, n: usize) -> bool
+    requires { ⌜ (base ≡ start (now store)) × (base + entrySize w * n ≤ length (now store)) ⌝ }
+    ensures { λ r. ⌜ r ≡ (endsRise w (now (store .entry)) n && eqb (bodyStart w (now (store .entry)) n) base) ⌝ }
 {
-    if k == 0 {
-        return true;
+    let mut last = 0;
+    let mut k = 0;
+    while k < n {
+        let end = body_end(w, store, base, k);
+        if end < last {
+            return false;
+        }
+        last = end;
+        k += 1;
     }
-    let size = w + END_BYTES;
-    let prior = hash::part(store, base + size * (k - 1), w);
-    let here = hash::part(store, base + size * k, w);
-    match hash::compare(prior, here) {
-        Order::Less => true,
-        Order::Equal => false,
-        Order::Greater => false,
-    }
-}
-
-// Whether the id of entry k rises and its end does not fall.
-fn entry_good(w: usize, store: &[u8], base: usize, k: usize) -> bool
-    requires { ⌜ (base ≡ start (now store)) × (base + entrySize w * k + entrySize w ≤ length (now store)) ⌝ }
-    ensures { λ r. ⌜ r ≡ (risesAt (entryIds w (now (store .entry))) k && leb (bodyStart w (now (store .entry)) k) (bodyEnd w (now (store .entry)) k)) ⌝ }
-{
-    if id_rises(w, store, base, k) {
-        body_start(w, store, base, k) <= body_end(w, store, base, k)
-    } else {
-        false
-    }
+    last == base
 }
 
 // Whether the layout is whole: the entries stand in the store, their ids rise, their ends never fall, and the last end is
@@ -137,14 +123,10 @@ pub fn is_good(kind: Kind, store: &[u8]) -> bool
     }
     let base = entries_start(store);
     let n = entries_said(store);
-    let mut k = 0;
-    while k < n {
-        if !entry_good(w, store, base, k) {
-            return false;
-        }
-        k += 1;
+    if !idlist::is_rising(kind, store, base, w + END_BYTES, n) {
+        return false;
     }
-    body_start(w, store, base, n) == base
+    ends_rise(w, store, base, n)
 }
 
 // The bytes from start to end, where they are a part of the store.
