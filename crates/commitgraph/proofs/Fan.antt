@@ -4,22 +4,21 @@
 -- fall, so the ids whose first byte is at most i come first, and where entry i is their number id k stands between its two entries.
 -- Assumes nothing.
 use mathlib.Core.Path.{_≡_, refl, sym, ap, _∙_}
-use mathlib.Core.Bool.{Bool, true, false, cond, _&&_}
+use mathlib.Core.Bool.{Bool, true, false, _&&_}
 use mathlib.Core.List.{List, [], _∷_}
 use Prim.Native.Nat.{ℕ, zero, suc, _+_, _-_, _*_, _≤_, _<_}
 use native.Mathlib.Omega.{arith}
 use native.Mathlib.Nat.{add-zero}
 use native.Mathlib.Numerals.{add-one}
-use lib.ListN.{getD, drop}
+use lib.ListN.{length, getD, drop}
 use lib.Seq.{getD-take, getD-drop}
 use lib.Dec.{eqb, ltb, leb}
-use borrow.Author.Tests.{ltb-true, leb-true, leb-false, eqb-true, eqb-false, lt-ltb, le-leb, lt-leb, eq-eqb, ne-eqb}
-use Rattle.hash.specs.Bytes.{Id, eqId, ltId, compareId, at}
-use Rattle.hash.specs.declared.Order.{Order}
-use Rattle.hash.specs.declared.Order.the-variants.{Less, Equal, Greater}
-use Rattle.idlist.specs.IdList.{idOf, risesAt, rising}
-use Rattle.idlist.proofs.Rising.{rising-less, rising-first, rises}
-use Rattle.commitgraph.specs.Graph.{chunkStart, OIDL, fanAt, graphCount, graphIds, firstByte, atMost, fanOk}
+use borrow.Author.Tests.{ltb-true, leb-true, leb-false, eqb-true, eqb-false, le-leb, lt-leb, eq-eqb}
+use Rattle.hash.specs.Bytes.{Id, ltId, at}
+use Rattle.idlist.specs.IdList.{IdList, idOf, rising, Stands, standsIn}
+use Rattle.idlist.proofs.Pass.{stand-rising}
+use Rattle.idlist.proofs.Rising.{rises}
+use Rattle.commitgraph.specs.Graph.{chunkStart, OIDL, fanAt, graphCount, graphIds, firstByte, atMost, fanOk, Parts}
 use Rattle.hash.proofs.Tests.{clash, byCases, not-yes, and-first, and-second, and-of, guard-test, guarded}
 
 -- ---- counting ids by their first byte
@@ -210,67 +209,80 @@ between w g k f r l s = record { small = s; past = past; before = before }
         let t : atMost w g b (suc k) ≤ atMost w g b (graphCount g) = rw z at (count-more w g b (suc k) (graphCount g - suc k)) in
         omega arith
 
--- ---- the tests of one id
+-- ---- the test of one entry
 
--- that an id stands between its two entries, as a test
-abbrev pub inFan : ℕ → List ℕ → ℕ → Bool
-inFan w g k = leb (cond (eqb (firstByte w g k) 0) 0 (fanAt g (firstByte w g k - 1))) k && ltb k (fanAt g (firstByte w g k))
-
--- what a test that passes tells
-pub between-of : (w : ℕ) (g : List ℕ) (k : ℕ) {r : Bool} → firstByte w g k < 256 → r ≡ inFan w g k → r ≡ true → Between w g k
-between-of w g k s q t =
-    let e : inFan w g k ≡ true = sym q ∙ t in
-    let low = cond (eqb (firstByte w g k) 0) 0 (fanAt g (firstByte w g k - 1)) in
-    let p : low ≤ k = leb-true low k (and-first (leb low k) (ltb k (fanAt g (firstByte w g k))) e) in
-    record {
-      small = s;
-      past = λ i q.
-          let z : firstByte w g k - 1 ≡ i = omega arith in
-          let n : eqb (firstByte w g k) 0 ≡ false = ne-eqb (firstByte w g k) 0 (λ y. omega arith) in
-          rw (n, z) at p;
-      before = ltb-true k (fanAt g (firstByte w g k)) (and-second (leb low k) (ltb k (fanAt g (firstByte w g k))) e);
-    }
-
--- where it holds the test passes
-pub in-fan-of : (w : ℕ) (g : List ℕ) (k : ℕ) → Between w g k → inFan w g k ≡ true
-in-fan-of w g k b = and-of low (lt-ltb k (fanAt g (firstByte w g k)) (b .before))
-  where
-    low : leb (cond (eqb (firstByte w g k) 0) 0 (fanAt g (firstByte w g k - 1))) k ≡ true
-    low =
-        byCases (eqb (firstByte w g k) 0) (λ e. rw e (le-leb 0 k (omega arith)))
-        (λ e. rw e (le-leb (fanAt g (firstByte w g k - 1)) k (b .past (firstByte w g k - 1) (nonzero (eqb-false (firstByte w g k) 0 e)))))
-      where
-        nonzero : (firstByte w g k ≡ 0 → ⊥) → suc (firstByte w g k - 1) ≡ firstByte w g k
-        nonzero n = omega arith
-
--- an id that does not stand between its entries, or not above the one before it, spoils the whole
-pub not-in-fan : (w : ℕ) (g : List ℕ) (k : ℕ) {r : Bool} → k < graphCount g → firstByte w g k < 256 → r ≡ inFan w g k → r ≡ false
+-- an entry that does not part the ids spoils the whole
+pub not-low : (w : ℕ) (g : List ℕ) (b k : ℕ) → b < 256 → suc k ≡ fanAt g b → k < graphCount g → firstByte w g k < 256 → b < firstByte w g k
     → (fanOk w g 256 && rising (graphIds w g) (graphCount g)) ≡ false
-not-in-fan w g k l s q t = not-yes (λ h. clash (q ∙ in-fan-of w g k (between w g k (and-first _ (rising (graphIds w g) (graphCount g)) h) (and-second (fanOk w g 256) _ h) l s)) t)
+not-low w g b k h e l s t =
+    not-yes
+    (λ y.
+    let f = and-first (fanOk w g 256) (rising (graphIds w g) (graphCount g)) y in
+    let n = between w g k f (and-second (fanOk w g 256) (rising (graphIds w g) (graphCount g)) y) l s in
+    let p : fanAt g (firstByte w g k - 1) ≤ k = n .past (firstByte w g k - 1) (omega arith) in
+    omega (arith, entries-le g (fan-rises w g f) b (firstByte w g k - 1) (omega arith) (omega arith)))
 
-pub not-above : (w : ℕ) (g : List ℕ) (k : ℕ) {r : Bool} → k < graphCount g → r ≡ risesAt (graphIds w g) k → r ≡ false
+pub not-high : (w : ℕ) (g : List ℕ) (b : ℕ) → b < 256 → fanAt g b < graphCount g → firstByte w g (fanAt g b) < 256 → firstByte w g (fanAt g b) ≤ b
     → (fanOk w g 256 && rising (graphIds w g) (graphCount g)) ≡ false
-not-above w g k l q t = not-yes (λ h. clash (q ∙ rising-less (graphIds w g) k (rising-first (graphIds w g) (suc k) (graphCount g) l (and-second (fanOk w g 256) _ h)) .1) t)
+not-high w g b h l s t =
+    not-yes
+    (λ y.
+    let f = and-first (fanOk w g 256) (rising (graphIds w g) (graphCount g)) y in
+    let n = between w g (fanAt g b) f (and-second (fanOk w g 256) (rising (graphIds w g) (graphCount g)) y) l s in
+    omega (arith, n .before, entries-le g (fan-rises w g f) (firstByte w g (fanAt g b)) b t h))
 
--- one id more
-pub between-more : (w : ℕ) (g : List ℕ) (k : ℕ) → ((j : ℕ) → j < k → Between w g j) → Between w g k → (j : ℕ) → j < k + 1 → Between w g j
-between-more w g k v b j l = byCases (eqb j k) (λ e. rw (eqb-true j k e) b) (λ e. v j (omega (arith, eqb-false j k e)))
+-- one entry more
+pub parts-more : (w : ℕ) (g : List ℕ) (i : ℕ) → ((b : ℕ) → b < i → Parts w g b) → Parts w g i → (b : ℕ) → b < i + 1 → Parts w g b
+parts-more w g i v p b l = byCases (eqb b i) (λ e. rw (eqb-true b i e) p) (λ e. v b (omega (arith, eqb-false b i e)))
 
--- how the id at a place stands to the one before it, and whether id k rises
-abbrev pub isLess : Order → Bool
-isLess Less = true
-isLess Equal = false
-isLess Greater = false
+-- where every entry parts rising ids, each id stands between its two entries
+module _ (w : ℕ) (g : List ℕ) (last : fanAt g 255 ≡ graphCount g) (r : Rises g) (up : rising (graphIds w g) (graphCount g) ≡ true)
+    (p : (b : ℕ) → b < 256 → Parts w g b) (k : ℕ) (l : k < graphCount g) (s : firstByte w g k < 256) where
+  after-low : (i : ℕ) → suc i ≡ firstByte w g k → fanAt g i ≤ k
+  after-low i e =
+      byCases (leb (fanAt g i) k) (λ h. leb-true (fanAt g i) k h)
+      (λ h.
+      let m : k < fanAt g i = leb-false (fanAt g i) k h in
+      let t : fanAt g i ≤ graphCount g = omega (arith, entries-le g r i 255 (omega arith) (omega arith)) in
+      let z : suc (fanAt g i - 1) ≡ fanAt g i = omega arith in
+      let a : firstByte w g k ≤ firstByte w g (fanAt g i - 1) = bytes-le w g (graphCount g) k (fanAt g i - 1) up (omega arith) (omega arith) in
+      absurd (omega (arith, p i (omega arith) .low (fanAt g i - 1) z)))
 
-less-lt : (a b : Id) → isLess (compareId a b) ≡ ltId a b
-unfolding compareId
-less-lt a b =
-    byCases (ltId a b) (λ e. rw e) (λ e. rw e (byCases (eqId a b) (λ f. rw f) (λ f. rw f)))
+  below-high : k < fanAt g (firstByte w g k)
+  below-high =
+      byCases (leb (fanAt g (firstByte w g k)) k)
+      (λ h.
+      let m : fanAt g (firstByte w g k) ≤ k = leb-true (fanAt g (firstByte w g k)) k h in
+      let a : firstByte w g (fanAt g (firstByte w g k)) ≤ firstByte w g k = bytes-le w g (graphCount g) (fanAt g (firstByte w g k)) k up m l in
+      absurd (omega (arith, p (firstByte w g k) s .high (omega arith))))
+      (λ h. leb-false (fanAt g (firstByte w g k)) k h)
 
-pub order-rises : (w : ℕ) (g : List ℕ) (k ids : ℕ) (o : Order) → ids ≡ chunkStart g OIDL → (k ≡ 0 → ⊥)
-    → o ≡ compareId (at g (ids + w * (k - 1)) w) (at g (ids + w * k) w) → isLess o ≡ risesAt (graphIds w g) k
-unfolding risesAt idOf graphIds
-order-rises w g zero ids o e n h = absurd (n refl)
-order-rises w g (suc j) ids o e n h =
-    let z : suc j - 1 ≡ j = omega arith in
-    ap isLess h ∙ less-lt _ _ ∙ rw (z, e)
+  pub parted : Between w g k
+  parted = record { small = s; past = after-low; before = below-high }
+
+-- ---- the ids and the fan-out together
+
+-- what the test of the ids tells
+pub ids-told : (w : ℕ) (g : List ℕ) (ids count : ℕ) {r : Bool} → 0 < w → ids ≡ chunkStart g OIDL → count ≡ graphCount g → ids + w * count ≤ length g
+    → (let l : IdList = record { bytes = g; width = w; base = ids; stride = w } in r ≡ (standsIn l count && rising l count)) → r ≡ rising (graphIds w g) (graphCount g)
+unfolding graphIds
+ids-told w g ids count p e f h t =
+    let k : Stands (graphIds w g) (graphCount g) = record { moves = p; apart = omega arith; inside = rw (e, f) at h } in
+    rw (e, f) at t ∙ stand-rising (graphIds w g) (graphCount g) k
+
+-- ids that do not rise spoil the whole
+pub not-rising : (w : ℕ) (g : List ℕ) → rising (graphIds w g) (graphCount g) ≡ false → (fanOk w g 256 && rising (graphIds w g) (graphCount g)) ≡ false
+not-rising w g e = not-yes (λ y. clash (and-second (fanOk w g 256) (rising (graphIds w g) (graphCount g)) y) e)
+
+first-small : (w : ℕ) (g : List ℕ) → ((i : ℕ) → getD g i 0 < 256) → (k : ℕ) → firstByte w g k < 256
+unfolding firstByte
+first-small w g s k = s (chunkStart g OIDL + w * k)
+
+-- of rising ids the entries decide
+pub entries-decide : (w : ℕ) (g : List ℕ) (r : Bool) → fanAt g 255 ≡ graphCount g → Rises g → ((i : ℕ) → getD g i 0 < 256) → rising (graphIds w g) (graphCount g) ≡ true
+    → (r ≡ true → (b : ℕ) → b < 256 → Parts w g b) × (r ≡ false → (fanOk w g 256 && rising (graphIds w g) (graphCount g)) ≡ false)
+    → r ≡ (fanOk w g 256 && rising (graphIds w g) (graphCount g))
+entries-decide w g r last u s up t =
+    byCases r
+    (λ e. e ∙ sym (and-of (fan-right w g last u (λ k l. parted w g last u up (t .0 e) k l (first-small w g s k)) 256 (omega arith)) up))
+    (λ e. e ∙ sym (t .1 e))

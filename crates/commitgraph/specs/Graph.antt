@@ -119,6 +119,11 @@ unfoldable pub fanOk : ℕ → List ℕ → ℕ → Bool
 fanOk w g zero = true
 fanOk w g (suc k) = let r = eqb (fanAt g k) (atMost w g k (graphCount g)) in cond (fanOk w g k) r false
 
+-- entry b parts the ids: the one before it begins with b at most, the one at it with more
+pub record Parts (w : ℕ) (g : List ℕ) (b : ℕ) : Type 0 where
+  pub low : (k : ℕ) → suc k ≡ fanAt g b → firstByte w g k ≤ b
+  pub high : fanAt g b < graphCount g → b < firstByte w g (fanAt g b)
+
 -- a row: the tree's id and four u32
 abbrev pub rowSize : ℕ → ℕ
 rowSize w = w + 16

@@ -2,7 +2,6 @@
 use crate::Layout;
 use crate::rows;
 use hash::Kind;
-use hash::Order;
 ghost use mathlib.Core.Path.{_≡_};
 ghost use mathlib.Core.Bool.{true, false, _&&_, cond};
 ghost use mathlib.Core.Option.{none, some};
@@ -10,8 +9,8 @@ ghost use Prim.Native.Nat.{ℕ, suc, _+_, _-_, _*_, _%_, _<_, _≤_};
 ghost use lib.ListN.{length};
 ghost use lib.Dec.{eqb, ltb, leb};
 ghost use Rattle.hash.specs.Bytes.{u32At, widthOf};
-ghost use Rattle.idlist.specs.IdList.{rising, risesAt};
-ghost use Rattle.commitgraph.specs.Graph.{hashVersion, graphHead, chunkCount, chunkId, chunkOffset, offsetsRise, chunksOf, chunkIn, chunkStart, chunkSize, OIDF, OIDL, CDAT, EDGE, tableOk, rowSize, fanAt, graphCount, graphIds, firstByte, fanOk, graphOk, layoutOf};
+ghost use Rattle.idlist.specs.IdList.{rising};
+ghost use Rattle.commitgraph.specs.Graph.{hashVersion, graphHead, chunkCount, chunkId, chunkOffset, offsetsRise, chunksOf, chunkIn, chunkStart, chunkSize, OIDF, OIDL, CDAT, EDGE, tableOk, rowSize, fanAt, graphCount, graphIds, firstByte, fanOk, Parts, graphOk, layoutOf};
 
 // The ids of the chunks that are read.
 const FAN_OUT: u32 = 0x4f494446;
@@ -292,17 +291,6 @@ fn fan_entry(graph: &[u8], fan: usize, i: usize) -> usize
     wide(hash::be32(graph, fan + 4 * i))
 }
 
-// Entry b - 1 of the fan-out, 0 where b is 0: the number of ids whose first byte is below b.
-fn entry_before(graph: &[u8], fan: usize, b: usize) -> usize
-    requires { ⌜ (fan ≡ chunkStart (now graph) OIDF) × (fan + 1024 ≤ length (now graph)) × (b < 256) ⌝ }
-    ensures { λ r. ⌜ r ≡ cond (eqb b 0) 0 (fanAt (now (graph .entry)) (b - 1)) ⌝ }
-{
-    if b == 0 {
-        return 0;
-    }
-    fan_entry(graph, fan, b - 1)
-}
-
 // Whether the 256 entries of the fan-out never fall. Where one does, it cannot count the ids.
 fn fan_rises(w: usize, graph: &[u8], fan: usize) -> bool
     requires { ⌜ (fan ≡ chunkStart (now graph) OIDF) × (fan + 1024 ≤ length (now graph)) ⌝ }
@@ -318,51 +306,57 @@ fn fan_rises(w: usize, graph: &[u8], fan: usize) -> bool
     true
 }
 
-// Whether id k stands where the fan-out puts ids with its first byte.
-fn id_in_fan(w: usize, graph: &[u8], fan: usize, ids: usize, k: usize) -> bool
-    requires { ⌜ (let g = now graph in (fan ≡ chunkStart g OIDF) × (fan + 1024 ≤ length g) × (ids ≡ chunkStart g OIDL) × (ids + w * k < length g)) ⌝ }
-    ensures { λ r. ⌜ (let g = now (graph .entry) in let b = firstByte w g k in (b < 256) × (r ≡ (leb (cond (eqb b 0) 0 (fanAt g (b - 1))) k && ltb k (fanAt g b)))) ⌝ }
+// The first byte of id k.
+fn first_byte(w: usize, graph: &[u8], ids: usize, k: usize) -> usize
+    requires { ⌜ (let g = now graph in (ids ≡ chunkStart g OIDL) × (ids + w * k < length g)) ⌝ }
+    ensures { λ r. ⌜ (r ≡ firstByte w (now (graph .entry)) k) × (r < 256) ⌝ }
 {
-    let b = wide_byte(hash::byte_at(graph, ids + w * k));
-    if k < entry_before(graph, fan, b) {
-        return false;
-    }
-    k < fan_entry(graph, fan, b)
+    wide_byte(hash::byte_at(graph, ids + w * k))
 }
 
-// Whether id k is above the id before it.
-fn id_rises(w: usize, graph: &[u8], ids: usize, k: usize) -> bool
-    requires { ⌜ (ids ≡ chunkStart (now graph) OIDL) × (ids + w * k < length (now graph)) ⌝ }
-    ensures { λ r. ⌜ r ≡ risesAt (graphIds w (now (graph .entry))) k ⌝ }
+// Whether entry b of the fan-out parts the ids: those before it begin with b at most, and those from it on with more. The ids rise, so one on
+// each side tells. Where it does not, the fan-out cannot count them.
+fn parts_at(w: usize, graph: &[u8], fan: usize, ids: usize, count: usize, b: usize) -> bool
+    requires { ⌜ (let g = now graph in (fan ≡ chunkStart g OIDF) × (fan + 1024 ≤ length g) × (ids ≡ chunkStart g OIDL) × (count ≡ graphCount g) × (ids + w * count ≤ length g) × (0 < w) × (b < 256) × (fanAt g b ≤ count)) ⌝ }
+    ensures { λ r. ⌜ (let g = now (graph .entry) in (r ≡ true → Parts w g b) × (r ≡ false → (fanOk w g 256 && rising (graphIds w g) (graphCount g)) ≡ false)) ⌝ }
 {
-    if k == 0 {
-        return true;
-    }
-    let prior = hash::part(graph, ids + w * (k - 1), w);
-    let here = hash::part(graph, ids + w * k, w);
-    match hash::compare(prior, here) {
-        Order::Less => true,
-        Order::Equal => false,
-        Order::Greater => false,
-    }
-}
-
-// Whether the fan-out counts the ids and the ids rise, in one pass over the ids; the fan-out never falls.
-fn ids_fit(w: usize, graph: &[u8], fan: usize, ids: usize, count: usize) -> bool
-    requires { ⌜ (let g = now graph in (fan ≡ chunkStart g OIDF) × (fan + 1024 ≤ length g) × (ids ≡ chunkStart g OIDL) × (count ≡ graphCount g) × (ids + w * count ≤ length g) × ((i : ℕ) → i < 255 → fanAt g i ≤ fanAt g (suc i)) × (0 < w)) ⌝ }
-    ensures { λ r. ⌜ (let g = now (graph .entry) in r ≡ (fanOk w g 256 && rising (graphIds w g) (graphCount g))) ⌝ }
-{
-    let mut k = 0;
-    while k < count {
-        if !id_in_fan(w, graph, fan, ids, k) {
+    let m = fan_entry(graph, fan, b);
+    if m != 0 {
+        if b < first_byte(w, graph, ids, m - 1) {
             return false;
         }
-        if !id_rises(w, graph, ids, k) {
-            return false;
-        }
-        k += 1;
+    }
+    if m < count {
+        return b < first_byte(w, graph, ids, m);
     }
     true
+}
+
+// Whether each entry of the fan-out, which never falls, parts the ids.
+fn fan_parts(w: usize, graph: &[u8], fan: usize, ids: usize, count: usize) -> bool
+    requires { ⌜ (let g = now graph in (fan ≡ chunkStart g OIDF) × (fan + 1024 ≤ length g) × (ids ≡ chunkStart g OIDL) × (count ≡ graphCount g) × (ids + w * count ≤ length g) × (0 < w) × ((i : ℕ) → i < 255 → fanAt g i ≤ fanAt g (suc i))) ⌝ }
+    ensures { λ r. ⌜ (let g = now (graph .entry) in (r ≡ true → (b : ℕ) → b < 256 → Parts w g b) × (r ≡ false → (fanOk w g 256 && rising (graphIds w g) (graphCount g)) ≡ false)) ⌝ }
+{
+    let mut b = 0;
+    while b < 256 {
+        if !parts_at(w, graph, fan, ids, count, b) {
+            return false;
+        }
+        b += 1;
+    }
+    true
+}
+
+// Whether the fan-out, which never falls, counts the ids and the ids rise: one pass over the ids, one over the fan-out.
+fn ids_fit(kind: Kind, graph: &[u8], fan: usize, ids: usize, count: usize) -> bool
+    requires { ⌜ (let g = now graph in (fan ≡ chunkStart g OIDF) × (fan + 1024 ≤ length g) × (ids ≡ chunkStart g OIDL) × (count ≡ graphCount g) × (ids + widthOf kind * count ≤ length g) × ((i : ℕ) → i < 255 → fanAt g i ≤ fanAt g (suc i))) ⌝ }
+    ensures { λ r. ⌜ (let g = now (graph .entry) in r ≡ (fanOk (widthOf kind) g 256 && rising (graphIds (widthOf kind) g) (graphCount g))) ⌝ }
+{
+    let w = hash::width(kind);
+    if !idlist::is_rising(kind, graph, ids, w, count) {
+        return false;
+    }
+    fan_parts(w, graph, fan, ids, count)
 }
 
 // Whether the layout of a file is right, after its header.
@@ -380,5 +374,5 @@ pub fn is_good(kind: Kind, graph: &[u8]) -> bool
     if !fan_rises(w, graph, l.fan) {
         return false;
     }
-    ids_fit(w, graph, l.fan, l.ids, l.count)
+    ids_fit(kind, graph, l.fan, l.ids, l.count)
 }

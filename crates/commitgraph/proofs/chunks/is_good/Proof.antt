@@ -1,7 +1,6 @@
 -- `chunks::is_good` meets its contract: each test that fails makes the whole false; the sizes are tested before anything is read at them,
 -- so that all that is read stands in the file. Assumes nothing.
 use mathlib.Core.Path.{_≡_, sym, ap, _∙_}
-use native.Mathlib.Omega.{arith}
 use mathlib.Core.Bool.{true, false}
 use borrow.Author.Tests.{not-true, not-false}
 use Rattle.commitgraph.specs.Graph.{OIDF, OIDL, chunkStart, tableOk, graphCount, chunksOk, graphOk, layoutOf}
@@ -77,13 +76,14 @@ ids-fit-requires : tie.Need-ids-fit-requires
 ids-fit-requires c κs =
     let p = c .before .before in
     let e = fan-start p in
-    (e, rw e (inside p .fan), ids-start p, n-read p, rw (ids-start p, n-read p) (inside p .ids), c .before .fan-rises .ensures .0 (not-false (c .before .fan-rises .result) (c .if3 .left)), omega (arith, p .before .before .before .before .before .width .ensures .1))
+    (e, rw e (inside p .fan), ids-start p, n-read p, rw (ids-start p, n-read p, sym (p .before .before .before .before .before .width .ensures .0)) (inside p .ids), c .before .fan-rises .ensures .0 (not-false (c .before .fan-rises .result) (c .if3 .left)))
 
 returns-4 : tie.Need-returns-4
 unfolding graphOk chunksOk
 returns-4 c =
     let p = c .before .before .before in
-    rw (sym (p .before .before .before .before .before .width .ensures .0), table-good p, sizes-good p) (c .ids-fit .ensures)
+    let v = p .before .before .before .before .before .width .ensures .0 in
+    rw (sym v, table-good p, sizes-good p) (rw (sym v) at (c .ids-fit .ensures))
 
 pub is-good-spec : {M : Type 1} → statement M
 is-good-spec =
