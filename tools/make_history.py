@@ -142,7 +142,8 @@ def main():
         lines = "".join(h.listed()) if a.list else ""
     for name, content in files.items():
         if len(content) > ROOM:
-            sys.exit(f"{name} would have {len(content)} bytes; the program takes {ROOM}")
+            sys.exit(f"{name} would have {len(content)} bytes; the program takes {ROOM}.\nFor a history of this size build the tool linenhatch, which "
+                     "takes some 60,000 commits straight from a repository: bindings/rust/README.md")
     os.makedirs(a.dir, exist_ok=True)
     for name, content in files.items():
         with open(os.path.join(a.dir, name), "wb") as f:
