@@ -1,14 +1,14 @@
-"""drift.py [--seed N]: hiding where clocks drift. A history of 300 commits is made in git, 15 percent of the clocks set back by up to 4,000
-seconds. Each of its commits is hidden in turn, all that the tip reaches is listed, and each list is judged by plain reachability: right are the
-commits that the tip reaches and the hidden commit does not, each once. Listed by the tool `linenhatch` with no commit-graph file, with one of the
-older half (a stale one) and with one of all commits, and by `git rev-list` with no such file and with one of all commits.
+"""drift.py: hiding where clocks drift. Makes histories of 300 commits in git, 15 percent of the clocks set back by up to 4,000 seconds. Each commit
+is hidden in turn, all that the tip reaches is listed, and each list is judged by plain reachability: right are the commits that the tip reaches
+and the hidden commit does not, each once. Listed by the tool `linenhatch` with no commit-graph file, with one of the older half (a stale one)
+and with one of all commits, and by `git rev-list` with no such file and with one of all commits.
 
     rt staticlib linenhatch && (cd bindings/rust && cargo build --release --offline)
     python3 compare/drift.py
 
-The same seed gives the same history. Ends with status 1 if a list of ours with the file of all commits is wrong: there the theorem's premises
-hold. Without such a file they do not, and git is no judge either: the counts say how often each is wrong. Other options: --commits N,
---tool FILE. Needs python3 and git; less than a minute.
+Options: --seeds N (5 histories, of the seeds 1 to N), --commits N (300), --tool FILE. A seed always gives the same history. Ends with status 1 if
+a list of ours with the file of all commits is wrong: there the premises of the theorem hold. With no such file they do not, and git is no judge
+either: the counts say how often each is wrong. Needs python3 and git; a minute or two.
 """
 import argparse
 import os
@@ -20,37 +20,31 @@ import tempfile
 
 HERE = os.path.dirname(os.path.abspath(__file__))
 TOOL = os.path.join(HERE, "..", "bindings", "rust", "target", "release", "linenhatch")
-PART, MOST_BACK, APART = 0.15, 4_000, 60              # of the clocks; seconds; seconds from one commit to the next
+BENCHES, APART = 4, 60                                 # lines of runs; seconds from one commit to the next
+PART, MOST_BACK = 0.15, 4_000                          # of the clocks; seconds
 ENV = {k: v for k, v in os.environ.items() if not k.startswith("GIT_")} | {"GIT_CONFIG_GLOBAL": "/dev/null", "GIT_CONFIG_NOSYSTEM": "1"}
+FAULTS = ("wrong", "with commits too many", "with commits missing or twice", "commits too many")
 
 
-# ---- the history: for each commit its seconds and its parents' numbers, parents first, the tip last
+# ---- a history: for each commit its seconds and its parents' numbers, parents first, the tip last
 
-def shape(rng, count):
-    """A main line with up to four branches that are open for a while and are merged back."""
-    parents, main, open_branches = [[]], 0, []
+def benches(rng, count):
+    """Four benches, each of which goes on from its own last run; two runs in five also take in the last run of a bench. The tip joins all four."""
+    parents, last = [[]], [0] * BENCHES
     while len(parents) < count - 1:
-        draw, new = rng.random(), len(parents)
-        if draw < 0.12 and len(open_branches) < 4:
-            parents.append([main])
-            open_branches.append(new)
-        elif draw < 0.24 and open_branches:
-            parents.append([main, open_branches.pop(rng.randrange(len(open_branches)))])
-            main = new
-        elif draw < 0.75 and open_branches:
-            at = rng.randrange(len(open_branches))
-            parents.append([open_branches[at]])
-            open_branches[at] = new
-        else:
-            parents.append([main])
-            main = new
-    parents.append([main, *open_branches])
+        at = rng.randrange(BENCHES)
+        links = [last[at]]
+        if rng.random() < 0.4 and (other := last[rng.randrange(BENCHES)]) not in links:
+            links.append(other)
+        last[at] = len(parents)
+        parents.append(links)
+    parents.append(sorted(set(last)))
     return parents
 
 
 def drifting(seed, count):
     rng = random.Random(f"drift {seed}")
-    parents = shape(rng, count)
+    parents = benches(rng, count)
     seconds = [1_700_000_000 + APART * n for n in range(count)]
     for n in rng.sample(range(count), round(PART * count)):
         seconds[n] -= rng.randint(1, MOST_BACK)
@@ -107,51 +101,53 @@ def rev_list(repository, graph):
 
 
 def judge(command, ids, reached):
-    """How many lists are wrong, how many of them have commits too many, how many lack some or repeat one; and the commits too many in all."""
-    wrong = over = under = commits = 0
+    """The counts of FAULTS over the lists."""
+    counts = [0] * len(FAULTS)
     for n, hidden in enumerate(ids):
         out = subprocess.run(command(ids[-1], hidden), stdout=subprocess.PIPE, check=True, env=ENV).stdout.decode().split()
         listed, right = set(out), {ids[m] for m in reached[-1] - reached[n]}
-        more, less = listed - right, len(right - listed) + len(out) - len(listed)
-        wrong += bool(more or less)
-        over += bool(more)
-        under += bool(less)
-        commits += len(more)
-    return wrong, over, under, commits
+        more, less = len(listed - right), len(right - listed) + len(out) - len(listed)
+        for i, x in enumerate((bool(more or less), bool(more), bool(less), more)):
+            counts[i] += x
+    return counts
 
 
-def main():
-    p = argparse.ArgumentParser(usage=__doc__)
-    p.add_argument("--seed", type=int, default=1)
-    p.add_argument("--commits", type=int, default=300)
-    p.add_argument("--tool", default=TOOL)
-    a = p.parse_args()
-    if not os.path.isfile(a.tool):
-        sys.exit(f"there is no {os.path.normpath(a.tool)}: rt staticlib linenhatch && (cd bindings/rust && cargo build --release --offline)")
-    tool = os.path.abspath(a.tool)
-    parents, seconds = drifting(a.seed, a.commits)
+def run(seed, count, tool):
+    """The counts of each lister with each file, over one history."""
+    parents, seconds = drifting(seed, count)
     reached = reach(parents)
     links = [(n, m) for n, p in enumerate(parents) for m in p]
-    print(f"seed {a.seed}: {len(parents)} commits, {len(links)} links; {round(PART * len(parents))} clocks are set back by 1 to {MOST_BACK:,} s, "
-          f"so over {sum(seconds[n] <= seconds[m] for n, m in links)} links the parent is not older")
-    print(f"each of the {len(parents)} commits hidden in turn, each list judged by plain reachability:\n")
-    print("| lister | commit-graph file | wrong lists | with commits too many | with commits missing or twice | commits too many, in all |")
-    print("|---|---|---|---|---|---|")
+    print(f"seed {seed}: {len(links)} links, over {sum(seconds[n] <= seconds[m] for n, m in links)} of them the parent is not older", flush=True)
     with tempfile.TemporaryDirectory() as room:
         plain = os.path.join(room, "plain")
         ids = make(plain, parents, seconds)
         whole = with_graph(plain, os.path.join(room, "whole"), ids)
         stale = with_graph(plain, os.path.join(room, "stale"), ids[:len(ids) // 2])
-        rows = [("linenhatch", "none", ours(tool, plain, False)),
-                ("linenhatch", "of the older half", ours(tool, stale, True)),
-                ("linenhatch", "of all commits", ours(tool, whole, True)),
-                ("git rev-list", "none", rev_list(plain, False)),
-                ("git rev-list", "of all commits", rev_list(whole, True))]
-        counts = {}
-        for name, file, command in rows:
-            counts[name, file] = judge(command, ids, reached)
-            print(f"| {name} | {file} | {' | '.join(f'{x:,}' for x in counts[name, file])} |", flush=True)
-    if counts["linenhatch", "of all commits"][0]:
+        commands = {("linenhatch", "none"): ours(tool, plain, False),
+                    ("linenhatch", "of the older half"): ours(tool, stale, True),
+                    ("linenhatch", "of all commits"): ours(tool, whole, True),
+                    ("git rev-list", "none"): rev_list(plain, False),
+                    ("git rev-list", "of all commits"): rev_list(whole, True)}
+        return {name: judge(command, ids, reached) for name, command in commands.items()}
+
+
+def main():
+    p = argparse.ArgumentParser(usage=__doc__)
+    p.add_argument("--seeds", type=int, default=5)
+    p.add_argument("--commits", type=int, default=300)
+    p.add_argument("--tool", default=TOOL)
+    a = p.parse_args()
+    if not os.path.isfile(a.tool):
+        sys.exit(f"there is no {os.path.normpath(a.tool)}: rt staticlib linenhatch && (cd bindings/rust && cargo build --release --offline)")
+    print(f"{a.seeds} histories of {a.commits} commits, {round(PART * a.commits)} clocks of each set back by 1 to {MOST_BACK:,} s; each commit "
+          "hidden in turn, each list judged by plain reachability")
+    runs = [run(seed, a.commits, os.path.abspath(a.tool)) for seed in range(1, a.seeds + 1)]
+    print(f"\n| lister | commit-graph file | wrong of {a.commits}, by seed | {FAULTS[0]} of {a.seeds * a.commits:,} | {' | '.join(FAULTS[1:])} |")
+    print("|---" * (3 + len(FAULTS)) + "|")
+    for name in runs[0]:
+        sums = [f"{sum(column):,}" for column in zip(*(r[name] for r in runs))]
+        print(f"| {' | '.join(name)} | {', '.join(str(r[name][0]) for r in runs)} | {' | '.join(sums)} |")
+    if any(r["linenhatch", "of all commits"][0] for r in runs):
         print("\nFAILED: with a commit-graph file of all commits a list of ours is wrong")
         return 1
     print("\nwith a commit-graph file of all commits no list of ours is wrong")

@@ -72,7 +72,7 @@ impl Memory {
             lent: ffi::Memory {
                 names: vec![0; 20 * places],
                 marks: vec![0; places],
-                levels: vec![0; places],
+                generations: vec![0; places],
                 times: vec![0; places],
                 line: vec![0; 5 * places],
                 parents: vec![0; 5_120],

@@ -59,7 +59,7 @@ int main(void)
     size_t places = linenhatch_places(store, sizeof store, none, 0, tip, sizeof tip, none, 0);
     uint8_t *names = lend(LINENHATCH_NAMES(places), sizeof *names);
     uint8_t *marks = lend(LINENHATCH_MARKS(places), sizeof *marks);
-    uint32_t *levels = lend(LINENHATCH_LEVELS(places), sizeof *levels);
+    uint32_t *generations = lend(LINENHATCH_GENERATIONS(places), sizeof *generations);
     int64_t *times = lend(LINENHATCH_TIMES(places), sizeof *times);
     uint32_t *line = lend(LINENHATCH_LINE(places), sizeof *line);
     uint8_t *parents = lend(LINENHATCH_PARENTS, sizeof *parents);
@@ -73,7 +73,7 @@ int main(void)
         LINENHATCH_BREADTH, 0, 0, 0,
         names, LINENHATCH_NAMES(places),
         marks, LINENHATCH_MARKS(places),
-        levels, LINENHATCH_LEVELS(places),
+        generations, LINENHATCH_GENERATIONS(places),
         times, LINENHATCH_TIMES(places),
         line, LINENHATCH_LINE(places),
         parents, LINENHATCH_PARENTS,
@@ -91,7 +91,7 @@ int main(void)
             LINENHATCH_BREADTH, 0, 0, 0,
             names, LINENHATCH_NAMES(places),
             marks, LINENHATCH_MARKS(places),
-            levels, LINENHATCH_LEVELS(places),
+            generations, LINENHATCH_GENERATIONS(places),
             times, LINENHATCH_TIMES(places),
             line, LINENHATCH_LINE(places),
             parents, LINENHATCH_PARENTS,
@@ -111,7 +111,7 @@ int main(void)
 
     free(names);
     free(marks);
-    free(levels);
+    free(generations);
     free(times);
     free(line);
     free(parents);

@@ -29,7 +29,7 @@ extern "C" {
 #define LINENHATCH_ID_BYTES 20u
 #define LINENHATCH_NAMES(places) (LINENHATCH_ID_BYTES * (size_t)(places)) /* uint8_t */
 #define LINENHATCH_MARKS(places) ((size_t)(places))                       /* uint8_t */
-#define LINENHATCH_LEVELS(places) ((size_t)(places))                      /* uint32_t */
+#define LINENHATCH_GENERATIONS(places) ((size_t)(places))                 /* uint32_t */
 #define LINENHATCH_TIMES(places) ((size_t)(places))                       /* int64_t */
 #define LINENHATCH_LINE(places) (5u * (size_t)(places))                   /* uint32_t */
 #define LINENHATCH_PARENTS 5120u                                          /* uint8_t: 256 ids */
@@ -46,11 +46,10 @@ extern "C" {
 /* of a call alone: */
 #define LINENHATCH_PARENT_IDS 3     /* how many ids of parents stand at the start of parents */
 #define LINENHATCH_HAS_GENERATION 4 /* 1 where the commit came from the graph file, else 0 */
-#define LINENHATCH_GENERATION 5     /* its generation there (document 01's level), else 0 */
+#define LINENHATCH_GENERATION 5     /* its generation there, else 0 */
 #define LINENHATCH_HAS_TIME 6       /* 1 where the walk goes by time, so that seconds holds the commit's time, else 0 */
 
-/* ---- results: a commit or an opening that is accepted is 0, the end 100, no room 101, all others are refusals, each with document 01's
- * word before its colon */
+/* ---- results: a commit or an opening that is accepted is 0, the end 100, no room 101, all others are refusals */
 
 #define LINENHATCH_ACCEPTED 0u
 #define LINENHATCH_COMMIT 0u
@@ -58,20 +57,20 @@ extern "C" {
 #define LINENHATCH_NO_ROOM 101u /* record, numbers, id or seconds is too short: lend each the length above; nothing was done */
 
 /* of an opening */
-#define LINENHATCH_BUFFER_TOO_SMALL 1u /* short memory: a buffer of names to parents is below its size */
-#define LINENHATCH_INPUT_TOO_LARGE 2u  /* oversize: store or graph over 16,777,216 bytes, or a list over 20,480 bytes */
-#define LINENHATCH_PARTIAL_ID 3u       /* ragged list: a list is not of whole ids */
-#define LINENHATCH_CORRUPT_STORE 4u    /* torn book: the layout of the commit store is broken */
-#define LINENHATCH_UNKNOWN_GRAPH 5u    /* foreign graph: the first 8 bytes of the graph file are other ones */
-#define LINENHATCH_CORRUPT_GRAPH 6u    /* torn graph: the rest of its layout is broken */
-#define LINENHATCH_TIP_NOT_FOUND 7u    /* lost tip: by time, a tip is not in the store */
-#define LINENHATCH_TIP_UNREADABLE 8u   /* blurred tip: by time, a tip's header cannot be read through its committer line */
+#define LINENHATCH_BUFFER_TOO_SMALL 1u /* a buffer of names to parents is below its size */
+#define LINENHATCH_INPUT_TOO_LARGE 2u  /* store or graph over 16,777,216 bytes, or a list over 20,480 bytes */
+#define LINENHATCH_PARTIAL_ID 3u       /* a list is not of whole ids */
+#define LINENHATCH_CORRUPT_STORE 4u    /* the layout of the commit store is broken */
+#define LINENHATCH_UNKNOWN_GRAPH 5u    /* the first 8 bytes of the graph file are other ones */
+#define LINENHATCH_CORRUPT_GRAPH 6u    /* the rest of its layout is broken */
+#define LINENHATCH_TIP_NOT_FOUND 7u    /* by time, a tip is not in the store */
+#define LINENHATCH_TIP_UNREADABLE 8u   /* by time, a tip's header cannot be read through its committer line */
 
 /* of a call */
-#define LINENHATCH_COMMIT_NOT_FOUND 9u   /* lost commit: in neither file */
-#define LINENHATCH_COMMIT_UNREADABLE 10u /* blurred commit: a header line is bad */
-#define LINENHATCH_TOO_MANY_PARENTS 11u  /* crowded commit: over 256 parents */
-#define LINENHATCH_CLOSED 12u            /* closed: the record is closed, or the memory was touched */
+#define LINENHATCH_COMMIT_NOT_FOUND 9u   /* in neither file */
+#define LINENHATCH_COMMIT_UNREADABLE 10u /* a header line is bad */
+#define LINENHATCH_TOO_MANY_PARENTS 11u  /* over 256 parents */
+#define LINENHATCH_CLOSED 12u            /* the record is closed, or the memory was touched */
 
 /* How many places a walk over these files and lists needs. It depends on no setting and on no excluded id, and is given for any bytes,
  * also for files that an opening would refuse. */
@@ -99,7 +98,7 @@ uint32_t linenhatch_open(
     uint32_t sorting, uint32_t has_cutoff, int64_t cutoff, uint32_t first,
     uint8_t *names, size_t names_len,
     uint8_t *marks, size_t marks_len,
-    uint32_t *levels, size_t levels_len,
+    uint32_t *generations, size_t generations_len,
     int64_t *times, size_t times_len,
     uint32_t *line, size_t line_len,
     uint8_t *parents, size_t parents_len,
@@ -109,7 +108,7 @@ uint32_t linenhatch_open(
 /* One call of an opened walk: 0 where a commit is handed out, 100 at the end, else the number of a refusal.
  *
  * record: as the opening or the call before left it; the call sets down the one for the next call. store to first, but for the tips: as
- * lent to the opening. names to line: as the opening or the call before left them, of the same lengths. levels and parents: of the same
+ * lent to the opening. names to line: as the opening or the call before left them, of the same lengths. generations and parents: of the same
  * lengths. Then the answers are those of the walk, one after another: no commit is handed out twice, call places + 2 at latest says end,
  * and after an end comes the end again. With anything else a call gives some result of these, and is safe.
  *
@@ -128,7 +127,7 @@ uint32_t linenhatch_next(
     uint32_t sorting, uint32_t has_cutoff, int64_t cutoff, uint32_t first,
     uint8_t *names, size_t names_len,
     uint8_t *marks, size_t marks_len,
-    uint32_t *levels, size_t levels_len,
+    uint32_t *generations, size_t generations_len,
     int64_t *times, size_t times_len,
     uint32_t *line, size_t line_len,
     uint8_t *parents, size_t parents_len,

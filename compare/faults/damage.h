@@ -173,7 +173,7 @@ static size_t number_in_store(void)
     return start + 24 * below(count) + 20;
 }
 
-/* In the chunk table, and in OIDF, CDAT (parents, level and seconds) and EDGE. */
+/* In the chunk table, and in OIDF, CDAT (parents, generation and seconds) and EDGE. */
 static size_t number_in_graph(void)
 {
     const uint8_t *g = work[GRAPH];

@@ -223,7 +223,7 @@ static uint64_t *record(void)
 
 static void refill(void)
 {
-    fill(LEVELS);
+    fill(GENERATIONS);
     fill(PARENTS);
     fill(IDENT);
     fill(NUMBERS);
@@ -604,7 +604,7 @@ static const struct {
 } kinds[] = {
     {"the base cases", as_lent, 0},
     {"as lent, in other memory", as_lent, 4},
-    {"levels, parents, answer refilled", refilled, 4},
+    {"generations, parents, answer refilled", refilled, 4},
     {"opening: store cut", store_cut, 4},
     {"opening: store bits flipped", store_flipped, 8},
     {"opening: store random bytes", store_scrambled, 6},

@@ -31,7 +31,7 @@
 /* ---- what is lent */
 
 enum { STORE, GRAPH, TIPS, HIDDEN, EXCLUDED, INPUTS };
-enum { NAMES, MARKS, LEVELS, TIMES, LINE, PARENTS, RECORD, IDENT, NUMBERS, SECONDS, LENT };
+enum { NAMES, MARKS, GENERATIONS, TIMES, LINE, PARENTS, RECORD, IDENT, NUMBERS, SECONDS, LENT };
 #define MEMORY (PARENTS + 1) /* the first six are the walk's memory */
 
 /* Pages between two that may not be touched; the library is given addresses in view, which of an input may only be read. */
@@ -74,7 +74,7 @@ static struct input input[INPUTS] = {
 static struct lent lent[LENT] = {
     [NAMES] = {.name = "names", .unit = 1, .room = ID * MOST_PLACES},
     [MARKS] = {.name = "marks", .unit = 1, .room = MOST_PLACES},
-    [LEVELS] = {.name = "levels", .unit = 4, .room = 4 * MOST_PLACES},
+    [GENERATIONS] = {.name = "generations", .unit = 4, .room = 4 * MOST_PLACES},
     [TIMES] = {.name = "times", .unit = 8, .room = 8 * MOST_PLACES},
     [LINE] = {.name = "line", .unit = 4, .room = 20 * MOST_PLACES},
     [PARENTS] = {.name = "parents", .unit = 1, .room = 2 * PAGE},
@@ -387,7 +387,7 @@ static uint32_t call_open(void)
     return spoiled_open(linenhatch_open(
         i[STORE].at, i[STORE].n, i[GRAPH].at, i[GRAPH].n, i[TIPS].at, i[TIPS].n, i[HIDDEN].at, i[HIDDEN].n, i[EXCLUDED].at, i[EXCLUDED].n,
         settings.sorting, settings.limited, settings.cutoff, settings.first,
-        b[NAMES].at, b[NAMES].count, b[MARKS].at, b[MARKS].count, (uint32_t *)b[LEVELS].at, b[LEVELS].count,
+        b[NAMES].at, b[NAMES].count, b[MARKS].at, b[MARKS].count, (uint32_t *)b[GENERATIONS].at, b[GENERATIONS].count,
         (int64_t *)b[TIMES].at, b[TIMES].count, (uint32_t *)b[LINE].at, b[LINE].count, b[PARENTS].at, b[PARENTS].count,
         (uint64_t *)b[RECORD].at, b[RECORD].count, (uint64_t *)b[NUMBERS].at, b[NUMBERS].count));
 }
@@ -400,7 +400,7 @@ static uint32_t call_next(void)
         (uint64_t *)b[RECORD].at, b[RECORD].count,
         i[STORE].at, i[STORE].n, i[GRAPH].at, i[GRAPH].n, i[HIDDEN].at, i[HIDDEN].n, i[EXCLUDED].at, i[EXCLUDED].n,
         settings.sorting, settings.limited, settings.cutoff, settings.first,
-        b[NAMES].at, b[NAMES].count, b[MARKS].at, b[MARKS].count, (uint32_t *)b[LEVELS].at, b[LEVELS].count,
+        b[NAMES].at, b[NAMES].count, b[MARKS].at, b[MARKS].count, (uint32_t *)b[GENERATIONS].at, b[GENERATIONS].count,
         (int64_t *)b[TIMES].at, b[TIMES].count, (uint32_t *)b[LINE].at, b[LINE].count, b[PARENTS].at, b[PARENTS].count,
         b[IDENT].at, b[IDENT].count, (uint64_t *)b[NUMBERS].at, b[NUMBERS].count, (int64_t *)b[SECONDS].at, b[SECONDS].count));
 }

@@ -31,7 +31,7 @@ pub(crate) struct Input<'a> {
 pub(crate) struct Memory {
     pub names: Vec<u8>,
     pub marks: Vec<u8>,
-    pub levels: Vec<u32>,
+    pub generations: Vec<u32>,
     pub times: Vec<i64>,
     pub line: Vec<u32>,
     pub parents: Vec<u8>,
@@ -77,8 +77,8 @@ unsafe extern "C" {
         names_len: usize,
         marks: *mut u8,
         marks_len: usize,
-        levels: *mut u32,
-        levels_len: usize,
+        generations: *mut u32,
+        generations_len: usize,
         times: *mut i64,
         times_len: usize,
         line: *mut u32,
@@ -110,8 +110,8 @@ unsafe extern "C" {
         names_len: usize,
         marks: *mut u8,
         marks_len: usize,
-        levels: *mut u32,
-        levels_len: usize,
+        generations: *mut u32,
+        generations_len: usize,
         times: *mut i64,
         times_len: usize,
         line: *mut u32,
@@ -171,8 +171,8 @@ pub(crate) fn open(input: &Input<'_>, tips: &[u8], memory: &mut Memory, numbers:
             memory.names.len(),
             memory.marks.as_mut_ptr(),
             memory.marks.len(),
-            memory.levels.as_mut_ptr(),
-            memory.levels.len(),
+            memory.generations.as_mut_ptr(),
+            memory.generations.len(),
             memory.times.as_mut_ptr(),
             memory.times.len(),
             memory.line.as_mut_ptr(),
@@ -210,8 +210,8 @@ pub(crate) fn next(input: &Input<'_>, memory: &mut Memory, answer: &mut Answer) 
             memory.names.len(),
             memory.marks.as_mut_ptr(),
             memory.marks.len(),
-            memory.levels.as_mut_ptr(),
-            memory.levels.len(),
+            memory.generations.as_mut_ptr(),
+            memory.generations.len(),
             memory.times.as_mut_ptr(),
             memory.times.len(),
             memory.line.as_mut_ptr(),
@@ -262,13 +262,13 @@ mod tests {
         #[rustfmt::skip]
         fn open(&mut self, room: Room) -> u32 {
             let (list, store, parents) = ([0u8; 0], STORE.as_ptr(), &mut self.parents);
-            let (mut names, mut marks, mut levels, mut times, mut line) = ([0u8; 0], [0u8; 0], [0u32; 0], [0i64; 0], [0u32; 0]);
+            let (mut names, mut marks, mut generations, mut times, mut line) = ([0u8; 0], [0u8; 0], [0u32; 0], [0i64; 0], [0u32; 0]);
             assert!(room.record <= RECORD && room.numbers <= CALL_NUMBERS);
             // SAFETY: each pointer is an array's of its own, and no length is over the array's.
             unsafe {
                 linenhatch_open(
                     store, STORE.len(), list.as_ptr(), 0, list.as_ptr(), 0, list.as_ptr(), 0, list.as_ptr(), 0, 0, 0, 0, 0, names.as_mut_ptr(), 0,
-                    marks.as_mut_ptr(), 0, levels.as_mut_ptr(), 0, times.as_mut_ptr(), 0, line.as_mut_ptr(), 0, parents.as_mut_ptr(), parents.len(),
+                    marks.as_mut_ptr(), 0, generations.as_mut_ptr(), 0, times.as_mut_ptr(), 0, line.as_mut_ptr(), 0, parents.as_mut_ptr(), parents.len(),
                     self.record.as_mut_ptr(), room.record, self.numbers.as_mut_ptr(), room.numbers)
             }
         }
@@ -276,13 +276,13 @@ mod tests {
         #[rustfmt::skip]
         fn next(&mut self, room: Room) -> u32 {
             let (list, store, parents) = ([0u8; 0], STORE.as_ptr(), &mut self.parents);
-            let (mut names, mut marks, mut levels, mut times, mut line) = ([0u8; 0], [0u8; 0], [0u32; 0], [0i64; 0], [0u32; 0]);
+            let (mut names, mut marks, mut generations, mut times, mut line) = ([0u8; 0], [0u8; 0], [0u32; 0], [0i64; 0], [0u32; 0]);
             assert!(room.record <= RECORD && room.numbers <= CALL_NUMBERS && room.id <= 20 && room.seconds <= 1);
             // SAFETY: as in `open`.
             unsafe {
                 linenhatch_next(
                     self.record.as_mut_ptr(), room.record, store, STORE.len(), list.as_ptr(), 0, list.as_ptr(), 0, list.as_ptr(), 0, 0, 0, 0, 0,
-                    names.as_mut_ptr(), 0, marks.as_mut_ptr(), 0, levels.as_mut_ptr(), 0, times.as_mut_ptr(), 0, line.as_mut_ptr(), 0,
+                    names.as_mut_ptr(), 0, marks.as_mut_ptr(), 0, generations.as_mut_ptr(), 0, times.as_mut_ptr(), 0, line.as_mut_ptr(), 0,
                     parents.as_mut_ptr(), parents.len(), self.id.as_mut_ptr(), room.id, self.numbers.as_mut_ptr(), room.numbers,
                     self.seconds.as_mut_ptr(), room.seconds)
             }

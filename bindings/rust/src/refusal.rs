@@ -5,33 +5,33 @@ use std::fmt;
 
 /// Why a walk was not opened (1 to 8), or why a call hands out no commit (9 to 12).
 ///
-/// [`number`](Refusal::number) and [`word`](Refusal::word) are those of the paper that says what is right (document 01), and the same in every
-/// language; `Display` is a sentence.
+/// [`number`](Refusal::number) and [`name`](Refusal::name) are the same in C, in Rust and in what the tool prints (`docs/SPECIFICATION.md`, sections
+/// 6 and 9); `Display` is a sentence.
 #[derive(Clone, Copy, Debug, PartialEq, Eq, Hash)]
 pub enum Refusal {
-    /// 1, short memory: a lent buffer is below its size. A [`Lister`](crate::Lister) lends enough, so it never meets this.
+    /// 1: a lent buffer is below its size. A [`Lister`](crate::Lister) lends enough, so it never meets this.
     BufferTooSmall,
-    /// 2, oversize: the commit store or the commit-graph file has over 16,777,216 bytes, or a list over 1,024 ids.
+    /// 2: the commit store or the commit-graph file has over 16,777,216 bytes, or a list over 1,024 ids.
     InputTooLarge,
-    /// 3, ragged list: a list is not made of whole ids. A list of [`ObjectId`](crate::ObjectId) always is.
+    /// 3: a list is not made of whole ids. A list of [`ObjectId`](crate::ObjectId) always is.
     PartialId,
-    /// 4, torn book: the layout of the commit store is broken.
+    /// 4: the layout of the commit store is broken.
     CorruptStore,
-    /// 5, foreign graph: the first 8 bytes are not those of a version 1 commit-graph file with 20-byte ids and no base file.
+    /// 5: the first 8 bytes are not those of a version 1 commit-graph file with 20-byte ids and no base file.
     UnknownGraph,
-    /// 6, torn graph: the rest of the commit-graph file's layout is broken.
+    /// 6: the rest of the commit-graph file's layout is broken.
     CorruptGraph,
-    /// 7, lost tip: by time, a tip that is not in the commit store.
+    /// 7: by time, a tip that is not in the commit store.
     TipNotFound,
-    /// 8, blurred tip: by time, a tip whose header is not good through its committer line.
+    /// 8: by time, a tip whose header is not good through its committer line.
     TipUnreadable,
-    /// 9, lost commit: it is in neither file.
+    /// 9: it is in neither file.
     CommitNotFound,
-    /// 10, blurred commit: a header line is bad.
+    /// 10: a header line is bad.
     CommitUnreadable,
-    /// 11, crowded commit: it has a 257th parent.
+    /// 11: it has a 257th parent.
     TooManyParents,
-    /// 12, closed: the walk was not opened, or its memory was touched. A [`Walk`](crate::Walk) is open and alone has its memory, so it never
+    /// 12: the walk was not opened, or its memory was touched. A [`Walk`](crate::Walk) is open and alone has its memory, so it never
     /// meets this.
     Closed,
 }
@@ -77,20 +77,20 @@ impl Refusal {
         }
     }
 
-    /// Its word.
-    pub fn word(self) -> &'static str {
+    /// Its name, in words.
+    pub fn name(self) -> &'static str {
         match self {
-            Refusal::BufferTooSmall => "short memory",
-            Refusal::InputTooLarge => "oversize",
-            Refusal::PartialId => "ragged list",
-            Refusal::CorruptStore => "torn book",
-            Refusal::UnknownGraph => "foreign graph",
-            Refusal::CorruptGraph => "torn graph",
-            Refusal::TipNotFound => "lost tip",
-            Refusal::TipUnreadable => "blurred tip",
-            Refusal::CommitNotFound => "lost commit",
-            Refusal::CommitUnreadable => "blurred commit",
-            Refusal::TooManyParents => "crowded commit",
+            Refusal::BufferTooSmall => "buffer too small",
+            Refusal::InputTooLarge => "input too large",
+            Refusal::PartialId => "partial id",
+            Refusal::CorruptStore => "corrupt store",
+            Refusal::UnknownGraph => "unknown graph",
+            Refusal::CorruptGraph => "corrupt graph",
+            Refusal::TipNotFound => "tip not found",
+            Refusal::TipUnreadable => "tip unreadable",
+            Refusal::CommitNotFound => "commit not found",
+            Refusal::CommitUnreadable => "commit unreadable",
+            Refusal::TooManyParents => "too many parents",
             Refusal::Closed => "closed",
         }
     }
@@ -117,14 +117,14 @@ impl Refusal {
 
 impl fmt::Display for Refusal {
     fn fmt(&self, f: &mut fmt::Formatter<'_>) -> fmt::Result {
-        write!(f, "{} (refusal {}, {})", self.sentence(), self.number(), self.word())
+        write!(f, "{} (refusal {}, {})", self.sentence(), self.number(), self.name())
     }
 }
 
 impl Error for Refusal {}
 
 /// The library's result 101: a buffer of its own was too short, the record, the numbers, the id or the seconds. It comes before all else, and
-/// nothing was altered. Document 01 does not name these buffers, so it is no [`Refusal`]. This crate lends them in full, so neither a
+/// nothing was altered. The walk itself has no such buffers, so it is no [`Refusal`]. This crate lends them in full, so neither a
 /// [`Lister`](crate::Lister) nor a [`Walk`](crate::Walk) ever meets it.
 #[derive(Clone, Copy, Debug, PartialEq, Eq, Hash)]
 pub struct NoRoom;
@@ -148,27 +148,27 @@ mod tests {
     use super::*;
 
     #[test]
-    fn numbers_and_words() {
-        let words = [
-            "short memory",
-            "oversize",
-            "ragged list",
-            "torn book",
-            "foreign graph",
-            "torn graph",
-            "lost tip",
-            "blurred tip",
-            "lost commit",
-            "blurred commit",
-            "crowded commit",
+    fn numbers_and_names() {
+        let names = [
+            "buffer too small",
+            "input too large",
+            "partial id",
+            "corrupt store",
+            "unknown graph",
+            "corrupt graph",
+            "tip not found",
+            "tip unreadable",
+            "commit not found",
+            "commit unreadable",
+            "too many parents",
             "closed",
         ];
-        for (place, word) in words.iter().enumerate() {
+        for (place, name) in names.iter().enumerate() {
             let number = place as u32 + 1;
             let refusal = Refusal::from_number(number).unwrap();
             assert_eq!(refusal.number(), number);
-            assert_eq!(refusal.word(), *word);
-            assert!(refusal.to_string().ends_with(&format!(" (refusal {number}, {word})")), "{refusal}");
+            assert_eq!(refusal.name(), *name);
+            assert!(refusal.to_string().ends_with(&format!(" (refusal {number}, {name})")), "{refusal}");
         }
     }
 

@@ -160,7 +160,7 @@ impl Memory {
         Memory {
             names: vec![0; ID_BYTES * places],
             marks: vec![0; places],
-            levels: vec![0; places],
+            generations: vec![0; places],
             times: vec![0; places],
             line: vec![0; 5 * places],
             parents: vec![0; PARENT_BYTES],

@@ -67,15 +67,23 @@ fn the_same_numbers() {
     assert_eq!(defined("NO_ROOM"), linenhatch::NoRoom::NUMBER);
 }
 
-/// A refusal has one name and one number in both languages, and document 01's word beside them.
+/// A refusal has one name and one number in both languages, and the tool prints them: its name in words is its name in C and in Rust.
 #[test]
 fn the_same_refusals() {
     for refusal in linenhatch::Refusal::ALL {
-        let name: String =
-            format!("{refusal:?}").chars().map(|c| if c.is_uppercase() { format!("_{c}") } else { c.to_uppercase().to_string() }).collect();
-        let name = name.trim_start_matches('_');
-        assert_eq!(defined(name), refusal.number(), "{name}");
-        let comment = between(C, &format!("#define LINENHATCH_{name} "), "\n");
-        assert!(comment.contains(&format!("/* {}: ", refusal.word())), "{comment}");
+        let name = refusal.name().to_uppercase().replace(' ', "_");
+        assert_eq!(defined(&name), refusal.number(), "{name}");
+        let rust: String = refusal.name().split(' ').map(|word| word[..1].to_uppercase() + &word[1..]).collect();
+        assert_eq!(format!("{refusal:?}"), rust);
+        assert!(refusal.to_string().ends_with(&format!("(refusal {}, {})", refusal.number(), refusal.name())), "{refusal}");
+    }
+}
+
+/// One word for it: generation, in names and in comments. Document 01 says level (docs/GLOSSARY.md).
+#[test]
+fn one_word_for_the_generation() {
+    for text in [C, RUST, include_str!("../../c/example.c"), include_str!("../src/walk.rs"), include_str!("../src/bin/linenhatch/args.rs")]
+    {
+        assert!(!text.to_lowercase().contains("level"));
     }
 }

@@ -234,7 +234,8 @@ mod tool {
         assert_eq!(lines(&output.stdout), right);
         assert!(String::from_utf8_lossy(&output.stderr).contains("16777217 bytes"));
 
-        for (bytes, word) in [(&b"another file"[..], "(refusal 5, foreign graph)"), (b"CGPH\x01\x01\x04\x00", "(refusal 6, torn graph)")] {
+        for (bytes, word) in [(&b"another file"[..], "(refusal 5, unknown graph)"), (b"CGPH\x01\x01\x04\x00", "(refusal 6, corrupt graph)")]
+        {
             fs::write(&file, bytes).unwrap();
             let (list, said) = repository.fails("--order newest main");
             assert!(list.is_empty());
@@ -255,7 +256,7 @@ mod tool {
         assert_eq!(repository.list("--order newest main"), right);
     }
 
-    /// Document 01's skewed clock: c is newer than commits that reach it, so hiding misses it, but where the file has generations.
+    /// The skewed clock of docs/DIFFERENCES.md: c is newer than commits that reach it, so hiding misses it, but where the file has generations.
     #[test]
     fn a_skewed_clock() {
         if !has_git() {
@@ -290,7 +291,7 @@ mod tool {
         assert_eq!(repository.list("--order newest --parents wide"), repository.git("rev-list --parents wide"));
         let (list, said) = repository.fails("--no-graph --order newest wider");
         assert_eq!(set(&list), roots[..256].iter().map(|id| id.to_string()).collect::<Vec<_>>().iter().collect());
-        assert!(said.contains("warning: a commit has more than 256 parents (refusal 11, crowded commit)"), "{said}");
+        assert!(said.contains("warning: a commit has more than 256 parents (refusal 11, too many parents)"), "{said}");
         assert!(said.contains("not whole: 1 refusal\n"), "{said}");
     }
 
@@ -309,10 +310,10 @@ mod tool {
             said.contains(&format!("commit {}, a parent of another, is not in the repository", repository.git("rev-parse main~3")[0])),
             "{said}"
         );
-        assert!(said.contains("(refusal 9, lost commit)"), "{said}");
+        assert!(said.contains("(refusal 9, commit not found)"), "{said}");
         let (list, said) = shallow.fails("main --hide main~2");
         assert!(list.is_empty());
-        assert!(said.contains("(refusal 9, lost commit)"), "{said}");
+        assert!(said.contains("(refusal 9, commit not found)"), "{said}");
     }
 
     #[test]
@@ -328,10 +329,10 @@ mod tool {
         assert_eq!(repository.list(&tip), [tip.clone(), bad.clone(), root.clone()]);
         let (list, said) = repository.fails(&format!("--order newest {bad}"));
         assert!(list.is_empty());
-        assert!(said.contains("(refusal 8, blurred tip)"), "{said}");
+        assert!(said.contains("(refusal 8, tip unreadable)"), "{said}");
         let (list, said) = repository.fails(&format!("{tip} --hide {bad}"));
         assert!(list.is_empty());
-        assert!(said.contains("(refusal 10, blurred commit)"), "{said}");
+        assert!(said.contains("(refusal 10, commit unreadable)"), "{said}");
     }
 
     #[test]
