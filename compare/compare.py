@@ -20,7 +20,7 @@ import slips
 from generate import CUTOFF_NEWEST, NONE, TOP
 
 BATCH = 1000
-NAMED = "document 01's runs"
+NAMED = "sample history and skewed clock"
 SORTINGS = ["breadth first", "newest first", "oldest first", "cutoff, newest first", "cutoff, oldest first"]
 
 

@@ -138,7 +138,7 @@ def main():
     options = options.parse_args()
     library = Library(options.library)
     bad = 0
-    families = [("document 01's runs", [case for _, case, _, _ in generate.named_runs()])]
+    families = [("sample history and skewed clock", [case for _, case, _, _ in generate.named_runs()])]
     for name, family, pairs, *how in generate.FAMILIES:
         rng = random.Random("%d %s" % (options.seed, name))
         count = max(1, pairs * options.scale // 100)

@@ -90,7 +90,7 @@ class UnsortedWaiting(Walk):
 
 
 class SecondsBeforeLevels(Walk):
-    """compares seconds before levels in painting"""
+    """compares seconds before generations in painting"""
 
     def paint(self):
         return painting(self, turned=True)
