@@ -33,8 +33,9 @@ fn refused(line: &str) -> String {
 fn nothing_given() {
     let args = list("");
     assert_eq!(args.dir, Path::new("."));
-    assert_eq!(args.order, Order::Breadth);
-    assert_eq!(args.since, None);
+    assert_eq!(args.order, Order::Newest);
+    assert_eq!((args.since, args.max_count), (None, None));
+    assert!(!args.count && !args.reverse);
     assert!(args.graph && !args.first_parent && !args.parents && !args.time && !args.progress);
     assert!(args.hide.is_empty() && args.exclude.is_empty());
     assert_eq!(args.revs, ["HEAD"]);
@@ -74,11 +75,54 @@ fn since_takes_an_order_by_time() {
 }
 
 #[test]
+fn how_many_and_which_way() {
+    assert_eq!(list("-n 3").max_count, Some(3));
+    assert_eq!(list("--max-count=0").max_count, Some(0));
+    assert!(list("--count").count && list("--reverse").reverse);
+    assert_eq!(list("--order breadth").order, Order::Breadth);
+    assert!(refused("-n").contains("-n needs"));
+    assert!(refused("-n few").contains("few"));
+    assert!(refused("-n -1").contains("-1"));
+    assert!(refused("--count=3").contains("--count=3"));
+}
+
+#[test]
+fn what_git_leaves_out_so() {
+    let args = list("^a b c..d -- ^e f..");
+    assert_eq!(args.hide, ["a", "c", "e", "f"]);
+    assert_eq!(args.revs, ["b", "d", "HEAD"]);
+    assert_eq!((list("..b").hide, list("..b").revs), (vec!["HEAD".into()], vec!["b".into()]));
+    assert_eq!((list("^a").hide, list("^a").revs), (vec!["a".into()], vec!["HEAD".into()]));
+    for line in ["a...b", "^", "^^a", "^a..b", "a..^b", "a..b..c", "--hide ^a", "--hide a..b"] {
+        assert!(refused(line).contains("name"), "{line}");
+    }
+}
+
+#[test]
 fn help_and_version() {
     assert_eq!(task("--help"), Ok(Task::Help));
     assert_eq!(task("x -h --nonsense"), Ok(Task::Help));
     assert_eq!(task("--version"), Ok(Task::Version));
-    for option in ["-C", "--order", "--since", "--first-parent", "--hide", "--exclude", "--no-graph", "--parents", "--time", "--progress"] {
+    assert_eq!(task("-V"), Ok(Task::Version));
+    for option in [
+        "-n N",
+        "--max-count",
+        "--count",
+        "--reverse",
+        "-V",
+        "^A",
+        "A..B",
+        "-C",
+        "--order",
+        "--since",
+        "--first-parent",
+        "--hide",
+        "--exclude",
+        "--no-graph",
+        "--parents",
+        "--time",
+        "--progress",
+    ] {
         assert!(args::HELP.contains(option), "{option}");
     }
 }
@@ -95,8 +139,6 @@ fn wrong_words() {
     assert!(refused("--hide").contains("--hide needs"));
     assert!(refused("--hide -x").contains("-x"));
     assert!(refused("-- -x").contains("-x"));
-    assert!(refused("a..b").contains("--hide"));
-    assert!(refused("^a").contains("--hide"));
     assert!(parse([OsString::new()]).is_err());
 }
 

@@ -165,6 +165,10 @@ mod tool {
             ("main --hide main~2", "main ^main~2"),
             ("--hide main old", "old ^main"),
             ("merge^2 main~3", "merge^2 main~3"),
+            ("old..main", "old..main"),
+            ("side..main ^old", "side..main ^old"),
+            ("old..", "old.."),
+            ("..side", "..side"),
         ] {
             let right = repository.git(&format!("rev-list {same}"));
             for order in ["breadth", "newest", "oldest"] {
@@ -172,7 +176,18 @@ mod tool {
                 assert_eq!(list.len(), right.len(), "{order} {words}");
                 assert_eq!(set(&list), set(&right), "{order} {words}");
             }
-            assert_eq!(repository.list(&format!("{no} --order newest {words}")), right, "{words}");
+            assert_eq!(repository.list(&format!("{no} {words}")), right, "{words}");
+            for (ours, gits) in [
+                ("-n 4", "-n 4"),
+                ("--count", "--count"),
+                ("--reverse", "--reverse"),
+                ("--reverse -n 3", "--reverse -n 3"),
+                ("--count -n 5", "--count -n 5"),
+                ("-n 0", "-n 0"),
+            ] {
+                let right = repository.git(&format!("rev-list {gits} {same}"));
+                assert_eq!(repository.list(&format!("{no} {ours} {words}")), right, "{ours} {words}");
+            }
             let with_parents = repository.git(&format!("rev-list --parents {same}"));
             assert_eq!(repository.list(&format!("{no} --order newest --parents {words}")), with_parents, "{words}");
         }
@@ -187,7 +202,7 @@ mod tool {
             assert!(line.starts_with(&format!("{id} {seconds}/")), "{line}");
             assert_eq!(line.ends_with("/-"), !graph, "{line}");
         }
-        assert!(repository.list(&format!("{no} --time main")).iter().all(|line| line.contains(" -/")));
+        assert!(repository.list(&format!("{no} --order breadth --time main")).iter().all(|line| line.contains(" -/")));
         let without = repository.list(&format!("{no} --exclude merge^1 main"));
         assert!(!without.contains(&repository.git("rev-parse merge^1")[0]));
         assert!(without.contains(&repository.git("rev-parse side")[0]));
@@ -291,7 +306,8 @@ mod tool {
         assert_eq!(repository.list("--order newest --parents wide"), repository.git("rev-list --parents wide"));
         let (list, said) = repository.fails("--no-graph --order newest wider");
         assert_eq!(set(&list), roots[..256].iter().map(|id| id.to_string()).collect::<Vec<_>>().iter().collect());
-        assert!(said.contains("warning: a commit has more than 256 parents (refusal 11, too many parents)"), "{said}");
+        let wider = repository.git("rev-parse wider").remove(0);
+        assert!(said.contains(&format!("a commit has more than 256 parents (refusal 11, too many parents): {wider}\n")), "{said}");
         assert!(said.contains("not whole: 1 refusal\n"), "{said}");
     }
 
@@ -303,17 +319,39 @@ mod tool {
         let repository = history("whole");
         let shallow = Repository { dir: folder("shallow") };
         repository.git(&format!("clone -q --depth 3 file://{} {}", repository.dir.display(), shallow.dir.display()));
-        let (list, said) = shallow.fails("--order newest main");
+        let (list, said) = shallow.fails("main");
         assert_eq!(list, shallow.git("rev-list main"));
-        assert!(said.contains("note: this is a shallow clone"), "{said}");
-        assert!(
-            said.contains(&format!("commit {}, a parent of another, is not in the repository", repository.git("rev-parse main~3")[0])),
-            "{said}"
-        );
-        assert!(said.contains("(refusal 9, commit not found)"), "{said}");
+        assert_eq!(said.lines().count(), 1, "{said}");
+        assert!(said.contains("this is a shallow clone, and the list is not whole: 1 commit past its boundary"), "{said}");
+        assert!(said.contains("(refusal 9, commit not found)") && said.contains("git fetch --unshallow"), "{said}");
         let (list, said) = shallow.fails("main --hide main~2");
         assert!(list.is_empty());
-        assert!(said.contains("(refusal 9, commit not found)"), "{said}");
+        assert_eq!(said.lines().count(), 1, "{said}");
+        assert!(said.contains("this is a shallow clone, and nothing is listed"), "{said}");
+        // What is asked for comes before the boundary: the list is right, and no refusal was met.
+        assert_eq!(lines(&shallow.tool("-n 2 main").stdout), shallow.git("rev-list -n 2 main"));
+        assert_eq!(shallow.tool("-n 2 main").status.code(), Some(0));
+
+        // Not shallow, and a commit is lost all the same.
+        let lost = Repository::new("lost");
+        let gone = "12".repeat(20);
+        let tip = lost.commit_with(2000, &[&gone], "");
+        let (list, said) = lost.fails(&tip);
+        assert_eq!(list, [tip]);
+        assert!(said.contains(&format!("(refusal 9, commit not found): {gone}\n")), "{said}");
+    }
+
+    #[test]
+    fn a_repository_without_commits() {
+        if !has_git() {
+            return;
+        }
+        let repository = Repository::new("empty");
+        let (list, said) = repository.fails("");
+        assert!(list.is_empty());
+        assert_eq!(said, "linenhatch: error: this repository has no commits yet\n");
+        let (_, said) = repository.fails("nonesuch");
+        assert!(said.contains("'nonesuch' is the name of no commit here"), "{said}");
     }
 
     #[test]
@@ -329,10 +367,10 @@ mod tool {
         assert_eq!(repository.list(&tip), [tip.clone(), bad.clone(), root.clone()]);
         let (list, said) = repository.fails(&format!("--order newest {bad}"));
         assert!(list.is_empty());
-        assert!(said.contains("(refusal 8, tip unreadable)"), "{said}");
+        assert!(said.contains(&format!("(refusal 8, tip unreadable): {bad}\n")) && said.contains("--order breadth"), "{said}");
         let (list, said) = repository.fails(&format!("{tip} --hide {bad}"));
         assert!(list.is_empty());
-        assert!(said.contains("(refusal 10, commit unreadable)"), "{said}");
+        assert!(said.contains("nothing is listed") && said.contains(&format!("(refusal 10, commit unreadable): {bad}\n")), "{said}");
     }
 
     #[test]

@@ -9,31 +9,36 @@ use linenhatch::Order;
 pub const HELP: &str = "\
 linenhatch: lists the commits of a git repository, with a walk that is proved to list each one that it should, once
 
-usage: linenhatch [-C DIR] [--order breadth|newest|oldest] [--since SECONDS] [--first-parent]
+usage: linenhatch [-C DIR] [--order newest|oldest|breadth] [-n N] [--count] [--reverse] [--since SECONDS] [--first-parent]
                   [--hide REV]... [--exclude REV]... [--no-graph] [--parents] [--time] [--progress] [REV...]
 
-Lists what the REVs reach (HEAD if none is given), one id on a line. A REV is any name of a commit that git knows.
+Lists what the REVs reach (HEAD if none is given), one id on a line. A REV is any name of a commit that git knows; ^A is --hide A, and A..B is
+--hide A B, HEAD where A or B is left out.
 
   -C DIR            the repository is in DIR
-  --order ORDER     breadth (the default): the REVs, then their parents, then those parents' parents
-                    newest, oldest: of the commits that wait, the one with the greatest or least committer time
-  --since SECONDS   leaves out the commits before these seconds since 1970; with an order by time (newest, if none is given)
+  --order ORDER     newest (the default), oldest: of the commits that wait, the one with the greatest or least committer time. A commit waits
+                    once a child of it was listed, so oldest is not newest turned around: that is --reverse
+                    breadth: the REVs, then their parents, then those parents' parents
+  -n N, --max-count N   at most N commits, the first of the order
+  --count           prints how many commits there are in place of the list
+  --reverse         prints the list from its end
+  --since SECONDS   leaves out the commits before these seconds since 1970, and what is reached through them alone; with an order by time
   --first-parent    follows only the first parent of each commit; --since then counts for the REVs alone
-  --hide REV        leaves out REV and all that it reaches. Where committer times run backwards, some of that may still be listed, but not
-                    with a commit-graph file that has these commits (git commit-graph write --reachable)
+  --hide REV        leaves out REV and all that it reaches. Where committer times run backwards, some of that may still be listed, and nothing
+                    says so; not with a commit-graph file that has all these commits (git commit-graph write --reachable)
   --exclude REV     leaves out REV and does not go on from it; what is reached another way is listed
   --no-graph        does not use git's commit-graph file (objects/info/commit-graph)
   --parents         prints the parents after the id
   --time            prints SECONDS/GENERATION after the id, - where there is none: seconds are there in an order by time without
                     --first-parent, a generation for a commit that came from the commit-graph file
   --progress        shows on standard error how far the work is, also where that is no terminal
-  --help, --version
+  -h, --help, -V, --version
 
 All that the names reach is read from the repository first and put into a commit store, whole if it fits: a store may have 16,777,216
 bytes. If it does not fit, each commit is cut after its committer line, which is all that a walk reads of it; that is some 60,000 commits.
 Replacements and grafts are not followed. A commit-graph file in several layers, or of over 16,777,216 bytes, is not used.
 
-Exit status: 0 if all was listed; 1 if it was not, with a line on standard error for each refusal; 2 if the command line is wrong.
+Exit status: 0 if all was listed; 1 if it was not, and standard error says why and names the commits; 2 if the command line is wrong.
 ";
 
 /// What is to be done.
@@ -49,6 +54,9 @@ pub enum Task {
 pub struct Args {
     pub dir: PathBuf,
     pub order: Order,
+    pub max_count: Option<u64>,
+    pub count: bool,
+    pub reverse: bool,
     pub since: Option<i64>,
     pub first_parent: bool,
     pub hide: Vec<OsString>,
@@ -66,7 +74,10 @@ pub fn parse(words: impl IntoIterator<Item = OsString>) -> Result<Task, String> 
     let mut order = None;
     let mut args = Args {
         dir: PathBuf::from("."),
-        order: Order::Breadth,
+        order: Order::Newest,
+        max_count: None,
+        count: false,
+        reverse: false,
         since: None,
         first_parent: false,
         hide: Vec::new(),
@@ -80,12 +91,12 @@ pub fn parse(words: impl IntoIterator<Item = OsString>) -> Result<Task, String> 
     while let Some(word) = words.next() {
         if word == "--" {
             for rev in words.by_ref() {
-                args.revs.push(name(rev)?);
+                args.add(rev)?;
             }
             break;
         }
         if !word.as_bytes().starts_with(b"-") {
-            args.revs.push(name(word)?);
+            args.add(word)?;
             continue;
         }
         let (option, given) = split(&word);
@@ -95,30 +106,52 @@ pub fn parse(words: impl IntoIterator<Item = OsString>) -> Result<Task, String> 
         };
         match option.as_str() {
             "-C" => args.dir.push(value("a folder")?),
-            "--order" => order = Some(order_of(&value("breadth, newest or oldest")?)?),
+            "--order" => order = Some(order_of(&value("newest, oldest or breadth")?)?),
+            "-n" | "--max-count" => args.max_count = Some(count_of(&value("a number of commits")?)?),
             "--since" => args.since = Some(seconds_of(&value("a number of seconds")?)?),
             "--hide" => args.hide.push(name(value("a commit")?)?),
             "--exclude" => args.exclude.push(name(value("a commit")?)?),
             _ if given.is_some() => return Err(unknown(&word)),
+            "--count" => args.count = true,
+            "--reverse" => args.reverse = true,
             "--first-parent" => args.first_parent = true,
             "--no-graph" => args.graph = false,
             "--parents" => args.parents = true,
             "--time" => args.time = true,
             "--progress" => args.progress = true,
             "--help" | "-h" => return Ok(Task::Help),
-            "--version" => return Ok(Task::Version),
+            "--version" | "-V" => return Ok(Task::Version),
             _ => return Err(unknown(&word)),
         }
     }
     args.order = match (order, args.since) {
         (Some(Order::Breadth), Some(_)) => return Err("--since needs an order by time: --order newest or --order oldest".into()),
-        (None, Some(_)) => Order::Newest,
-        (order, _) => order.unwrap_or_default(),
+        (order, _) => order.unwrap_or(Order::Newest),
     };
     if args.revs.is_empty() {
         args.revs.push("HEAD".into());
     }
     Ok(Task::List(args))
+}
+
+impl Args {
+    /// A name to list from, or to hide: `A`, `^A`, `A..B`.
+    fn add(&mut self, rev: OsString) -> Result<(), String> {
+        let bytes = rev.as_bytes();
+        if let Some(hidden) = bytes.strip_prefix(b"^") {
+            self.hide.push(name(OsStr::from_bytes(hidden).into())?);
+            return Ok(());
+        }
+        let Some(at) = bytes.windows(2).position(|two| two == b"..") else {
+            self.revs.push(name(rev)?);
+            return Ok(());
+        };
+        let or_head = |side: &[u8]| if side.is_empty() { "HEAD".into() } else { OsStr::from_bytes(side).to_os_string() };
+        let (from, to) = (name(or_head(&bytes[..at]))?, name(or_head(&bytes[at + 2..]))?);
+        self.hide.push(from);
+        self.revs.push(to);
+        Ok(())
+    }
 }
 
 /// An option, and the value after its `=`.
@@ -141,8 +174,8 @@ fn name(rev: OsString) -> Result<OsString, String> {
     if text.is_empty() || text.starts_with('-') {
         return Err(format!("'{text}' is no name of a commit"));
     }
-    if text.starts_with('^') || text.contains("..") {
-        return Err(format!("'{text}' is not the name of one commit; what A..B and ^A leave out is left out with --hide A"));
+    if text.starts_with(['^', '.']) || text.contains("..") {
+        return Err(format!("'{text}' is not the name of one commit; A, ^A and A..B are known, and A...B is not"));
     }
     Ok(rev)
 }
@@ -152,11 +185,16 @@ fn order_of(word: &OsStr) -> Result<Order, String> {
         Some("breadth") => Ok(Order::Breadth),
         Some("newest") => Ok(Order::Newest),
         Some("oldest") => Ok(Order::Oldest),
-        _ => Err(format!("'{}' is no order: breadth, newest or oldest", word.to_string_lossy())),
+        _ => Err(format!("'{}' is no order: newest, oldest or breadth", word.to_string_lossy())),
     }
 }
 
 fn seconds_of(word: &OsStr) -> Result<i64, String> {
     let number = word.to_str().and_then(|text| text.parse().ok());
     number.ok_or_else(|| format!("'{}' is no number of seconds since 1970", word.to_string_lossy()))
+}
+
+fn count_of(word: &OsStr) -> Result<u64, String> {
+    let number = word.to_str().and_then(|text| text.parse().ok());
+    number.ok_or_else(|| format!("'{}' is no number of commits", word.to_string_lossy()))
 }

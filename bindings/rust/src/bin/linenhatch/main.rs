@@ -2,6 +2,7 @@
 
 mod args;
 mod progress;
+mod refused;
 mod repository;
 
 use std::env;
@@ -10,8 +11,9 @@ use std::io::{self, BufWriter, IsTerminal, Write};
 use std::process::ExitCode;
 
 use args::{Args, Task};
-use linenhatch::{Commit, Lister, ObjectId, Refusal, MAX_FILE_BYTES, MAX_IDS};
+use linenhatch::{Commit, Lister, ObjectId, Refusal, Walk, MAX_FILE_BYTES, MAX_IDS};
 use progress::Progress;
+use refused::{counted, named, Refused};
 use repository::{Commits, Repository};
 
 fn main() -> ExitCode {
@@ -25,11 +27,7 @@ fn main() -> ExitCode {
         }
     };
     match list(&args) {
-        Ok(0) => ExitCode::SUCCESS,
-        Ok(refused) => {
-            say("error", &format!("the list is not whole: {refused} {}", if refused == 1 { "refusal" } else { "refusals" }));
-            ExitCode::FAILURE
-        }
+        Ok(()) => ExitCode::SUCCESS,
         Err(message) => {
             say("error", &message);
             ExitCode::FAILURE
@@ -48,20 +46,18 @@ fn say(kind: &str, message: &str) {
     eprintln!("linenhatch: {kind}: {message}");
 }
 
-/// Prints the list. The number of refusals on the way; or why there is no list.
-fn list(args: &Args) -> Result<u64, String> {
+/// Prints the list; or says why there is none, or why it is not whole.
+fn list(args: &Args) -> Result<(), String> {
     let repository = Repository::open(args.dir.clone())?;
     let tips = resolve(&repository, &args.revs, "names")?;
     let hidden = resolve(&repository, &args.hide, "hidden names")?;
     let excluded = resolve(&repository, &args.exclude, "excluded names")?;
-    if repository.is_shallow() {
-        say("note", "this is a shallow clone: commits past its boundary are not there, and each that is reached is refused");
-    }
+    let shallow = repository.is_shallow();
     let mut progress = Progress::new(args.progress || io::stderr().is_terminal(), "commits read");
     let commits = repository.read(&[&tips[..], &hidden].concat(), &mut progress);
     progress.make_way();
-    let commits = commits?;
-    warn_of(&commits.absent);
+    let mut commits = commits?;
+    let absent = std::mem::take(&mut commits.absent);
     let store = store(commits)?;
     let graph = if args.graph { graph(&repository) } else { Vec::new() };
 
@@ -72,7 +68,15 @@ fn list(args: &Args) -> Result<u64, String> {
     if args.first_parent {
         lister = lister.first_parent();
     }
-    print_all(&lister, args)
+    let walk = lister.open().map_err(|refusal| not_opened(refusal, &store, &tips))?;
+    let refused = print_all(walk, args)?;
+    if !absent.is_empty() && !refused.any(Refusal::CommitNotFound) {
+        warn_of(&absent, shallow);
+    }
+    if refused.refusals.is_empty() {
+        return Ok(());
+    }
+    Err(refused.message(&store, &absent, shallow))
 }
 
 fn resolve(repository: &Repository, names: &[OsString], what: &str) -> Result<Vec<ObjectId>, String> {
@@ -82,15 +86,11 @@ fn resolve(repository: &Repository, names: &[OsString], what: &str) -> Result<Ve
     names.iter().map(|name| repository.resolve(name)).collect()
 }
 
-/// Names the first few commits that are not there.
-fn warn_of(absent: &[ObjectId]) {
-    const NAMED: usize = 10;
-    for id in absent.iter().take(NAMED) {
-        say("warning", &format!("commit {id}, a parent of another, is not in the repository"));
-    }
-    if absent.len() > NAMED {
-        say("warning", &format!("{} more commits are not in the repository", absent.len() - NAMED));
-    }
+/// Commits that are not there, and that the walk did not come to.
+fn warn_of(absent: &[ObjectId], shallow: bool) {
+    let clone = if shallow { "this is a shallow clone; " } else { "" };
+    let missing = counted(absent.len(), "commit");
+    say("warning", &format!("{clone}not in the repository, and the list did not come to them: {missing} ({})", named(absent)));
 }
 
 /// The commit store: of whole commits if they fit, else of their headers.
@@ -123,29 +123,62 @@ fn graph(repository: &Repository) -> Vec<u8> {
     })
 }
 
-/// Opens the walk and prints a line for each commit. The number of refusals.
-fn print_all(lister: &Lister<'_>, args: &Args) -> Result<u64, String> {
-    let walk = lister.open().map_err(not_opened)?;
-    let mut out = BufWriter::new(io::stdout().lock());
-    let mut refused = 0;
-    let mut progress = Progress::new(args.progress || (io::stderr().is_terminal() && !out.get_ref().is_terminal()), "commits listed");
-    for answer in walk {
-        match answer {
-            Ok(commit) => {
+/// Where the lines of a list go: out at once, or kept to be turned around, or only counted.
+struct Lines<'a> {
+    args: &'a Args,
+    out: BufWriter<io::StdoutLock<'static>>,
+    kept: Vec<Commit>,
+    count: u64,
+}
+
+impl Lines<'_> {
+    fn take(&mut self, commit: Commit) -> io::Result<()> {
+        self.count += 1;
+        match (self.args.count, self.args.reverse) {
+            (true, _) => Ok(()),
+            (false, true) => {
+                self.kept.push(commit);
+                Ok(())
+            }
+            (false, false) => print(&commit, self.args, &mut self.out),
+        }
+    }
+
+    fn finish(&mut self) -> io::Result<()> {
+        for commit in self.kept.iter().rev() {
+            print(commit, self.args, &mut self.out)?;
+        }
+        if self.args.count {
+            writeln!(self.out, "{}", self.count)?;
+        }
+        self.out.flush()
+    }
+}
+
+/// Prints a line for each commit, as many as are wanted. What was refused on the way.
+fn print_all(mut walk: Walk<'_>, args: &Args) -> Result<Refused, String> {
+    let mut lines = Lines { args, out: BufWriter::new(io::stdout().lock()), kept: Vec::new(), count: 0 };
+    let mut refused = Refused::default();
+    let mut progress = Progress::new(args.progress || (io::stderr().is_terminal() && !io::stdout().is_terminal()), "commits listed");
+    while lines.count < args.max_count.unwrap_or(u64::MAX) {
+        match walk.next() {
+            Some(Ok(commit)) => {
                 progress.step();
-                if let Err(error) = print(&commit, args, &mut out) {
+                if let Err(error) = lines.take(commit) {
                     return stopped(error, refused);
                 }
             }
-            Err(refusal) => {
-                refused += 1;
-                progress.make_way();
-                say("warning", &refusal.to_string());
+            Some(Err(refusal)) => {
+                // The refusal of hiding itself takes away all that waited, and is no commit's.
+                let numbers = walk.numbers();
+                refused.hiding |= numbers.struck == numbers.admitted;
+                refused.refusals.push(refusal);
             }
+            None => break,
         }
     }
     progress.make_way();
-    match out.flush() {
+    match lines.finish() {
         Ok(()) => Ok(refused),
         Err(error) => stopped(error, refused),
     }
@@ -169,7 +202,7 @@ fn or_dash<T: ToString>(value: Option<T>) -> String {
 }
 
 /// Output that cannot go on. A reader that has enough (`| head`) is no fault.
-fn stopped(error: io::Error, refused: u64) -> Result<u64, String> {
+fn stopped(error: io::Error, refused: Refused) -> Result<Refused, String> {
     if error.kind() == io::ErrorKind::BrokenPipe {
         return Ok(refused);
     }
@@ -177,13 +210,16 @@ fn stopped(error: io::Error, refused: u64) -> Result<u64, String> {
 }
 
 /// Why the walk was not opened, and what to do.
-fn not_opened(refusal: Refusal) -> String {
+fn not_opened(refusal: Refusal, store: &[u8], tips: &[ObjectId]) -> String {
     let advice = match refusal {
         Refusal::UnknownGraph | Refusal::CorruptGraph => {
-            "\nLeave git's commit-graph file out with --no-graph, or have git write it anew: git commit-graph write --reachable"
+            "\nLeave git's commit-graph file out with --no-graph, or have git write it anew: git commit-graph write --reachable".into()
         }
-        Refusal::TipUnreadable => "\nThe default order, breadth, needs no committer time.",
-        _ => "",
+        Refusal::TipUnreadable => {
+            let which = refused::unreadable_tip(store, tips).map_or(String::new(), |tip| format!(": {tip}"));
+            format!("{which}\n--order breadth needs no committer time.")
+        }
+        _ => String::new(),
     };
     format!("{refusal}{advice}")
 }

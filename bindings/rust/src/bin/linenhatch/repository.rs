@@ -63,7 +63,15 @@ impl Repository {
         commit.push("^{commit}");
         let words = [OsStr::new("rev-parse"), OsStr::new("--verify"), OsStr::new("--quiet"), &commit];
         let text = self.text(&words).unwrap_or_default();
-        ObjectId::from_hex(&text).ok_or_else(|| format!("'{}' is the name of no commit here", name.to_string_lossy()))
+        ObjectId::from_hex(&text).ok_or_else(|| match name == "HEAD" && self.is_empty() {
+            true => "this repository has no commits yet".into(),
+            false => format!("'{}' is the name of no commit here", name.to_string_lossy()),
+        })
+    }
+
+    /// Whether no name of the repository leads to a commit.
+    fn is_empty(&self) -> bool {
+        self.text(&["rev-list", "--max-count=1", "--all"]).is_ok_and(|text| text.is_empty())
     }
 
     /// Whether history was cut off when the repository was cloned.

@@ -1,0 +1,138 @@
+//! Which commits a walk's refusals were about. An answer that refuses names no commit, so those that may be meant are tried alone, each by a walk
+//! of its own.
+
+use linenhatch::{store_from_commits, Lister, ObjectId, Order, Refusal, ID_BYTES};
+
+/// The refusals that a walk met on its way, and what is to be said of them.
+#[derive(Default)]
+pub struct Refused {
+    /// One for each answer that refused a commit.
+    pub refusals: Vec<Refusal>,
+    /// The walk ended before its first commit, since one could not be read that hiding had to read.
+    pub hiding: bool,
+}
+
+const NAMED: usize = 10;
+
+impl Refused {
+    pub fn any(&self, refusal: Refusal) -> bool {
+        self.refusals.contains(&refusal)
+    }
+
+    /// Why the list is not whole, in a sentence for each kind of refusal, with the commits that are meant.
+    pub fn message(&self, store: &[u8], absent: &[ObjectId], shallow: bool) -> String {
+        let lead = match self.hiding {
+            true => "nothing is listed, since hiding has to read all that the names reach",
+            false => "the list is not whole",
+        };
+        if shallow && self.refusals.iter().all(|&refusal| refusal == Refusal::CommitNotFound) {
+            let behind = counted(absent.len(), "commit");
+            let are = if absent.len() == 1 { "is" } else { "are" };
+            return format!(
+                "this is a shallow clone, and {lead}: {behind} past its boundary {are} not there (refusal 9, commit not found); `git fetch --unshallow` brings them"
+            );
+        }
+        let mut message = format!("{lead}: {}", counted(self.refusals.len(), "refusal"));
+        for refusal in Refusal::ALL {
+            let count = self.refusals.iter().filter(|&&other| other == refusal).count();
+            if count > 0 {
+                let ids = if refusal == Refusal::CommitNotFound { absent.to_vec() } else { alone(store, refusal, self.hiding) };
+                message += &format!("\n  {refusal}{}", meant(&ids, count));
+            }
+        }
+        message
+    }
+}
+
+/// A number and a word.
+pub fn counted(count: usize, word: &str) -> String {
+    format!("{count} {word}{}", if count == 1 { "" } else { "s" })
+}
+
+/// Some ids, the first few by name.
+pub fn named(ids: &[ObjectId]) -> String {
+    let mut text: Vec<String> = ids.iter().take(NAMED).map(ObjectId::to_string).collect();
+    if ids.len() > NAMED {
+        text.push(format!("{} more", ids.len() - NAMED));
+    }
+    text.join(", ")
+}
+
+/// The commits that are meant by so many refusals: these, or some of these.
+fn meant(ids: &[ObjectId], count: usize) -> String {
+    match ids.len() {
+        0 => String::new(),
+        all if all == count => format!(": {}", named(ids)),
+        _ => format!(", {count} of: {}", named(ids)),
+    }
+}
+
+/// The first tip that an order by time refuses for its header.
+pub fn unreadable_tip(store: &[u8], tips: &[ObjectId]) -> Option<ObjectId> {
+    let refused = |tip: &&ObjectId| Lister::new(store).tips(&[**tip]).order(Order::Newest).open().err() == Some(Refusal::TipUnreadable);
+    tips.iter().find(refused).copied()
+}
+
+/// The commits of a store that a walk refuses so when it comes to them, or when it reads them for hiding.
+fn alone(store: &[u8], refusal: Refusal, hiding: bool) -> Vec<ObjectId> {
+    entries(store).filter(|(id, body)| tried(*id, body, hiding) == Some(refusal)).map(|(id, _)| id).collect()
+}
+
+fn tried(id: ObjectId, body: &[u8], hiding: bool) -> Option<Refusal> {
+    let store = store_from_commits([(id, body)]).ok()?;
+    let hidden = if hiding { &[id][..] } else { &[] };
+    Lister::new(&store).tips(&[id]).hide(hidden).open().ok()?.next()?.err()
+}
+
+/// The commits of a store, each with its body.
+fn entries(store: &[u8]) -> impl Iterator<Item = (ObjectId, &[u8])> {
+    let number = |at: usize| u32::from_be_bytes(store[at..at + 4].try_into().expect("4 bytes")) as usize;
+    let (start, mut from) = (number(store.len() - 8), 0);
+    store[start..store.len() - 8].chunks_exact(ID_BYTES + 4).map(move |entry| {
+        let (id, end) = entry.split_at(ID_BYTES);
+        let end = u32::from_be_bytes(end.try_into().expect("4 bytes")) as usize;
+        let body = &store[from..end];
+        from = end;
+        (ObjectId(id.try_into().expect("an id")), body)
+    })
+}
+
+#[cfg(test)]
+mod tests {
+    use super::*;
+
+    const GOOD: &str = "tree 0000000000000000000000000000000000000000\nauthor A <a> 5 +0000\ncommitter A <a> 5 +0000\n\n";
+
+    #[test]
+    fn commits_that_are_refused_alone() {
+        let id = |n| ObjectId([n; 20]);
+        let no_author = GOOD.replace("author ", "writer ");
+        let no_committer = GOOD.replace("committer ", "keeper ");
+        let store = store_from_commits([(id(3), GOOD), (id(1), &no_author), (id(2), &no_committer)]).unwrap();
+        assert_eq!(entries(&store).map(|(id, body)| (id, body.len())).collect::<Vec<_>>(), [(id(1), 92), (id(2), 89), (id(3), 92)]);
+        assert_eq!(alone(&store, Refusal::CommitUnreadable, false), [id(1)]);
+        assert_eq!(alone(&store, Refusal::CommitUnreadable, true), [id(1), id(2)]);
+        assert_eq!(alone(&store, Refusal::TooManyParents, true), []);
+        assert_eq!(unreadable_tip(&store, &[id(3), id(2), id(1)]), Some(id(2)));
+    }
+
+    #[test]
+    fn what_is_said() {
+        let id = |n| ObjectId([n; 20]);
+        let store = store_from_commits([(id(3), GOOD)]).unwrap();
+        let lost = |count| Refused { refusals: vec![Refusal::CommitNotFound; count], hiding: false };
+        let one = lost(1).message(&store, &[id(7)], false);
+        assert!(
+            one.starts_with("the list is not whole: 1 refusal\n") && one.ends_with(&format!("(refusal 9, commit not found): {}", id(7))),
+            "{one}"
+        );
+        let some = lost(1).message(&store, &[id(7), id(8)], false);
+        assert!(some.ends_with(&format!(", 1 of: {}, {}", id(7), id(8))), "{some}");
+        let many: Vec<ObjectId> = (0..12).map(id).collect();
+        assert!(lost(12).message(&store, &many, false).ends_with(&format!("{}, 2 more", id(9))));
+        let shallow = lost(12).message(&store, &many, true);
+        assert!(!shallow.contains('\n') && shallow.contains("12 commits past its boundary"), "{shallow}");
+        let hiding = Refused { refusals: vec![Refusal::CommitNotFound], hiding: true }.message(&store, &[id(7)], true);
+        assert!(hiding.contains("nothing is listed"), "{hiding}");
+    }
+}
