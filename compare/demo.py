@@ -12,6 +12,7 @@ import time
 TOP = os.path.join(os.path.dirname(os.path.abspath(__file__)), "..")
 DATA = os.path.join(TOP, "crates", "history", "data")
 FILES = ("store", "graph", "tips", "hidden")
+SIGNALS = (signal.SIGTERM, signal.SIGINT, signal.SIGHUP)
 
 
 def copied(folder, *without, **content):
@@ -60,13 +61,20 @@ def of_session(session):
     return out
 
 
+def unignored():
+    """In the child: a signal that this run ignores (nohup, or a job in the background) is not ignored there."""
+    for number in SIGNALS:
+        signal.signal(number, signal.SIG_DFL)
+
+
 def stopped(number):
-    """The status after a signal to the demo alone, while its programs run, and what still runs a second later."""
-    p = subprocess.Popen(["./demo"], cwd=TOP, stdin=subprocess.DEVNULL, stdout=subprocess.DEVNULL, stderr=subprocess.DEVNULL, start_new_session=True)
-    until = time.monotonic() + 30
-    while len(of_session(p.pid)) < 4 and p.poll() is None and time.monotonic() < until:
+    """After a signal to the demo alone, while its programs run: how many ran, its status, and what still runs a second later."""
+    p = subprocess.Popen(["./demo"], cwd=TOP, stdin=subprocess.DEVNULL, stdout=subprocess.DEVNULL, stderr=subprocess.DEVNULL, start_new_session=True,
+                         preexec_fn=unignored)
+    until, ran = time.monotonic() + 30, 0
+    while ran < 4 and p.poll() is None and time.monotonic() < until:
         time.sleep(0.05)
-    ran = len(of_session(p.pid))
+        ran = len(of_session(p.pid))
     p.send_signal(number)
     status = p.wait()
     time.sleep(1)
@@ -103,7 +111,7 @@ def main():
             if got[0] != status or out not in got[1] or err not in got[2]:
                 bad += 1
                 print(f"./demo {' '.join(words)}: status {got[0]} for {status}\n{got[1][-300:]}{got[2][-300:]}")
-    for number in (signal.SIGTERM, signal.SIGINT, signal.SIGHUP):
+    for number in SIGNALS:
         ran, status, left = stopped(number)
         count += 1
         if ran < 4 or status != 128 + number or left:
