@@ -15,6 +15,7 @@ import generate
 from compare import expected
 
 ENDED, NO_ROOM, CLOSED = 100, 101, 12
+RECORD = 18  # words
 GUARD = 0x5C
 
 
@@ -47,7 +48,7 @@ class Library:
         self.lib.linenhatch_places.restype = ctypes.c_size_t
         self.lib.linenhatch_open.restype = self.lib.linenhatch_next.restype = ctypes.c_uint32
 
-    def open(self, case, record=12, numbers=7):
+    def open(self, case, record=RECORD, numbers=7):
         lists = [case.pair.store, case.pair.graph, b"".join(case.tips), b"".join(case.hidden), b"".join(case.barred)]
         lent = [lend(data) for data in lists]
         self.kept = [part for _, part in lent]
@@ -78,12 +79,12 @@ class Library:
 
 def without_room(library, case):
     """None, or what differs where one of the library's own buffers is too short: that is said before all else, and nothing is altered."""
-    for record, numbers in ((11, 7), (12, 2), (0, 0)):
+    for record, numbers in ((RECORD - 1, 7), (RECORD, 2), (0, 0)):
         result = library.open(case, record, numbers)
         if result != NO_ROOM or not library.unaltered(library.own() + library.memory):
             return "opening without room: %d" % result
     opened = library.open(case)
-    for name, kind, n in (("record", ctypes.c_uint64, 11), ("id", ctypes.c_uint8, 19), ("numbers", ctypes.c_uint64, 6), ("seconds", ctypes.c_int64, 0)):
+    for name, kind, n in (("record", ctypes.c_uint64, RECORD - 1), ("id", ctypes.c_uint8, 19), ("numbers", ctypes.c_uint64, 6), ("seconds", ctypes.c_int64, 0)):
         kept = getattr(library, name)
         before = [bytes(b.all) for b in library.memory + library.own()]
         setattr(library, name, Buffer(kind, n))

@@ -33,7 +33,7 @@ extern "C" {
 #define LINENHATCH_TIMES(places) ((size_t)(places))                       /* int64_t */
 #define LINENHATCH_LINE(places) (5u * (size_t)(places))                   /* uint32_t */
 #define LINENHATCH_PARENTS 5120u                                          /* uint8_t: 256 ids */
-#define LINENHATCH_RECORD 12u                                             /* uint64_t */
+#define LINENHATCH_RECORD 18u                                             /* uint64_t */
 #define LINENHATCH_OPEN_NUMBERS 3u                                        /* uint64_t, of an opening */
 #define LINENHATCH_NUMBERS 7u                                             /* uint64_t, of a call */
 #define LINENHATCH_SECONDS 1u                                             /* int64_t */

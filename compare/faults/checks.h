@@ -173,7 +173,7 @@ static void check_places(uint32_t result)
 /* The result of an opening where it is known beforehand, else ANY. */
 static uint32_t opening_asked(void)
 {
-    if (lent[RECORD].count < 12 || lent[NUMBERS].count < 3)
+    if (lent[RECORD].count < LINENHATCH_RECORD || lent[NUMBERS].count < 3)
         return NO_ROOM;
     bool ragged = false;
     for (unsigned k = 0; k < INPUTS; k++) {
@@ -210,7 +210,7 @@ static void check_refused_opening(void)
 {
     for (unsigned k = 0; k < MEMORY; k++)
         check_same(k, 0, "by a refused opening");
-    check_zeros(RECORD, 96, "after a refused opening");
+    check_zeros(RECORD, 8 * LINENHATCH_RECORD, "after a refused opening");
     check_zeros(NUMBERS, 24, "after a refused opening");
 }
 
@@ -232,7 +232,7 @@ static void check_open(uint32_t result)
     check_same(SECONDS, 0, "by an opening");
     if ((result > 8 && result != NO_ROOM) || (asked != ANY && result != asked))
         fail("an opening gives %" PRIu32 " for %" PRIu32, result, asked);
-    if (lent[RECORD].count < 12 || lent[NUMBERS].count < 3) {
+    if (lent[RECORD].count < LINENHATCH_RECORD || lent[NUMBERS].count < 3) {
         for (unsigned k = 0; k < LENT; k++)
             check_same(k, 0, "where there is no room");
         return;
@@ -240,7 +240,7 @@ static void check_open(uint32_t result)
     check_places(result);
     if (!opening_can(result))
         fail("an opening cannot give %" PRIu32 " here", result);
-    check_same(RECORD, 96, "past its words");
+    check_same(RECORD, 8 * LINENHATCH_RECORD, "past its words");
     check_same(NUMBERS, 24, "past an opening's");
     if (result)
         check_refused_opening();
@@ -295,7 +295,7 @@ static void check_closed(void)
 
 static bool no_room(void)
 {
-    return lent[RECORD].count < 12 || lent[IDENT].count < ID || lent[NUMBERS].count < 7 || lent[SECONDS].count < 1;
+    return lent[RECORD].count < LINENHATCH_RECORD || lent[IDENT].count < ID || lent[NUMBERS].count < 7 || lent[SECONDS].count < 1;
 }
 
 static void check_next(uint32_t result)
@@ -310,7 +310,7 @@ static void check_next(uint32_t result)
     }
     if (result != 0 && result != END && (result < 9 || result > 12))
         fail("a call gives %" PRIu32, result);
-    check_same(RECORD, 96, "past its words");
+    check_same(RECORD, 8 * LINENHATCH_RECORD, "past its words");
     check_same(IDENT, ID, "past the id");
     check_same(NUMBERS, 56, "past a call's");
     check_same(SECONDS, 8, "past the first");

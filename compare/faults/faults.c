@@ -200,7 +200,7 @@ static void opening_without_room(void)
     size_lent(places_given, 0);
     fill_all();
     if (chance(50))
-        lent[RECORD].count = chance(50) ? 11 : below(12);
+        lent[RECORD].count = chance(50) ? LINENHATCH_RECORD - 1 : below(LINENHATCH_RECORD);
     else
         lent[NUMBERS].count = below(3);
     if (chance(20))
@@ -575,8 +575,8 @@ static void all_random(void)
         shorten(NAMES, LENT);
     fill_all();
     walk = (struct walk){.places = places};
-    if (lent[RECORD].count >= 12) {
-        for (unsigned k = 0; k < 12; k++)
+    if (lent[RECORD].count >= LINENHATCH_RECORD) {
+        for (unsigned k = 0; k < LINENHATCH_RECORD; k++)
             record()[k] = k < 6 ? below(2) : odd_word(places);
         record()[0] = chance(90);
         record()[6] = chance(80) ? places : odd_word(places);

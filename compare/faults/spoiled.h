@@ -4,13 +4,13 @@ static unsigned fault;
 
 static bool short_of_room(void)
 {
-    return lent[RECORD].count < 12 || lent[IDENT].count < ID || lent[NUMBERS].count < 7 || lent[SECONDS].count < 1;
+    return lent[RECORD].count < LINENHATCH_RECORD || lent[IDENT].count < ID || lent[NUMBERS].count < 7 || lent[SECONDS].count < 1;
 }
 
 static uint32_t spoiled_open(uint32_t result)
 {
     uint64_t *record = (uint64_t *)lent[RECORD].at, *numbers = (uint64_t *)lent[NUMBERS].at;
-    bool room = lent[RECORD].count >= 12 && lent[NUMBERS].count >= 3;
+    bool room = lent[RECORD].count >= LINENHATCH_RECORD && lent[NUMBERS].count >= 3;
     if (fault == 1 && result && lent[MARKS].bytes) /* a refused opening alters a lent byte */
         lent[MARKS].at[0] ^= 1;
     if (fault == 2 && result && room) /* a refused opening leaves the record open */

@@ -114,7 +114,7 @@ fn paint_from(
 
 // Paints: the commits that wait get VISIBLE, the hidden tips HIDDEN, and these marks go from parent to parent, with STALE where both have
 // met. The frontier is every id that has both.
-pub fn paint(
+pub fn compute_hidden_frontier(
     names: &mut [u8],
     marks: &mut [u8],
     levels: &mut [u32],
@@ -137,7 +137,7 @@ pub fn paint(
         return Marked::NoRoom;
     }
     prepare::wash(marks, cap);
-    prepare::collect(line, names, waiting, 2 * cap);
+    prepare::visible_inputs_sorted(line, names, waiting, 2 * cap);
     paint_from(
         names,
         marks,

@@ -18,8 +18,8 @@ pub fn wash(marks: &mut [u8], cap: usize)
     }
 }
 
-// Sets down the slots that wait from `from` on, by rising id.
-pub fn collect(line: &mut [u32], names: &[u8], q: Queue, from: usize)
+// Sets down the slots that wait from `from` on, by rising id (`visible_inputs_sorted` in the Rust: no id waits twice).
+pub fn visible_inputs_sorted(line: &mut [u32], names: &[u8], q: Queue, from: usize)
     ensures { λ r. ⌜ Collects (now (names .entry)) (now (line .entry)) q from (now (line .exit)) ⌝ }
 {
     let n = q.count;

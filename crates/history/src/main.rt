@@ -97,10 +97,11 @@ fn refusal(r: Refusal) {
 
 // A commit's line.
 fn commit(a: Answer) {
-    id(&a.id);
-    seconds(a.time);
-    generation(a.generation);
-    count(b" parents ", a.parents as u64);
+    let info = a.info;
+    id(&info.id);
+    seconds(info.time);
+    generation(info.generation);
+    count(b" parents ", info.parents as u64);
     text(b"\n");
 }
 

@@ -22,7 +22,7 @@ use Rattle.walk.proofs.Outcomes.{refusal-number-between}
 use Rattle.state.specs.declared.Record.{Record}
 use Rattle.traverse.specs.Contract.{Files, Lent, NextSays}
 use Rattle.traverse.specs.Demand.{Call, Calls, no-more-calls, call, CallIs, here, after, answersOf, idIf, handedOut, refusedIf, refusedCommits}
-use Rattle.wire.specs.Words.{recordOf, wordsAfter, answerWords, roomToCall}
+use Rattle.wire.specs.Words.{recordWords, recordOf, wordsAfter, answerWords, roomToCall}
 use Rattle.wire.specs.Numbers.{PutsAnswer}
 use Rattle.linenhatch.specs.Listing as library
 use Rattle.linenhatch.specs.Listing.{LibraryCall, LibraryCalls, idSeen, admittedSeen, struckSeen, waitingSeen, idIfCommit, idsSeen, oneIfRefused, refusedSeen}
@@ -73,12 +73,12 @@ as-many (pair b p) = ap suc (as-many p)
 
 module _ (words id numbers : List ℕ) (seconds : List ℤ) (h : roomToCall words id numbers seconds ≡ true) where
   abbrev tests : Bool
-  tests = leb 12 (length words) && leb idBytes (length id)
+  tests = leb recordWords (length words) && leb idBytes (length id)
 
   long-id : idBytes ≤ length id
   unfolding roomToCall
   long-id =
-      leb-true idBytes (length id) (and-second (leb 12 (length words)) (leb idBytes (length id)) (and-first tests (leb 7 (length numbers)) (and-first (tests && leb 7 (length numbers)) (leb 1 (length seconds)) h)))
+      leb-true idBytes (length id) (and-second (leb recordWords (length words)) (leb idBytes (length id)) (and-first tests (leb 7 (length numbers)) (and-first (tests && leb 7 (length numbers)) (leb 1 (length seconds)) h)))
 
   long-numbers : 7 ≤ length numbers
   unfolding roomToCall
@@ -89,22 +89,22 @@ module _ (words id numbers : List ℕ) (seconds : List ℤ) (h : roomToCall word
 -- the answer a, in the buffers of the call c
 pub record Sees (c : LibraryCall) (a : Given) : Type 0 where
   pub result : c .result ≡ outcomeNumber (a .outcome)
-  pub id : idSeen c ≡ a .id
+  pub id : idSeen c ≡ a .info .id
   pub admitted : admittedSeen c ≡ a .admitted
   pub struck : struckSeen c ≡ a .struck
   pub waiting : waitingSeen c ≡ a .waiting
 
-pub sees : {c : LibraryCall} {d : Call} → Behind c d → length (d .out .answer .id) ≡ idBytes → Sees c (d .out .answer)
+pub sees : {c : LibraryCall} {d : Call} → Behind c d → length (d .out .answer .info .id) ≡ idBytes → Sees c (d .out .answer)
 unfolding answerWords
 sees {c} {d} b e =
     let a = d .out .answer in
     let i = long-id (c .words) (c .id) (c .numbers) (c .seconds) (b .room) in
     let n = long-numbers (c .words) (c .id) (c .numbers) (c .seconds) (b .room) in
-    let x = b .put .id-is ∙ setDown-fits (c .id) 0 (a .id) (omega arith) in
+    let x = b .put .id-is ∙ setDown-fits (c .id) 0 (a .info .id) (omega arith) in
     let w = b .put .numbers-are ∙ setDown-fits (c .numbers) 0 (answerWords a) (omega arith) in
     record {
       result = b .put .result;
-      id = ap (take idBytes) x ∙ take-append-le idBytes (a .id) (drop (0 + length (a .id)) (c .id)) (omega arith) ∙ take-all idBytes (a .id) (omega arith);
+      id = ap (take idBytes) x ∙ take-append-le idBytes (a .info .id) (drop (0 + length (a .info .id)) (c .id)) (omega arith) ∙ take-all idBytes (a .info .id) (omega arith);
       admitted = ap (λ (l : List ℕ). getD l 0 0) w;
       struck = ap (λ (l : List ℕ). getD l 1 0) w;
       waiting = ap (λ (l : List ℕ). getD l 2 0) w;
@@ -114,7 +114,7 @@ pub data AllSee : List LibraryCall → List Given → Type 0 where
   none-seen : AllSee [] []
   seen : {c : LibraryCall} {a : Given} {cs : List LibraryCall} {as′ : List Given} → Sees c a → AllSee cs as′ → AllSee (c ∷ cs) (a ∷ as′)
 
-pub all-see : {cs : List LibraryCall} {ds : List Call} → Paired cs ds → ((k : ℕ) (d : Call) → CallIs ds k d → length (d .out .answer .id) ≡ idBytes) → AllSee cs (answersOf ds)
+pub all-see : {cs : List LibraryCall} {ds : List Call} → Paired cs ds → ((k : ℕ) (d : Call) → CallIs ds k d → length (d .out .answer .info .id) ≡ idBytes) → AllSee cs (answersOf ds)
 unfolding answersOf
 all-see no-pair h = none-seen
 all-see (pair {d = d} b p) h = seen (sees b (h zero d here)) (all-see p (λ k e q. h (suc k) e (after q)))

@@ -16,17 +16,17 @@ use Rattle.walk.proofs.Outcomes.{outcome-number-own}
 use Rattle.state.specs.declared.Record.{Record}
 use Rattle.traverse.specs.declared.Out.{Out}
 use Rattle.traverse.specs.Contract.{Files, Lent, NextSays}
-use Rattle.wire.specs.Words.{recordOf, roomToCall, PutsRecord}
+use Rattle.wire.specs.Words.{recordWords, recordOf, roomToCall, PutsRecord}
 use Rattle.wire.specs.Numbers.{PutsAnswer}
 use Rattle.linenhatch.specs.Library.{noRoom, Made, LibraryNext}
 
-long-words : (words id numbers : List ℕ) (seconds : List ℤ) → roomToCall words id numbers seconds ≡ true → 12 ≤ length words
+long-words : (words id numbers : List ℕ) (seconds : List ℤ) → roomToCall words id numbers seconds ≡ true → recordWords ≤ length words
 unfolding roomToCall
 long-words words id numbers seconds h =
-    let a = leb 12 (length words) in
+    let a = leb recordWords (length words) in
     let b = leb idBytes (length id) in
     let d = leb 7 (length numbers) in
-    leb-true 12 (length words) (and-first a b (and-first (a && b) d (and-first (a && b && d) (leb 1 (length seconds)) h)))
+    leb-true recordWords (length words) (and-first a b (and-first (a && b) d (and-first (a && b && d) (leb 1 (length seconds)) h)))
 
 pub no-room-says : (f : Files) (m : Lent) (words id numbers : List ℕ) (seconds : List ℤ) {b : Bool} → b ≡ roomToCall words id numbers seconds → b ≡ false
     → LibraryNext f m m words words id id numbers numbers seconds seconds noRoom
@@ -36,7 +36,7 @@ no-room-says f m words id numbers seconds r h = record {
 }
 
 -- the record that the words stand for after the call is the one that it gave back
-given-back : {f : Files} {m m′ : Lent} {words words′ id id′ numbers numbers′ : List ℕ} {seconds seconds′ : List ℤ} {n : ℕ} {o : Out} → 12 ≤ length words → NextSays f (recordOf words) m o m′
+given-back : {f : Files} {m m′ : Lent} {words words′ id id′ numbers numbers′ : List ℕ} {seconds seconds′ : List ℤ} {n : ℕ} {o : Out} → recordWords ≤ length words → NextSays f (recordOf words) m o m′
     → PutsAnswer (o .answer) id id′ numbers numbers′ seconds seconds′ n → PutsRecord n (o .record) words words′ → recordOf words′ ≡ o .record
 given-back {words = words} {n = n} {o = o} l s a w =
     byCases (eqb n 12)
@@ -46,7 +46,7 @@ given-back {words = words} {n = n} {o = o} l s a w =
     ap recordOf same ∙ sym (s .twelve c .0))
     (λ t. w .back t l)
 
-made-as : {f : Files} {m m′ : Lent} {words words′ id id′ numbers numbers′ : List ℕ} {seconds seconds′ : List ℤ} {n : ℕ} {o : Out} → 12 ≤ length words → NextSays f (recordOf words) m o m′
+made-as : {f : Files} {m m′ : Lent} {words words′ id id′ numbers numbers′ : List ℕ} {seconds seconds′ : List ℤ} {n : ℕ} {o : Out} → recordWords ≤ length words → NextSays f (recordOf words) m o m′
     → PutsAnswer (o .answer) id id′ numbers numbers′ seconds seconds′ n → PutsRecord n (o .record) words words′
     → Made f m m′ words words′ id id′ numbers numbers′ seconds seconds′ n
 made-as {o = o} l s a w = record { out = o; says = s; answer = a; words-are = w .is; record-is = given-back l s a w }

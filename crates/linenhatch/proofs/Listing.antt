@@ -73,9 +73,9 @@ gives {c} {d} {a} b g = record {
 
 -- cs are the library's calls, ds the walk's behind them
 module _ (i : Input) (st : State) (e : openWalk i true ≡ opened st) {f : Files} {r : Record} {m : Lent} (cs : List LibraryCall) (all : All f r m cs) (w : OfTheWalk i (all .list)) where
-  wide : (k : ℕ) (d : Call) → CallIs (all .list) k d → length (d .out .answer .id) ≡ idBytes
+  wide : (k : ℕ) (d : Call) → CallIs (all .list) k d → length (d .out .answer .info .id) ≡ idBytes
   unfolding OfTheWalk given
-  wide k d p = ap (λ (a : Given). length (a .id)) (w k d p .all-fields) ∙ answer-wide i st e k
+  wide k d p = ap (λ (a : Given). length (a .info .id)) (w k d p .all-fields) ∙ answer-wide i st e k
 
   all-seen : AllSee cs (answersOf (all .list))
   all-seen = all-see (all .paired) wide

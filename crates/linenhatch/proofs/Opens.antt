@@ -13,18 +13,18 @@ use Rattle.walk.specs.Opening.{Input}
 use Rattle.walk.specs.Given.{openNumber}
 use Rattle.traverse.specs.declared.Opened.{Opened}
 use Rattle.traverse.specs.Contract.{Lent, OpenSays}
-use Rattle.wire.specs.Words.{openWords, roomToOpen, Encodes}
+use Rattle.wire.specs.Words.{recordWords, openWords, roomToOpen, Encodes}
 use Rattle.wire.specs.Numbers.{PutsOpenAnswer}
 use Rattle.linenhatch.specs.Library.{noRoom, Tried, LibraryOpens}
 
-long-words : (words numbers : List ℕ) → roomToOpen words numbers ≡ true → 12 ≤ length words
+long-words : (words numbers : List ℕ) → roomToOpen words numbers ≡ true → recordWords ≤ length words
 unfolding roomToOpen
-long-words words numbers h = leb-true 12 (length words) (and-first (leb 12 (length words)) (leb 3 (length numbers)) h)
+long-words words numbers h = leb-true recordWords (length words) (and-first (leb recordWords (length words)) (leb 3 (length numbers)) h)
 
 pub no-room-says : (i : Input) (m : Lent) (words numbers : List ℕ) {b : Bool} → b ≡ roomToOpen words numbers → b ≡ false → LibraryOpens i m m words words numbers numbers noRoom
 no-room-says i m words numbers r h = record { no-room = λ g. (refl, refl, refl, refl); tried = λ g. clash (r ∙ g) h }
 
-tried-as : {i : Input} {m m′ : Lent} {words words′ numbers numbers′ : List ℕ} {n : ℕ} {o : Opened} → 12 ≤ length words → OpenSays i m o m′
+tried-as : {i : Input} {m m′ : Lent} {words words′ numbers numbers′ : List ℕ} {n : ℕ} {o : Opened} → recordWords ≤ length words → OpenSays i m o m′
     → Encodes (o .record) words words′ → PutsOpenAnswer (o .answer) numbers numbers′ n → Tried i m m′ words words′ numbers numbers′ n
 tried-as {numbers = numbers} {o = o} l s w a = record {
   out = o;

@@ -15,7 +15,8 @@ use Rattle.walk.specs.AnyInput.{handedBy, handedIds}
 use Rattle.walk.specs.Given.{joined, outcomeOf, parentsGiven}
 use Rattle.walk.proofs.Stays.{ended-next, end-ended, stays-from}
 use Rattle.state.specs.Reads.{Reads}
-use Rattle.traverse.specs.Contract.{Lent, shapeOf}
+use Rattle.state.specs.Shapes.{shapeOf}
+use Rattle.traverse.specs.Contract.{Lent}
 use Rattle.lister.specs.declared.Listing.{Listing}
 use Rattle.lister.specs.Walked.{refusedBy, refusals, firstRefusal, reasonAfter, parentsLeft, putDown}
 use Rattle.lister.specs.Says.{Made}

@@ -21,7 +21,7 @@ use Rattle.opening.proofs.Opened.{opens}
 use Rattle.state.specs.declared.Record.{Record}
 use Rattle.state.specs.Reads.{closedRecord}
 use Rattle.traverse.specs.declared.Opened.{Opened}
-use Rattle.traverse.specs.Contract.{Lent, lengthsOf, shapeOf, OpenSays}
+use Rattle.traverse.specs.Contract.{Lent, lengthsOf, OpenSays}
 use Rattle.traverse.specs.Demand.{filesOf}
 use Rattle.lister.specs.declared.Listing.{Listing}
 use Rattle.lister.specs.Walked.{wholeList, refusals, firstRefusal, parentsLeft, putDown, mostCalls}
@@ -36,7 +36,6 @@ module _ {i : Input} {m : Lent} {o : Opened} {m₁ : Lent} (s : OpenSays i m o m
   refused-cap r e = ap (λ (q : Record). q .queue .cap) (s .refused-open r e .0)
 
   opened-cap : (st : State) → openWalk i (roomFor i (lengthsOf m)) ≡ opened st → o .record .queue .cap ≡ P i
-  unfolding shapeOf
   opened-cap st e = s .accepted-open st e .cap
 
   -- the number of slots is small

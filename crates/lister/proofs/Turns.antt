@@ -19,8 +19,9 @@ use Rattle.walk.specs.Given.{Given, given, outcomeOf, idOfKind, parentsGiven}
 use Rattle.opening.specs.Checks.{checkedBy}
 use Rattle.opening.proofs.Opened.{opens}
 use Rattle.state.specs.Reads.{Reads}
+use Rattle.state.specs.Shapes.{shapeOf}
 use Rattle.traverse.specs.declared.Out.{Out}
-use Rattle.traverse.specs.Contract.{Files, Lent, inputWith, lengthsOf, shapeOf, NextSays}
+use Rattle.traverse.specs.Contract.{Files, Lent, inputWith, lengthsOf, NextSays}
 use Rattle.lister.specs.declared.Listing.{Listing}
 use Rattle.lister.specs.Walked.{refusals, firstRefusal, parentsLeft, putDown, commitsAfter, refusedAfter, reasonAfter, idsAfter, callsAfter}
 use Rattle.lister.specs.Says.{counted, Made, CallsAll}
@@ -34,13 +35,13 @@ module _ {i : Input} {ids₀ b₀ : List ℕ} {k : ℕ} {l : Listing} {m : Lent}
   unfolding given
   says = ap (λ (q : Given). q .outcome) g
 
-  names-id : o .answer .id ≡ idOfKind (answerAt i k .kind)
+  names-id : o .answer .info .id ≡ idOfKind (answerAt i k .kind)
   unfolding given
-  names-id = ap (λ (q : Given). q .id) g
+  names-id = ap (λ (q : Given). q .info .id) g
 
   -- its answer is counted, and the listing is that of one call more
   made-next : {l′ : Listing} {m′ : Lent} {ids′ : List ℕ} → m′ .parents ≡ parentsGiven (answerAt i k) (m .parents) → Reads (o .record) (m′ .memory) (shapeOf i) (stateAfter i (suc k))
-      → l′ ≡ counted l o → ids′ ≡ idsAfter ids (l .commits) (o .answer .outcome) (o .answer .id) → Made i ids₀ b₀ (suc k) l′ m′ ids′
+      → l′ ≡ counted l o → ids′ ≡ idsAfter ids (l .commits) (o .answer .outcome) (o .answer .info .id) → Made i ids₀ b₀ (suc k) l′ m′ ids′
   made-next {l′} {m′} p r c w =
       let a : Answer = answerAt i k in
       let h : handedIds (answers i (suc k)) ≡ handedIds (answers i k) ++ handedBy (a .kind) = ap handedIds (answers-more i k) ∙ handed-more (answers i k) a in
@@ -65,9 +66,9 @@ module _ {i : Input} {ids₀ b₀ : List ℕ} {k : ℕ} {l : Listing} {m : Lent}
             ∙ sym (ap firstRefusal (answers-more i k) ∙ first-more (answers i k) a);
         put-down =
             w
-            ∙ ap (λ (b : List ℕ). idsAfter b (l .commits) (o .answer .outcome) (o .answer .id)) (d .put-down)
-            ∙ ap (λ (n : ℕ). idsAfter (putDown ids₀ 0 (handedIds (answers i k))) n (o .answer .outcome) (o .answer .id)) (d .commits)
-            ∙ ap (λ (n : Outcome). idsAfter (putDown ids₀ 0 (handedIds (answers i k))) (length (handedIds (answers i k))) n (o .answer .id)) says
+            ∙ ap (λ (b : List ℕ). idsAfter b (l .commits) (o .answer .outcome) (o .answer .info .id)) (d .put-down)
+            ∙ ap (λ (n : ℕ). idsAfter (putDown ids₀ 0 (handedIds (answers i k))) n (o .answer .outcome) (o .answer .info .id)) (d .commits)
+            ∙ ap (λ (n : Outcome). idsAfter (putDown ids₀ 0 (handedIds (answers i k))) (length (handedIds (answers i k))) n (o .answer .info .id)) says
             ∙ ap (idsAfter (putDown ids₀ 0 (handedIds (answers i k))) (length (handedIds (answers i k))) (outcomeOf (a .kind))) names-id
             ∙ ids-on ids₀ (handedIds (answers i k)) (a .kind)
             ∙ ap (putDown ids₀ 0) (sym h);
@@ -136,7 +137,7 @@ left-on i k left (handed x a t) e h g = inl (omega arith)
 
 module _ {f : Files} {n : ℕ} {l₀ : Listing} {m₀ : Lent} {ids₀ : List ℕ} {l : Listing} {m : Lent} {ids : List ℕ} {left : ℕ} (t : Turns f n l₀ m₀ ids₀ l m ids left) where
   pub turns-next : {l′ : Listing} {m′ : Lent} {ids′ : List ℕ} {left′ : ℕ} (o : Out) → 0 < left → NextSays f (l .record) m o m′ → l′ ≡ counted l o
-      → ids′ ≡ idsAfter ids (l .commits) (o .answer .outcome) (o .answer .id) → left′ ≡ callsAfter left (o .answer .outcome) → Turns f n l₀ m₀ ids₀ l′ m′ ids′ left′
+      → ids′ ≡ idsAfter ids (l .commits) (o .answer .outcome) (o .answer .info .id) → left′ ≡ callsAfter left (o .answer .outcome) → Turns f n l₀ m₀ ids₀ l′ m′ ids′ left′
   turns-next {l′} {m′} {ids′} {left′} o h s c w u =
       let a : Outcome = o .answer .outcome in
       record {
@@ -144,7 +145,7 @@ module _ {f : Files} {n : ℕ} {l₀ : Listing} {m₀ : Lent} {ids₀ : List ℕ
         few-commits = omega (arith, u, ap (λ (q : Listing). q .commits) c, commits-low (l .commits) left a h, t .few-commits);
         few-refused = omega (arith, u, ap (λ (q : Listing). q .refused) c, refused-low (l .refused) left a h, t .few-refused);
         same-lengths = s .same-lengths ∙ t .same-lengths;
-        long-ids = ap length w ∙ ids-long ids (l .commits) a (o .answer .id) ∙ t .long-ids;
+        long-ids = ap length w ∙ ids-long ids (l .commits) a (o .answer .info .id) ∙ t .long-ids;
         no-call = λ z. absurd (omega (arith, z, h, t .low));
         along = λ tips st e z d. ⊎-elim
             (λ y. went tips st e (t .along tips st e z d .0) (t .along tips st e z d .1) y)

@@ -15,9 +15,10 @@ use Rattle.walk.specs.AnyInput.{handedIds}
 use Rattle.walk.specs.Given.{joined}
 use Rattle.state.specs.declared.Record.{Record}
 use Rattle.state.specs.Reads.{Reads, closedRecord}
+use Rattle.state.specs.Shapes.{shapeOf}
 use Rattle.traverse.specs.declared.Opened.{Opened}
 use Rattle.traverse.specs.declared.Out.{Out}
-use Rattle.traverse.specs.Contract.{Files, Lent, inputWith, lengthsOf, shapeOf}
+use Rattle.traverse.specs.Contract.{Files, Lent, inputWith, lengthsOf}
 use Rattle.lister.specs.declared.Listing.{Listing}
 use Rattle.lister.specs.Walked.{allAnswers, wholeList, refusals, firstRefusal, parentsLeft, putDown, commitsAfter, refusedAfter, reasonAfter}
 

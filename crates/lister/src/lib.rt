@@ -141,11 +141,12 @@ fn count(l: Listing, o: Out) -> Listing
 // Sets down the id of a commit that was handed out, behind the n ids before it, where it fits.
 fn set_down_commit(ids: &mut [u8], n: usize, answer: Answer)
     requires { ⌜ n < 4294967296 ⌝ }
-    ensures { λ r. ⌜ now (ids .exit) ≡ idsAfter (now (ids .entry)) n (answer .outcome) (answer .id) ⌝ }
+    ensures { λ r. ⌜ now (ids .exit) ≡ idsAfter (now (ids .entry)) n (answer .outcome) (answer .info .id) ⌝ }
 {
     let outcome = answer.outcome;
+    let info = answer.info;
     match outcome {
-        Outcome::Commit => hash::set_nth(Kind::Sha1, ids, n, &answer.id),
+        Outcome::Commit => hash::set_nth(Kind::Sha1, ids, n, &info.id),
         Outcome::End => {}
         Outcome::Refused(_) => {}
     }

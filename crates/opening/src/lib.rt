@@ -12,7 +12,6 @@ ghost use Prim.Native.Nat.{ℕ, _/_, _%_};
 ghost use lib.Dec.{eqb, leb};
 ghost use lib.ListN.{length};
 ghost use Rattle.hash.specs.Bytes.{idBytes};
-ghost use Rattle.walk.specs.Settings.{timed};
 ghost use Rattle.walk.specs.Opening.{Input, listIds, parentBytes, P, listLimit, sizesOk, wholeIds, refusal, roomFor, openWalk};
 ghost use Rattle.opening.specs.Checks.{inputOf, lengthsOf, checkedOf, checkedBy, faultOf, TestsTips, ChecksTips};
 
@@ -195,22 +194,11 @@ fn read_tips(store: &[u8], tips: &[u8], excluded: &[u8]) -> Checked
     Checked::Fine
 }
 
-// Whether an order is a time order.
-fn is_timed(sorting: Sorting) -> bool
-    ensures { λ r. ⌜ r ≡ timed sorting ⌝ }
-{
-    match sorting {
-        Sorting::BreadthFirst => false,
-        Sorting::ByCommitTime(_) => true,
-        Sorting::ByCommitTimeCutoff { .. } => true,
-    }
-}
-
 // Refusals 7 and 8: under a time order each tip that is not excluded is in the store, with a header that is good through committer.
 pub fn check_tips(store: &[u8], tips: &[u8], excluded: &[u8], sorting: Sorting) -> Checked
     ensures { λ r. ⌜ ChecksTips (now (store .entry)) (now (tips .entry)) (now (excluded .entry)) sorting r ⌝ }
 {
-    if !is_timed(sorting) {
+    if !walk::is_timed(sorting) {
         return Checked::Fine;
     }
     read_tips(store, tips, excluded)

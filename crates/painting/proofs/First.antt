@@ -2,14 +2,16 @@
 -- walk's painting, and what ends it leaves the walk's state after painting, or its refusal. Assumes nothing.
 use mathlib.Core.Path.{_≡_, refl, sym, ap, ap₂, _∙_, subst, subst₂, subst₃}
 use mathlib.Core.Logic.{_⊎_, inl, ⊎-elim}
-use Prim.Native.Nat.{ℕ, _*_, _≤_, _<_}
+use Prim.Native.Nat.{ℕ, _*_, _/_, _≤_, _<_}
 use mathlib.Core.Bool.{Bool, true, false, cond, _&&_, _||_}
 use mathlib.Core.List.{List, [], _∷_}
 use native.Mathlib.Omega.{arith}
+use lib.Dec.{ltb}
 use lib.ListN.{length}
 use lib.IntN.{ℤ}
+use borrow.Author.Tests.{ltb-true, ltb-false}
 use Rattle.hash.specs.Bytes.{Id}
-use Rattle.hash.proofs.Tests.{and-first, clash, or-left, or-right}
+use Rattle.hash.proofs.Tests.{byCases, and-first, clash, or-left, or-right}
 use Rattle.hashtable.specs.Marks.{frontier}
 use Rattle.hashtable.specs.Table.{markFor}
 use Rattle.commit.specs.declared.Cache.{Cache}
@@ -30,10 +32,11 @@ use Rattle.walk.specs.Universe.{universe}
 use Rattle.walk.proofs.Universe.{universe-length, open-named, hidden-in, kid-in}
 use Rattle.walk.proofs.Tips.{open-accepted}
 use Rattle.walk.proofs.Whole.{length-list, open-fresh}
-use Rattle.reading.specs.Files.{cacheOf, worldUnder}
+use Rattle.reading.specs.Files.{cacheWith, cacheOf, worldUnder}
+use Rattle.state.specs.declared.Fixed.{Fixed}
 use Rattle.state.specs.declared.Record.{Record}
 use Rattle.state.specs.Reads.{Memory, Universe}
-use Rattle.state.specs.Shapes.{shapeFor}
+use Rattle.state.specs.Shapes.{shapeOf}
 use Rattle.state.specs.Steps.{mem}
 use Rattle.state.proofs.States.{queue-length}
 use Rattle.frontier.specs.declared.marking.Marked.{Marked}
@@ -62,6 +65,10 @@ unfolding isEmpty
 some-there [] n = absurd (n refl)
 some-there (x ∷ l) n = refl
 
+-- a list of hidden tips that holds one id at least
+pub whole-id : {n k : ℕ} → k ≡ n / idBytes → (k ≡ 0 → ⊥) → 20 ≤ n
+whole-id {n} {k} e h = byCases (ltb n 20) (λ t. let l : n < 20 = ltb-true n 20 t in absurd (h (omega (arith, e)))) (λ f. ltb-false n 20 f)
+
 -- ---- after painting
 
 -- the call that painting ends
@@ -84,7 +91,7 @@ pub record Made (r : Record) (m : Memory) (levels names′ marks′ levels′ : 
     (store graph hidden : List ℕ) : Type 0 where
   pub some-hidden : 20 ≤ length hidden
   pub some-wait : r .queue .count ≡ 0 → ⊥
-  pub cache-is : c ≡ cacheOf graph (r .kept)
+  pub cache-is : c ≡ cacheWith graph (r .fixed .layout) (r .kept)
   pub paints : all.Paints c graph store (r .queue .cap) (lentOf m levels) (lent names′ marks′ levels′ times′ line′) (r .queue) (listIds hidden) x
   pub long-times : length times′ ≡ length (m .times)
   pub long-line : length line′ ≡ length (m .line)
@@ -92,7 +99,7 @@ pub record Made (r : Record) (m : Memory) (levels names′ marks′ levels′ : 
 
 module _ {i : Input} {r : Record} {m : Memory} {levels : List ℕ} {st : State} (a : AtFirst i r m levels st) where
   -- the ids after painting
-  inside : (l : List (Id × ℤ)) (f : Id → Bool) → ((x : Id) → f x ≡ true → Mem x (universe i)) → Universe (shapeFor (i .settings) (P i)) (paintedWith st l f) (universe i)
+  inside : (l : List (Id × ℤ)) (f : Id → Bool) → ((x : Id) → f x ≡ true → Mem x (universe i)) → Universe (shapeOf i) (paintedWith st l f) (universe i)
   unfolding paintedWith
   inside l f h = record { few = universe-length i (open-accepted i st (a .accepted)); has-seen = open-named i st (a .accepted) .seen-in; has-frontier = h }
 
@@ -113,7 +120,7 @@ module _ {i : Input} {r : Record} {m : Memory} {levels : List ℕ} {st : State} 
   goes-plain h s = record {
     after = paintedWith st (st .queue) nobody;
     is = first-plain (walkOf i) st h;
-    reads = s .reads m (shapeFor (i .settings) (P i)) st (due a) (taken-plain a);
+    reads = s .reads m (shapeOf i) st (due a) (taken-plain a);
     inside = inside (st .queue) nobody (λ x k. clash k refl);
     same-admitted = admitted-same (st .queue) nobody;
   }
@@ -155,7 +162,7 @@ module _ {i : Input} {r : Record} {m : Memory} {levels : List ℕ} {st : State} 
         record {
           after = paintedWith st (outside f (st .queue)) f;
           is = first-paint (walkOf i) st (g .state) h (walks (g .is));
-          reads = l .reads m (shapeFor (i .settings) (P i)) st (i .graph) f (due a) (spared (g .spares) (g .reads .table) lt ll) (files a .store-ok)
+          reads = l .reads m (shapeOf i) st (i .graph) f (due a) (spared (g .spares) (g .reads .table) lt ll) (files a .store-ok)
               (opened-timed i st (a .accepted)) (frontier-is g);
           inside = inside (outside f (st .queue)) f (λ x k. paint-within (walkOf i .world) (universe i) (kid-in i) (walkOf i .fuel) (ids (st .queue)) (walkOf i .hidden) (g .state)
               (open-named i st (a .accepted) .queue-in) (hidden-in i) (walks (g .is)) x (inl (and-first (g .state .vis x) (g .state .hid x) k)));
@@ -175,7 +182,7 @@ module _ {i : Input} {r : Record} {m : Memory} {levels : List ℕ} {st : State} 
     gives-up {n} {why} s w f = record {
       after = paintedWith st [] nobody;
       is = first-stop (walkOf i) st n h (walks (s .is)) ∙ ap (λ (k : Refusal). step (refused k) [] (paintedWith st [] nobody)) (sym (w .same (of-call (s .is))));
-      reads = f .reads m m′ (shapeFor (i .settings) (P i)) st (due a) (spared (s .spares) (s .table) lt ll);
+      reads = f .reads m m′ (shapeOf i) st (due a) (spared (s .spares) (s .table) lt ll);
     }
 
     ends : (times″ : List ℤ) (line″ : List ℕ) (x : Marked) (y : Painted)
@@ -192,7 +199,7 @@ module _ {i : Input} {r : Record} {m : Memory} {levels : List ℕ} {st : State} 
   is-made {names′} {marks′} {levels′} {times′} {times″} {line′} {line″} {c} {x} {y} d =
       let p : all.Paints (cacheOf (i .graph) true) (i .graph) (i .store) (P i) (lentOf m levels) (lent names′ marks′ levels′ times′ line′) (r .queue) (listIds (i .hidden)) x =
       subst₂ (λ (k : Cache) (n : ℕ). all.Paints k (i .graph) (i .store) n (lentOf m levels) (lent names′ marks′ levels′ times′ line′) (r .queue) (listIds (i .hidden)) x)
-      (d .cache-is ∙ ap (cacheOf (i .graph)) (kept a)) (a .reads .cap) (d .paints) in
+      (d .cache-is ∙ ap₂ (cacheWith (i .graph)) (ap (λ (f : Fixed). f .layout) (a .reads .fixed)) (kept a)) (a .reads .cap) (d .paints) in
       ends (is-due (d .some-hidden) (d .some-wait)) (mem names′ marks′ times′ line′) levels′ (d .long-times) (d .long-line) times″ line″ x y (p .right (files a) (universe i) (may-paint a)) (d .finishes .does)
 
 -- ---- as a contract

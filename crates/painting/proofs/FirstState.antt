@@ -19,7 +19,7 @@ use Rattle.walk.specs.State.{Walk, State, emptyState, queued, enter, sees, wait
 use Rattle.walk.specs.Opening.{Input, P, walkOf, listIds, distinct, Opening, closed, opened, tipsIn, openWalk}
 use Rattle.walk.specs.Reach.{Mem}
 use Rattle.walk.proofs.Tips.{opened-test, open-keep, open-tips}
-use Rattle.state.specs.Shapes.{shapeFor}
+use Rattle.state.specs.Shapes.{shapeOf}
 use Rattle.refill.specs.Painted.{Timed}
 
 pub opened-kept : (i : Input) (st : State) → openWalk i true ≡ opened st → st .kept ≡ true
@@ -76,7 +76,7 @@ module _ (v : Walk) (b : byTime (v .settings) ≡ true) where
       (λ k. tips-right xs (waits v st x (t .0)) st′ (waits-right st x (t .0) (read-seconds (v .world) x (h .0) (t .0) (h .1) (t .1)) q) k)
       (λ k. tips-right xs (sees st x) st′ (sees-right st x q) k)
 
-pub opened-timed : (i : Input) (st : State) → openWalk i true ≡ opened st → Timed (worldOf (i .store) (i .graph)) (shapeFor (i .settings) (P i)) st
+pub opened-timed : (i : Input) (st : State) → openWalk i true ≡ opened st → Timed (worldOf (i .store) (i .graph)) (shapeOf i) st
 unfolding walkOf
 opened-timed i st e b =
     tips-right (walkOf i) b (distinct [] (walkOf i .excluded) (listIds (i .tips))) emptyState st (λ x t m. absurd (List·Memᴰ·not-nil m)) (open-tips i st e)

@@ -31,7 +31,7 @@ use Rattle.reading.proofs.World.{good-cache, kept-world}
 use Rattle.opening.proofs.Input.{places-few}
 use Rattle.state.specs.declared.Record.{Record}
 use Rattle.state.specs.Reads.{Memory, entryOf, waiting}
-use Rattle.state.specs.Shapes.{shapeFor}
+use Rattle.state.specs.Shapes.{shapeOf}
 use Rattle.frontier.specs.Paint.{Lent, lent, Files, Named}
 use Rattle.frontier.specs.Painted.{Ample, waitingIds, MayPaint}
 use Rattle.refill.specs.Painted.{Due}
@@ -146,7 +146,7 @@ module _ {i : Input} {r : Record} {m : Memory} {levels : List ℕ} {st : State} 
 
   -- ---- what ends painting
 
-  pub due : Due r m (shapeFor (i .settings) (P i)) st
+  pub due : Due r m (shapeOf i) st
   due =
       let f = open-fresh i st (a .accepted) in
       let n = roomy-fits i none-refused st (open-roomy i st (a .accepted)) in

@@ -12,29 +12,29 @@ use Rattle.walk.specs.AnyInput.{OfCall}
 use Rattle.walk.specs.Universe.{universe}
 use Rattle.state.specs.declared.Record.{Record}
 use Rattle.state.specs.Reads.{Memory, Reads, Universe}
-use Rattle.state.specs.Shapes.{shapeFor}
+use Rattle.state.specs.Shapes.{shapeOf}
 use Rattle.painting.specs.declared.Painted.{Painted}
 use Rattle.painting.specs.declared.Painted.the-variants.{Done, Refused, Touched}
 
 -- the record r and the memory m, with the buffer levels, stand at the first call after an accepted opening with the input i
 pub record AtFirst (i : Input) (r : Record) (m : Memory) (levels : List ℕ) (st : State) : Type 0 where
   pub accepted : openWalk i true ≡ opened st
-  pub reads : Reads r m (shapeFor (i .settings) (P i)) st
+  pub reads : Reads r m (shapeOf i) st
   pub for-levels : P i ≤ length levels
 
 -- painting is over: the first call is the next commit of the state that the memory reads as now, whose ids the files and lists name
 pub record GoesOn (i : Input) (st : State) (r′ : Record) (m′ : Memory) : Type 0 where
   pub after : State
   pub is : firstCall (walkOf i) st ≡ takeNext (walkOf i) after
-  pub reads : Reads r′ m′ (shapeFor (i .settings) (P i)) after
-  pub inside : Universe (shapeFor (i .settings) (P i)) after (universe i)
+  pub reads : Reads r′ m′ (shapeOf i) after
+  pub inside : Universe (shapeOf i) after (universe i)
   pub same-admitted : after .admitted ≡ st .admitted
 
 -- "line emptied (all of it struck), refusal given once": the first call is this refusal
 pub record GivesUp (i : Input) (st : State) (n : Refusal) (r′ : Record) (m′ : Memory) : Type 0 where
   pub after : State
   pub is : firstCall (walkOf i) st ≡ step (refused n) [] after
-  pub reads : Reads r′ m′ (shapeFor (i .settings) (P i)) after
+  pub reads : Reads r′ m′ (shapeOf i) after
 
 -- what an answer says; on untouched memory none says that it was touched
 abbrev pub Told : Input → State → Memory → Painted → Type 0

@@ -12,23 +12,16 @@ use lib.IntN.{ℤ, pos}
 use Rattle.hash.specs.Bytes.{Id, idBytes, ifSome}
 use Rattle.hash.proofs.Bytes.{length-at}
 use Rattle.idlist.specs.IdList.{idOf}
-use Rattle.commitgraph.specs.Graph.{chunkStart, OIDL, graphOk, graphCount, graphIds, graphId, graphFind, graphSeconds, generation, graphParents, layoutOf, idIn, secondsIn, parentsIn, parentIn, mostParents, Looks, positionOf, parentListOf}
+use Rattle.commitgraph.specs.Graph.{chunkStart, OIDL, graphOk, graphCount, graphIds, graphId, graphSeconds, generation, graphParents, layoutOf, idIn, secondsIn, parentsIn, parentIn, mostParents, parentListOf}
 use Rattle.commitgraph.specs.declared.Layout.{Layout}
 use Rattle.commitgraph.specs.declared.Level.{Level}
-use Rattle.commitgraph.specs.declared.rows.Position.{Position}
-use Rattle.commitgraph.specs.declared.rows.Position.the-variants.{At, Absent}
 use Rattle.commitgraph.specs.declared.parents.ParentList.the-variants.{Good, Corrupt as Broken}
 use Rattle.commitgraph.proofs.LayoutRight.{right}
 use Rattle.commitgraph.proofs.Edges.{good-list, parent-listed, parents-few, parents-at-below}
-use Rattle.commit.specs.Find.{GoodCache, rowOf}
-use Rattle.commit.specs.declared.Cache.{Cache}
-use Rattle.commit.specs.declared.Cache.the-variants.{Graph, NoGraph}
-use Rattle.walk.specs.Lookup.{Row, no-row, corrupt, row, rowAt}
-use Rattle.reading.specs.Files.{layoutUnder, worldUnder}
-use Rattle.reading.specs.Row.{levelOf, rowReadOf, rowFrom, RowLooked, ReadsRow, rowParent}
+use Rattle.walk.specs.Lookup.{corrupt, row, rowAt}
+use Rattle.reading.specs.Row.{levelOf, rowReadOf, rowParent}
 use Rattle.reading.specs.declared.row.RowRead.{RowRead}
-use Rattle.reading.specs.declared.row.RowRead.the-variants.{NoRow, Corrupt, Row as RowAt}
-use Rattle.reading.proofs.World.{graph-under, row-found, RowFound}
+use Rattle.reading.specs.declared.row.RowRead.the-variants.{Corrupt, Row as RowAt}
 
 -- ---- the parents of a row
 
@@ -114,16 +107,16 @@ pub list-broken : (o : Option (List ℕ)) → Broken ≡ parentListOf o → o �
 list-broken none e = refl
 list-broken (some ps) e = let z : _≡_ {A = ℕ} 0 1 = cc in absurd (omega arith)
 
-pub row-read : (p : ℕ) {n : ℕ} {v : Level} (w : Level) (o : Option (List ℕ)) → Good n ≡ parentListOf o → v .0 ≡ w .0 → RowAt p n v ≡ rowReadOf p w o
-row-read p {n} {v} w o e f =
+pub row-read : {n : ℕ} {v : Level} (w : Level) (o : Option (List ℕ)) → Good n ≡ parentListOf o → v .0 ≡ w .0 → RowAt n v ≡ rowReadOf w o
+row-read {n} {v} w o e f =
     let r = list-good o n e in
-    ap (λ (m : ℕ). RowAt p m v) (r .2) ∙ ap (λ (u : Level). RowAt p (length (r .0)) u) same ∙ ap (rowReadOf p w) (sym (r .1))
+    ap (λ (m : ℕ). RowAt m v) (r .2) ∙ ap (λ (u : Level). RowAt (length (r .0)) u) same ∙ ap (rowReadOf w) (sym (r .1))
   where
     same : v ≡ w
     same = λ i. record { 0 = f i }
 
-pub row-corrupt : (p : ℕ) (w : Level) (o : Option (List ℕ)) → Broken ≡ parentListOf o → Corrupt ≡ rowReadOf p w o
-row-corrupt p w o e = ap (rowReadOf p w) (sym (list-broken o e))
+pub row-corrupt : (w : Level) (o : Option (List ℕ)) → Broken ≡ parentListOf o → Corrupt ≡ rowReadOf w o
+row-corrupt w o e = ap (rowReadOf w) (sym (list-broken o e))
 
 -- a count of a row's parents, 0 where the list is corrupt, is at most 256 on any bytes
 pub list-few : (g : List ℕ) (l : Layout) (p : ℕ) (count : Option (List ℕ) → ℕ) → count none ≡ 0 → ((ps : List ℕ) → count (some ps) ≡ length ps) → count (parentsIn idBytes g l p) ≤ mostParents
@@ -133,94 +126,43 @@ list-few g l p count z n = go (parentsIn idBytes g l p) refl
     go none e = omega (arith, z)
     go (some ps) e = omega (arith, n ps, good-list idBytes g l p ps e .few)
 
--- the row d stands at position p of the file in use, a good one, with n parents and the level v
-pub record RowIs (c : Cache) (g : List ℕ) (p n : ℕ) (v : Level) (d : Row) : Type 0 where
-  pub file : graphOk idBytes g ≡ true
-  pub layout : layoutUnder c ≡ layoutOf g
-  pub place : rowAt g p ≡ d
+-- the row at position p of the file g has n parents and the level v
+pub record RowIs (g : List ℕ) (p n : ℕ) (v : Level) : Type 0 where
   pub parents : List (Id × ℤ)
   pub seconds : ℤ
-  pub is : d ≡ row parents (v .0) seconds
+  pub is : rowAt g p ≡ row parents (v .0) seconds
   pub count : n ≡ length parents
 
--- what an answer says of a row
-abbrev pub TellsRow : Cache → List ℕ → RowRead → Row → Type 0
-TellsRow c g NoRow d = d ≡ no-row
-TellsRow c g Corrupt d = d ≡ corrupt
-TellsRow c g (RowAt p n v) d = RowIs c g p n v d
+module _ (g : List ℕ) (l : Layout) (p : ℕ) where
+  -- a row that was read by the file's own layout is the walk's
+  pub row-is : {n : ℕ} {v : Level} {r : RowRead} → l ≡ layoutOf g → r ≡ rowReadOf (levelOf g l p) (parentsIn idBytes g l p) → r ≡ RowAt n v → RowIs g p n v
+  unfolding rowAt generation graphParents
+  row-is {n} {v} {r} own e f =
+      go (graphParents idBytes g p) refl (sym f ∙ e ∙ ap (λ (m : Layout). rowReadOf (levelOf g m p) (parentsIn idBytes g m p)) own)
+    where
+      go : (o : Option (List ℕ)) → graphParents idBytes g p ≡ o → RowAt n v ≡ rowReadOf (levelOf g (layoutOf g) p) o → RowIs g p n v
+      go none k h = let z : _≡_ {A = ℕ} 0 1 = cc in absurd (omega arith)
+      go (some qs) k h =
+          let same : v ≡ levelOf g (layoutOf g) p = cc in
+          record {
+            parents = map (parentAt g) qs;
+            seconds = graphSeconds idBytes g p;
+            is = rw k (ap (λ (c : ℕ). row (map (parentAt g) qs) c (graphSeconds idBytes g p)) (sym (ap (λ (u : Level). u .0) same)));
+            count = let m : n ≡ length qs = cc in m ∙ sym (length-map qs (parentAt g));
+          }
 
--- how many parents an answer has
-abbrev pub rowParents : RowRead → ℕ
-rowParents NoRow = 0
-rowParents Corrupt = 0
-rowParents (RowAt p n v) = n
+  pub row-torn : {r : RowRead} → l ≡ layoutOf g → r ≡ rowReadOf (levelOf g l p) (parentsIn idBytes g l p) → r ≡ Corrupt → rowAt g p ≡ corrupt
+  unfolding rowAt graphParents
+  row-torn {r} own e f = go (graphParents idBytes g p) refl (sym f ∙ e ∙ ap (λ (m : Layout). rowReadOf (levelOf g m p) (parentsIn idBytes g m p)) own)
+    where
+      go : (o : Option (List ℕ)) → graphParents idBytes g p ≡ o → Corrupt ≡ rowReadOf (levelOf g (layoutOf g) p) o → rowAt g p ≡ corrupt
+      go none k h = rw k
+      go (some qs) k h = let z : _≡_ {A = ℕ} 0 1 = cc in absurd (omega arith)
 
-tells-row : (c : Cache) (g : List ℕ) (p : ℕ) → graphOk idBytes g ≡ true → layoutUnder c ≡ layoutOf g → TellsRow c g (rowReadOf p (levelOf g (layoutOf g) p) (graphParents idBytes g p)) (rowAt g p)
-unfolding rowAt generation
-tells-row c g p ok e = go (graphParents idBytes g p) refl
-  where
-    go : (o : Option (List ℕ)) → graphParents idBytes g p ≡ o → TellsRow c g (rowReadOf p (levelOf g (layoutOf g) p) o) (rowAt g p)
-    go none k = rw k
-    go (some qs) k = record {
-      file = ok;
-      layout = e;
-      place = refl;
-      parents = map (parentAt g) qs;
-      seconds = graphSeconds idBytes g p;
-      is = rw k;
-      count = sym (length-map qs (parentAt g));
-    }
-
--- a row that was found, as it is read
-pub row-told : {c : Cache} {g s : List ℕ} {x : Id} {p : ℕ} → RowFound c g s x p
-    → TellsRow c g (rowReadOf p (levelOf g (layoutUnder c) p) (parentsIn idBytes g (layoutUnder c) p)) (worldUnder c g s .graph x)
-unfolding graphParents
-row-told {c} {g} {s} {x} {p} f =
-    subst (λ (d : Row). TellsRow c g (rowReadOf p (levelOf g (layoutUnder c) p) (parentsIn idBytes g (layoutUnder c) p)) d) (sym (f .says))
-    (subst (λ (m : Layout). TellsRow c g (rowReadOf p (levelOf g m p) (parentsIn idBytes g m p)) (rowAt g p)) (sym (f .layout)) (tells-row c g p (f .file) (f .layout)))
-
-position-at : (o : Option ℕ) (p : ℕ) → At p ≡ positionOf o → o ≡ some p
-position-at none p e = let z : _≡_ {A = ℕ} 0 1 = cc in absurd (omega arith)
-position-at (some q) p e = cc
-
-position-none : (o : Option ℕ) → Absent ≡ positionOf o → o ≡ none
-position-none none e = refl
-position-none (some q) e = let z : _≡_ {A = ℕ} 0 1 = cc in absurd (omega arith)
-
--- ---- the row of a commit
-
-pub reads-row : {g : List ℕ} {l : Layout} {x : Id} {q : Position} (p : ℕ) → Looks idBytes g l x q → q ≡ At p → ReadsRow (Graph l) g x (rowReadOf p (levelOf g l p) (parentsIn idBytes g l p))
-reads-row {g} {l} {x} p k e = record { is = (At p, subst (Looks idBytes g l x) e k, refl) }
-
-pub no-row-listed : {g : List ℕ} {l : Layout} {x : Id} {q : Position} → Looks idBytes g l x q → q ≡ Absent → ReadsRow (Graph l) g x NoRow
-no-row-listed {g} {l} {x} k e = record { is = (Absent, subst (Looks idBytes g l x) e k, refl) }
-
-pub no-row-used : (g : List ℕ) (x : Id) → ReadsRow NoGraph g x NoRow
-no-row-used g x = record { is = refl }
-
--- in a good file it is the row that the walk's world has
-looked-right : (g : List ℕ) (l : Layout) (x : Id) (q : Position) → Looks idBytes g l x q → GoodCache idBytes (Graph l) g → (s : List ℕ) → TellsRow (Graph l) g (rowFrom g l q) (worldUnder (Graph l) g s .graph x)
-unfolding GoodCache rowOf
-looked-right g l x (At p) k t s = row-told (row-found (Graph l) g s x p t (position-at (graphFind idBytes g x) p (k .right (t .0) (t .1))))
-looked-right g l x Absent k t s =
-    graph-under (Graph l) g s x ∙ ap (λ (o : Option ℕ). ifSome o no-row (λ q. rowAt g q)) (position-none (graphFind idBytes g x) (k .right (t .0) (t .1)))
-
-pub row-right : {c : Cache} {g : List ℕ} {x : Id} {r : RowRead} → ReadsRow c g x r → GoodCache idBytes c g → (s : List ℕ) → TellsRow c g r (worldUnder c g s .graph x)
-unfolding worldUnder
-row-right {c} {g} {x} {r} e = go c (e .is)
-  where
-    go : (c : Cache) → RowLooked c g x r → GoodCache idBytes c g → (s : List ℕ) → TellsRow c g r (worldUnder c g s .graph x)
-    go (Graph l) k t s = subst (λ (w : RowRead). TellsRow (Graph l) g w (worldUnder (Graph l) g s .graph x)) (sym (k .2)) (looked-right g l x (k .0) (k .1) t s)
-    go NoGraph k t s = subst (λ (w : RowRead). TellsRow NoGraph g w no-row) (sym k) refl
-
--- on any bytes it has at most 256 parents
-pub row-parents-few : {c : Cache} {g : List ℕ} {x : Id} {r : RowRead} → ReadsRow c g x r → rowParents r ≤ mostParents
-row-parents-few {c} {g} {x} {r} e = go c (e .is)
-  where
-    at-row : (l : Layout) (q : Position) → rowParents (rowFrom g l q) ≤ mostParents
-    at-row l (At p) = list-few g l p (λ o. rowParents (rowReadOf p (levelOf g l p) o)) refl (λ ps. refl)
-    at-row l Absent = omega arith
-
-    go : (c : Cache) → RowLooked c g x r → rowParents r ≤ mostParents
-    go (Graph l) k = subst (λ (w : RowRead). rowParents w ≤ mostParents) (sym (k .2)) (at-row l (k .0))
-    go NoGraph k = subst (λ (w : RowRead). rowParents w ≤ mostParents) (sym k) (omega arith)
+  -- on any bytes it has at most 256 parents
+  pub row-counted : {n : ℕ} {v : Level} {r : RowRead} → r ≡ rowReadOf (levelOf g l p) (parentsIn idBytes g l p) → r ≡ RowAt n v → n ≤ mostParents
+  row-counted {n} {v} e f = go (parentsIn idBytes g l p) refl (sym f ∙ e)
+    where
+      go : (o : Option (List ℕ)) → parentsIn idBytes g l p ≡ o → RowAt n v ≡ rowReadOf (levelOf g l p) o → n ≤ mostParents
+      go none k h = let z : _≡_ {A = ℕ} 0 1 = cc in absurd (omega arith)
+      go (some qs) k h = let m : n ≡ length qs = cc in omega (arith, m, good-list idBytes g l p qs k .few)

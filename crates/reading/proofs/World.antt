@@ -17,6 +17,7 @@ use Rattle.odb.proofs.Bodies.{start-end, end-within}
 use Rattle.odb.proofs.Entries.{entry-hit}
 use Rattle.odb.proofs.Lookup.{partOf-yes}
 use Rattle.commitgraph.specs.Graph.{graphOk, layoutOf, rowStart, rowEnd}
+use Rattle.commitgraph.specs.declared.Layout.{Layout}
 use Rattle.commit.specs.Find.{GoodCache, rowOf, inGraph, inStore, foundIn}
 use Rattle.commit.specs.declared.Cache.{Cache}
 use Rattle.commit.specs.declared.Cache.the-variants.{Graph, NoGraph}
@@ -25,28 +26,28 @@ use Rattle.commit.specs.declared.Either.the-variants.{CachedCommit, CommitRefIt
 use Rattle.walk.specs.Lookup.{no-row, rowAt, worldOf}
 use Rattle.walk.specs.State.{isEmpty}
 use Rattle.walk.proofs.Rows.{find-nil}
-use Rattle.reading.specs.Files.{cacheOf, layoutUnder, worldUnder}
+use Rattle.reading.specs.Files.{cacheWith, cacheOf, layoutUnder, worldUnder}
 use Rattle.hash.specs.Bytes.{idBytes}
 
 -- ---- the cache
 
-pub cache-dropped : (g : List ℕ) (kept : Bool) → kept ≡ false → NoGraph ≡ cacheOf g kept
-unfolding cacheOf
-cache-dropped g kept e = rw e
+pub cache-dropped : (g : List ℕ) (l : Layout) (kept : Bool) → kept ≡ false → NoGraph ≡ cacheWith g l kept
+unfolding cacheWith
+cache-dropped g l kept e = rw e
 
-pub cache-empty : (g : List ℕ) (kept : Bool) → length g ≡ 0 → kept ≡ true → NoGraph ≡ cacheOf g kept
-unfolding cacheOf isEmpty
-cache-empty [] kept h e = rw e
-cache-empty (x ∷ g) kept h e = absurd (omega arith)
+pub cache-empty : (g : List ℕ) (l : Layout) (kept : Bool) → length g ≡ 0 → kept ≡ true → NoGraph ≡ cacheWith g l kept
+unfolding cacheWith isEmpty
+cache-empty [] l kept h e = rw e
+cache-empty (x ∷ g) l kept h e = absurd (omega arith)
 
-pub cache-used : (g : List ℕ) (kept : Bool) → (length g ≡ 0 → ⊥) → kept ≡ true → Graph (layoutOf g) ≡ cacheOf g kept
-unfolding cacheOf isEmpty
-cache-used [] kept h e = absurd (h refl)
-cache-used (x ∷ g) kept h e = rw e
+pub cache-used : (g : List ℕ) (l : Layout) (kept : Bool) → (length g ≡ 0 → ⊥) → kept ≡ true → Graph l ≡ cacheWith g l kept
+unfolding cacheWith isEmpty
+cache-used [] l kept h e = absurd (h refl)
+cache-used (x ∷ g) l kept h e = rw e
 
 -- an empty or a good file is used well
 pub good-cache : (g : List ℕ) (kept : Bool) → (isEmpty g || graphOk idBytes g) ≡ true → GoodCache idBytes (cacheOf g kept) g
-unfolding cacheOf GoodCache isEmpty
+unfolding cacheWith GoodCache isEmpty
 good-cache g false e = tt
 good-cache [] true e = tt
 good-cache (x ∷ g) true e = (e, refl)
@@ -60,13 +61,13 @@ nil-world s x = rw (find-nil x)
 
 -- a graph that is kept: the walk's world
 pub kept-world : (g s : List ℕ) → worldUnder (cacheOf g true) g s ≡ worldOf s g
-unfolding cacheOf isEmpty worldUnder
+unfolding cacheWith isEmpty worldUnder
 kept-world [] s = λ k. record { graph = λ x. sym (nil-world s x) k; store = worldOf s [] .store }
 kept-world (x ∷ g) s = refl
 
 -- one that was dropped: no rows, and the same store
 pub dropped-world : (g s : List ℕ) (x : Id) → worldUnder (cacheOf g false) g s .graph x ≡ no-row
-unfolding cacheOf worldUnder
+unfolding cacheWith worldUnder
 dropped-world g s x = refl
 
 pub same-store : (c : Cache) (g s : List ℕ) (x : Id) → worldUnder c g s .store x ≡ worldOf s g .store x

@@ -9,11 +9,15 @@ use Rattle.commit.specs.declared.Cache.the-variants.{Graph, NoGraph}
 use Rattle.walk.specs.Lookup.{World, no-row, worldOf}
 use Rattle.walk.specs.State.{isEmpty}
 
--- "A zero-length graph means none"; one that was dropped is used no more
-unfoldable pub cacheOf : List ℕ → Bool → Cache
-cacheOf g kept =
-    let used : Cache = cond (isEmpty g) NoGraph (Graph (layoutOf g)) in
+-- "A zero-length graph means none"; one that was dropped is used no more; else its chunks stand where the layout l says
+unfoldable pub cacheWith : List ℕ → Layout → Bool → Cache
+cacheWith g l kept =
+    let used : Cache = cond (isEmpty g) NoGraph (Graph l) in
     cond kept used NoGraph
+
+-- the same by the file's own layout
+abbrev pub cacheOf : List ℕ → Bool → Cache
+cacheOf g kept = cacheWith g (layoutOf g) kept
 
 -- where the chunks stand; without a file all is 0
 abbrev pub layoutUnder : Cache → Layout

@@ -18,14 +18,12 @@ use commitgraph::parents;
 use commitgraph::parents::ParentList;
 use commitgraph::rows;
 use hash::Kind;
-pub use ids::id_by_value;
 pub use ids::is_among;
 use object::ObjectId;
 use object::Reading;
 use odb::Located;
 pub use row::RowRead;
-pub use row::row_at;
-pub use row::row_of;
+pub use row::collect_parents;
 pub use row::row_parent;
 pub use tip::TipRead;
 pub use tip::read_tip;
@@ -38,7 +36,7 @@ ghost use Rattle.object.specs.Read.{readingOf};
 ghost use Rattle.odb.specs.Lookup.{partOf};
 ghost use Rattle.odb.specs.declared.Located.the-variants.{Body as BodyAt};
 ghost use Rattle.commitgraph.specs.Graph.{parentsIn};
-ghost use Rattle.reading.specs.Files.{cacheOf, layoutUnder};
+ghost use Rattle.reading.specs.Files.{cacheWith, layoutUnder};
 ghost use Rattle.reading.specs.Whole.{pairIn, rowCommit, bodyCommit, ReadsCommit, GivesParent};
 ghost use Rattle.hash.specs.Bytes.{idBytes};
 
@@ -62,15 +60,15 @@ pub enum Commit {
 // The generation of a commit without a graph row.
 const NO_GENERATION: u32 = 0xFFFFFFFF;
 
-// The commit-graph file as it is used: not at all where it is empty or was dropped.
-pub fn cache_of(graph: &[u8], kept: bool) -> Cache
-    ensures { λ r. ⌜ r ≡ cacheOf (now (graph .entry)) kept ⌝ }
+// The commit-graph file as it is used, by the layout that its opening found: not at all where it is empty or was dropped.
+pub fn cache_of(graph: &[u8], layout: Layout, kept: bool) -> Cache
+    ensures { λ r. ⌜ r ≡ cacheWith (now (graph .entry)) layout kept ⌝ }
 {
     if kept {
         if graph.len() == 0 {
             return Cache::NoGraph;
         }
-        return Cache::Graph(commitgraph::parse(graph));
+        return Cache::Graph(layout);
     }
     Cache::NoGraph
 }

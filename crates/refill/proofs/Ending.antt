@@ -38,10 +38,10 @@ use Rattle.hash.specs.Bytes.{idBytes}
 -- ---- the record
 
 pub ends : {r : Record} {q : Queue} {f : Bool} {s : ℕ} → Struck (r .struck) (r .queue .count) (q .count) s
-    → Ends r q f (record { live = r .live; painted = true; failed = f; kept = r .kept; queue = q; admitted = r .admitted; struck = s })
+    → Ends r q f (record { live = r .live; painted = true; failed = f; kept = r .kept; fixed = r .fixed; queue = q; admitted = r .admitted; struck = s })
 ends {r} {q} {f} e = record {
   failed = refl;
-  is = λ a b d. ap {B = Record} (λ (n : ℕ). record { live = r .live; painted = true; failed = f; kept = r .kept; queue = q; admitted = r .admitted; struck = n }) (e .is a b d);
+  is = λ a b d. ap {B = Record} (λ (n : ℕ). record { live = r .live; painted = true; failed = f; kept = r .kept; fixed = r .fixed; queue = q; admitted = r .admitted; struck = n }) (e .is a b d);
 }
 
 -- ---- marks that are not live any more count as none
@@ -82,6 +82,7 @@ module _ {r : Record} {m : Memory} {sh : Shape} {st : State} (g : Reads r m sh s
     timed = a .timed ∙ g .timed;
     newest = a .newest ∙ g .newest;
     cap = a .cap ∙ g .cap;
+    fixed = g .fixed;
     for-times = long-times;
     for-line = long-line;
     table = painted-table t;

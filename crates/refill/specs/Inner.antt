@@ -31,6 +31,7 @@ paintedRecord r q f = record {
   painted = true;
   failed = f;
   kept = r .kept;
+  fixed = r .fixed;
   queue = q;
   admitted = r .admitted;
   struck = r .struck + (r .queue .count - q .count);

@@ -59,11 +59,13 @@ fn painted_with(r: Record, queue: Queue, failed: bool) -> Record
     ensures { λ a. ⌜ Ends r queue failed a ⌝ }
 {
     let q = r.queue;
+    let fixed = r.fixed;
     Record {
         live: r.live,
         painted: true,
         failed: failed,
         kept: r.kept,
+        fixed: fixed,
         queue: queue,
         admitted: r.admitted,
         struck: struck_after(r.struck, q.count, queue.count),

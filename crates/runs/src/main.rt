@@ -159,13 +159,17 @@ fn parents_of(buffer: &[u8], n: usize) {
 
 // A call's answer on a line.
 fn print_answer(a: Answer, parents: &[u8]) {
-    outcome(a.outcome);
+    let given = a.outcome;
+    outcome(given);
     text(b" ");
-    id(&a.id);
-    generation(a.generation);
-    seconds(a.time);
+    let info = a.info;
+    id(&info.id);
+    let level = info.generation;
+    generation(level);
+    let time = info.time;
+    seconds(time);
     numbers(a.admitted, a.struck, a.waiting);
-    parents_of(parents, a.parents);
+    parents_of(parents, info.parents);
     text(b"\n");
 }
 

@@ -4,5 +4,4 @@ pub mod States
 pub mod Seeing
 pub mod Queueing
 pub mod Popping
-pub mod Visits
 pub mod Starting

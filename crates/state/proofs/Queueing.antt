@@ -49,6 +49,7 @@ module _ {r : Record} {names marks : List ℕ} {times : List ℤ} {line : List �
     timed = a .timed ∙ g .timed;
     newest = a .newest ∙ g .newest;
     cap = a .cap ∙ g .cap;
+    fixed = g .fixed;
     for-times = g .for-times;
     for-line = omega (arith, long, g .for-line);
     table = g .table;

@@ -140,6 +140,7 @@ module _ {r : Record} {names marks names′ marks′ : List ℕ} {times : List �
     timed = g .timed;
     newest = g .newest;
     cap = g .cap;
+    fixed = g .fixed;
     for-times = g .for-times;
     for-line = g .for-line;
     table = i .right (g .table) lives;

@@ -14,29 +14,31 @@ use Rattle.hashtable.proofs.TableClear.{cleared-low, cleared-table, cleared-mar
 use Rattle.revwalk.specs.Order.{In}
 use Rattle.revwalk.proofs.QueueSlots.{emptied, emptied-list}
 use Rattle.walk.specs.State.{emptyState}
+use Rattle.state.specs.declared.Fixed.{Fixed}
 use Rattle.state.specs.Reads.{entryOf, waiting, Reads}
 use Rattle.state.specs.Shapes.{freshRecord}
 use Rattle.state.specs.Steps.{mem, Lent, Starts}
 use Rattle.hash.specs.Bytes.{idBytes}
 
-module _ (timed newest : Bool) {names marks : List ℕ} {times : List ℤ} {line : List ℕ} {cap : ℕ} (l : Lent names marks times line cap) where
-  none-waits : waiting (freshRecord timed newest cap) (mem names (cleared cap marks) times line) ≡ []
-  none-waits = emptied-list (freshRecord timed newest cap .queue) times line refl
+module _ (timed newest : Bool) (fixed : Fixed) {names marks : List ℕ} {times : List ℤ} {line : List ℕ} {cap : ℕ} (l : Lent names marks times line cap) where
+  none-waits : waiting (freshRecord timed newest cap fixed) (mem names (cleared cap marks) times line) ≡ []
+  none-waits = emptied-list (freshRecord timed newest cap fixed .queue) times line refl
 
-  none-in : (s : ℕ) → In s (waiting (freshRecord timed newest cap) (mem names (cleared cap marks) times line)) → ⊥
+  none-in : (s : ℕ) → In s (waiting (freshRecord timed newest cap fixed) (mem names (cleared cap marks) times line)) → ⊥
   unfolding In
   none-in s h = subst (In s) none-waits h
 
-  pub fresh-reads : Reads (freshRecord timed newest cap) (mem names (cleared cap marks) times line) (record { timed = timed; newest = newest; cap = cap }) emptyState
+  pub fresh-reads : Reads (freshRecord timed newest cap fixed) (mem names (cleared cap marks) times line) (record { timed = timed; newest = newest; cap = cap; fixed = fixed }) emptyState
   fresh-reads = record {
     alive = refl;
     timed = refl;
     newest = refl;
     cap = refl;
+    fixed = refl;
     for-times = l .for-times;
     for-line = l .for-line;
     table = cleared-table idBytes false (record { for-marks = l .for-marks; for-names = l .for-names });
-    good = emptied (freshRecord timed newest cap .queue) times line refl refl (omega (arith, l .for-line));
+    good = emptied (freshRecord timed newest cap fixed .queue) times line refl refl (omega (arith, l .for-line));
     queue = sym (ap (map (entryOf timed names times)) none-waits);
     waits-seen = λ s h. absurd (none-in s h);
     numbers = omega arith;
@@ -51,4 +53,4 @@ module _ (timed newest : Bool) {names marks : List ℕ} {times : List ℤ} {line
   }
 
 pub starts : {marks marks′ : List ℕ} {cap : ℕ} → marks′ ≡ cleared cap marks → Starts marks marks′ cap
-starts e = record { empty = e; reads = λ timed newest names times line l. rw e (fresh-reads timed newest l) }
+starts e = record { empty = e; reads = λ timed newest fixed names times line l. rw e (fresh-reads timed newest fixed l) }

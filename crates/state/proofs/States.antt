@@ -147,6 +147,7 @@ module _ {r : Record} {m m′ : Memory} {sh : Shape} {st : State} (g : Reads r m
     timed = g .timed;
     newest = g .newest;
     cap = g .cap;
+    fixed = g .fixed;
     for-times = e .for-times;
     for-line = e .for-line;
     table = table-same;

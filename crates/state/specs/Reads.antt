@@ -12,6 +12,7 @@ use Rattle.hashtable.specs.Table.{idOf, liveAt, Table, has}
 use Rattle.revwalk.specs.Order.{In}
 use Rattle.revwalk.specs.Queue.{GoodQueue, slotsOf}
 use Rattle.walk.specs.State.{State}
+use Rattle.state.specs.declared.Fixed.{Fixed}
 use Rattle.state.specs.declared.Record.{Record}
 use Rattle.hash.specs.Bytes.{idBytes}
 
@@ -22,11 +23,12 @@ pub record Memory : Type 0 where
   pub times : List ℤ
   pub line : List ℕ
 
--- what an opening fixes for all calls: the queue's order, and the number of slots (document 01's P)
+-- what an opening fixes for all calls: the queue's order, the number of slots (document 01's P), and what it found in the files
 pub record Shape : Type 0 where
   pub timed : Bool
   pub newest : Bool
   pub cap : ℕ
+  pub fixed : Fixed
 
 -- a waiting slot as an entry of the model's queue: its id, and by time the seconds it was queued with
 abbrev pub entryOf : Bool → List ℕ → List ℤ → ℕ → Id × ℤ
@@ -42,6 +44,7 @@ pub record Reads (r : Record) (m : Memory) (sh : Shape) (st : State) : Type 0 wh
   pub timed : r .queue .timed ≡ sh .timed
   pub newest : r .queue .newest ≡ sh .newest
   pub cap : r .queue .cap ≡ sh .cap
+  pub fixed : r .fixed ≡ sh .fixed
   pub for-times : sh .cap ≤ length (m .times)
   pub for-line : 5 * sh .cap ≤ length (m .line)
   pub table : Table idBytes (r .painted) (m .names) (m .marks) (sh .cap)
@@ -76,6 +79,7 @@ closedRecord = record {
   painted = false;
   failed = false;
   kept = false;
+  fixed = record { layout = record { fan = 0; ids = 0; rows = 0; edge = 0; edges = 0; count = 0 } };
   queue = record { timed = false; newest = false; cap = 0; head = 0; count = 0; next = 0 };
   admitted = 0;
   struck = 0;

@@ -4,15 +4,14 @@ use mathlib.Core.Bool.{Bool, true, false, cond, _&&_, _||_}
 use mathlib.Core.List.{List, _∷_}
 use lib.IntN.{ℤ, pos}
 use Rattle.hash.specs.Bytes.{Id}
+use Rattle.commitgraph.specs.Graph.{layoutOf}
 use Rattle.revwalk.specs.Order.{sooner}
 use Rattle.revwalk.specs.declared.queue.Queue.{Queue}
 use Rattle.walk.specs.declared.Settings.{Settings}
-use Rattle.walk.specs.declared.Sorting.{Sorting}
-use Rattle.walk.specs.declared.Sorting.the-variants.{BreadthFirst, ByCommitTime, ByCommitTimeCutoff}
-use Rattle.walk.specs.declared.CommitTimeOrder.{CommitTimeOrder}
-use Rattle.walk.specs.declared.CommitTimeOrder.the-variants.{NewestFirst, OldestFirst}
-use Rattle.walk.specs.Settings.{byTime}
-use Rattle.walk.specs.State.{State, queued, sees}
+use Rattle.walk.specs.Settings.{byTime, newestFirst}
+use Rattle.walk.specs.State.{State, queued}
+use Rattle.walk.specs.Opening.{Input, P}
+use Rattle.state.specs.declared.Fixed.{Fixed}
 use Rattle.state.specs.declared.Record.{Record}
 use Rattle.state.specs.Reads.{Shape}
 
@@ -22,17 +21,16 @@ beforeOf sh a b = cond (sh .timed) (sooner (sh .newest) a b) false
 
 -- ---- the shape of a walk with given settings
 
-unfoldable pub isNewest : CommitTimeOrder → Bool
-isNewest NewestFirst = true
-isNewest OldestFirst = false
+-- what an opening finds in the graph file g
+abbrev pub fixedOf : List ℕ → Fixed
+fixedOf g = record { layout = layoutOf g }
 
-unfoldable pub newestOf : Sorting → Bool
-newestOf BreadthFirst = false
-newestOf (ByCommitTime o) = isNewest o
-newestOf (ByCommitTimeCutoff o c) = isNewest o
+abbrev pub shapeFor : Settings → ℕ → Fixed → Shape
+shapeFor s n f = record { timed = byTime s; newest = byTime s && newestFirst (s .sorting); cap = n; fixed = f }
 
-abbrev pub shapeFor : Settings → ℕ → Shape
-shapeFor s n = record { timed = byTime s; newest = byTime s && newestOf (s .sorting); cap = n }
+-- the shape that an opening with the input i fixes
+abbrev pub shapeOf : Input → Shape
+shapeOf i = shapeFor (i .settings) (P i) (fixedOf (i .graph))
 
 -- ---- the steps of a state
 
@@ -48,12 +46,6 @@ joins before st x t = record {
   struck = st .struck;
 }
 
--- "unless in the frontier or seen, it is seen, and waits if its link is admitted", with t seconds
-unfoldable pub visited : Shape → State → Id → ℤ → Bool → State
-visited sh st x t admitted =
-    let new : State = cond admitted (joins (beforeOf sh) (sees st x) x (cond (sh .timed) t (pos 0))) (sees st x) in
-    cond (st .frontier x || st .seen x) st new
-
 -- "the commit goes back (front, or queued last among equals)"
 unfoldable pub backTo : Shape → Id × ℤ → List (Id × ℤ) → List (Id × ℤ)
 backTo sh x l = cond (sh .timed) (queued (beforeOf sh) x l) (x ∷ l)
@@ -67,18 +59,20 @@ requeued r q k n = record {
   painted = r .painted;
   failed = r .failed;
   kept = k;
+  fixed = r .fixed;
   queue = q;
   admitted = n;
   struck = r .struck;
 }
 
 -- the record of a walk that has just been opened, with no tip taken
-abbrev pub freshRecord : Bool → Bool → ℕ → Record
-freshRecord timed newest n = record {
+abbrev pub freshRecord : Bool → Bool → ℕ → Fixed → Record
+freshRecord timed newest n f = record {
   live = true;
   painted = false;
   failed = false;
   kept = true;
+  fixed = f;
   queue = record { timed = timed; newest = newest; cap = n; head = 0; count = 0; next = 0 };
   admitted = 0;
   struck = 0;

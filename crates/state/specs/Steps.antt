@@ -13,11 +13,12 @@ use Rattle.object.specs.Ids.{idIn}
 use Rattle.revwalk.specs.Order.{In}
 use Rattle.walk.specs.State.{State, emptyState, sees, withQueue}
 use Rattle.walk.specs.Next.{dropped}
+use Rattle.state.specs.declared.Fixed.{Fixed}
 use Rattle.state.specs.declared.Record.{Record}
 use Rattle.state.specs.declared.Seen.{Seen}
 use Rattle.state.specs.declared.Next.{Next}
 use Rattle.state.specs.Reads.{Memory, Shape, entryOf, waiting, Reads, Universe}
-use Rattle.state.specs.Shapes.{beforeOf, joins, visited, backTo, freshRecord}
+use Rattle.state.specs.Shapes.{beforeOf, joins, backTo, freshRecord}
 
 abbrev pub mem : List ℕ → List ℕ → List ℤ → List ℕ → Memory
 mem names marks times line = record { names = names; marks = marks; times = times; line = line }
@@ -61,18 +62,6 @@ pub record Waits (r : Record) (times times′ : List ℤ) (line line′ : List �
   pub joined : (names marks : List ℕ) (sh : Shape) (st : State) (x : Id) → Reads r (mem names marks times line) sh st → r .failed ≡ false → NotWaiting r (mem names marks times line) sh x slot
       → sh .cap ≤ 4294967296 → r .admitted + 2 < 4294967296 → Reads r′ (mem names marks times′ line′) sh (joins (beforeOf sh) st x (cond (sh .timed) s (pos 0)))
 
--- ---- visit
-
--- visit, with its answer r′: an id is met with s seconds, over a link that is admitted or not
-pub record Visits (r : Record) (names marks names′ marks′ : List ℕ) (times times′ : List ℤ) (line line′ : List ℕ) (x : Id) (s : ℤ) (admitted : Bool) (r′ : Record) : Type 0 where
-  pub long-names : length names′ ≡ length names
-  pub long-marks : length marks′ ≡ length marks
-  pub long-times : length times′ ≡ length times
-  pub for-line : LineKept r line line′
-  pub failed : r′ .failed ≡ r .failed
-  pub reads : (sh : Shape) (st : State) → Reads r (mem names marks times line) sh st → r .failed ≡ false → length x ≡ idBytes → (u : List Id) → Universe sh st u → List·Memᴰ x u
-      → sh .cap ≤ 4294967296 → r .admitted + 2 < 4294967296 → Reads r′ (mem names′ marks′ times′ line′) sh (visited sh st x s admitted)
-
 -- ---- pop
 
 -- x, queued with t seconds, has left the queue, which is l now
@@ -115,5 +104,5 @@ pub record Lent (names marks : List ℕ) (times : List ℤ) (line : List ℕ) (c
 -- start: the slots are emptied, and beside a fresh record the memory reads as a walk with no tips
 pub record Starts (marks marks′ : List ℕ) (cap : ℕ) : Type 0 where
   pub empty : marks′ ≡ cleared cap marks
-  pub reads : (timed newest : Bool) (names : List ℕ) (times : List ℤ) (line : List ℕ) → Lent names marks times line cap
-      → Reads (freshRecord timed newest cap) (mem names marks′ times line) (record { timed = timed; newest = newest; cap = cap }) emptyState
+  pub reads : (timed newest : Bool) (fixed : Fixed) (names : List ℕ) (times : List ℤ) (line : List ℕ) → Lent names marks times line cap
+      → Reads (freshRecord timed newest cap fixed) (mem names marks′ times line) (record { timed = timed; newest = newest; cap = cap; fixed = fixed }) emptyState

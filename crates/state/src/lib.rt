@@ -1,6 +1,7 @@
 // The walk's state in lent memory: the record of counters, the seen ids and the queue, and the small steps on them (the lines of
 // `insert_into_seen_and_next` and `insert_into_seen_and_queue` in gix_traverse::commit::simple). Every function is total and safe on any
 // bytes and numbers.
+use commitgraph::Layout;
 use date::Seconds;
 use hash::Kind;
 use hashtable::marks::SEEN;
@@ -14,7 +15,13 @@ ghost use mathlib.Core.Bool.{cond};
 ghost use lib.ListN.{getD, set};
 ghost use lib.IntN.{pos};
 ghost use Rattle.state.specs.Shapes.{freshRecord, requeued};
-ghost use Rattle.state.specs.Steps.{Sees, Waits, Visits, Pops, Drops, Starts};
+ghost use Rattle.state.specs.Steps.{Sees, Waits, Pops, Drops, Starts};
+
+// What an opening finds in the files and fixes for all calls, so that no call finds it again: where the chunks of the commit-graph file stand.
+// (The order and the number of slots, which it fixes too, are the queue's own.)
+pub struct Fixed {
+    pub layout: Layout,
+}
 
 // What a call takes and gives back (document 01: one small record of counters).
 pub struct Record {
@@ -26,6 +33,7 @@ pub struct Record {
     pub failed: bool,
     // Whether the commit-graph file is still used.
     pub kept: bool,
+    pub fixed: Fixed,
     // The queue's order and places; its `cap` is the number of slots, document 01's P.
     pub queue: Queue,
     // How many commits ever waited, and how many painting struck.
@@ -52,14 +60,15 @@ pub struct Next {
 const MOST: usize = 4294967295;
 
 // The record of a walk that is opened, with no tip taken.
-pub fn fresh_record(timed: bool, newest: bool, cap: usize) -> Record
-    ensures { λ r. ⌜ r ≡ freshRecord timed newest cap ⌝ }
+pub fn fresh_record(timed: bool, newest: bool, cap: usize, fixed: Fixed) -> Record
+    ensures { λ r. ⌜ r ≡ freshRecord timed newest cap fixed ⌝ }
 {
     Record {
         live: true,
         painted: false,
         failed: false,
         kept: true,
+        fixed: fixed,
         queue: Queue {
             timed: timed,
             newest: newest,
@@ -106,11 +115,13 @@ pub fn see(r: Record, names: &mut [u8], marks: &mut [u8], id: &[u8]) -> Seen
 fn with_queue(r: Record, queue: Queue, kept: bool, admitted: usize) -> Record
     ensures { λ a. ⌜ a ≡ requeued r queue kept admitted ⌝ }
 {
+    let fixed = r.fixed;
     Record {
         live: r.live,
         painted: r.painted,
         failed: r.failed,
         kept: kept,
+        fixed: fixed,
         queue: queue,
         admitted: admitted,
         struck: r.struck,
@@ -143,28 +154,6 @@ pub fn wait(r: Record, times: &mut [i64], line: &mut [u32], slot: usize, s: Seco
     set_time(q.timed, times, slot, s.0);
     let longer = queue::push(q, line, times, slot as u32);
     with_queue(r, longer, r.kept, admitted + 1)
-}
-
-// An id is met as a tip or a parent: unless it is in the frontier or seen it is seen now, and waits if its link is admitted.
-pub fn visit(
-    r: Record,
-    names: &mut [u8],
-    marks: &mut [u8],
-    times: &mut [i64],
-    line: &mut [u32],
-    id: &[u8],
-    s: Seconds,
-    admitted: bool,
-) -> Record
-    ensures { λ a. ⌜ Visits r (now (names .entry)) (now (marks .entry)) (now (names .exit)) (now (marks .exit)) (now (times .entry)) (now (times .exit)) (now (line .entry)) (now (line .exit)) (now (id .entry)) (s .0) admitted a ⌝ }
-{
-    let a = see(r, names, marks, id);
-    if a.fresh {
-        if admitted {
-            return wait(r, times, line, a.slot, s);
-        }
-    }
-    r
 }
 
 fn wide(x: u32) -> usize

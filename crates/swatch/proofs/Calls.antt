@@ -9,9 +9,9 @@ use Rattle.walk.specs.Given.{Given, given}
 use Rattle.traverse.specs.Contract.{OfPaper}
 use Rattle.swatch.specs.Contract.{leftAfter}
 
-pub few-parents : {a : Given} {b b′ : List ℕ} → OfPaper a b b′ → a .parents < 1000
+pub few-parents : {a : Given} {b b′ : List ℕ} → OfPaper a b b′ → a .info .parents < 1000
 unfolding given
-few-parents p = omega (arith, p .few, ap (λ (q : Given). q .parents) (p .is))
+few-parents p = omega (arith, p .few, ap (λ (q : Given). q .info .parents) (p .is))
 
 -- and calls are fewer after one
 pub left-less : (o : Outcome) (n : ℕ) → 0 < n → leftAfter o n < n

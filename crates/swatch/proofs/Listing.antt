@@ -16,7 +16,8 @@ use Rattle.opening.specs.Checks.{checkedBy}
 use Rattle.opening.proofs.Opened.{opens}
 use Rattle.state.specs.declared.Record.{Record}
 use Rattle.state.specs.Reads.{Reads}
-use Rattle.traverse.specs.Contract.{Files, Lent, inputWith, lengthsOf, shapeOf}
+use Rattle.state.specs.Shapes.{shapeOf}
+use Rattle.traverse.specs.Contract.{Files, Lent, inputWith, lengthsOf}
 use Rattle.swatch.specs.declared.Turn.{Turn}
 use Rattle.swatch.specs.Text.{lineOf, lineGiven, isEnd, linesOf, parentsAfter}
 use Rattle.swatch.specs.Contract.{Puts, leftAfter, ListsCall, ListsCalls}
@@ -87,7 +88,7 @@ module _ (i : Input) (st : State) (e : openWalk i true ≡ opened st) where
   listing-next : {n : ℕ} {out₀ b₀ : List ℕ} {left : ℕ} {r : Record} {m : Lent} {out : List ℕ} {at : ℕ} {o : Given} {q : Record} {t : Turn} {m′ : Lent} {out′ : List ℕ}
       → (l : Listing i n out₀ b₀ left r m out at) → 0 < left → o ≡ given (answerAt i (l .k)) → m′ .parents ≡ parentsGiven (answerAt i (l .k)) (m .parents)
       → Reads q (m′ .memory) (shapeOf i) (stateAfter i (suc (l .k))) → t .record ≡ q → t .left ≡ leftAfter (o .outcome) left
-      → Puts out at (lineGiven (o .outcome) (o .id) (o .parents)) out′ (t .at) → Listing i n out₀ b₀ (t .left) (t .record) m′ out′ (t .at)
+      → Puts out at (lineGiven (o .outcome) (o .info .id) (o .info .parents)) out′ (t .at) → Listing i n out₀ b₀ (t .left) (t .record) m′ out′ (t .at)
   unfolding given stateAfter rest
   listing-next {n} {out₀} {b₀} {left} {r} {m} {out} {at} {o} {q} {t} {m′} {out′} l h g b d s f p = record {
     k = suc (l .k);
@@ -114,8 +115,8 @@ module _ (i : Input) (st : State) (e : openWalk i true ≡ opened st) where
       is : answerAt i (l .k) ≡ a
       is = answer-next (l .k)
 
-      line-is : lineGiven (o .outcome) (o .id) (o .parents) ≡ line
-      line-is = ap (λ (y : Given). lineGiven (y .outcome) (y .id) (y .parents)) (g ∙ ap given is) ∙ given-line (a .kind) (length (a .parents))
+      line-is : lineGiven (o .outcome) (o .info .id) (o .info .parents) ≡ line
+      line-is = ap (λ (y : Given). lineGiven (y .outcome) (y .info .id) (y .info .parents)) (g ∙ ap given is) ∙ given-line (a .kind) (length (a .parents))
 
       some-left : left ≡ suc (left - 1)
       some-left = omega arith

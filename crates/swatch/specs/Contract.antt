@@ -12,8 +12,9 @@ use Rattle.walk.specs.Opening.{Input, roomFor, openWalk, closed, opened}
 use Rattle.walk.specs.Calls.{stateAfter, answers}
 use Rattle.state.specs.declared.Record.{Record}
 use Rattle.state.specs.Reads.{Reads}
+use Rattle.state.specs.Shapes.{shapeOf}
 use Rattle.traverse.specs.declared.Out.{Out}
-use Rattle.traverse.specs.Contract.{Files, Lent, inputWith, lengthsOf, shapeOf, NextSays}
+use Rattle.traverse.specs.Contract.{Files, Lent, inputWith, lengthsOf, NextSays}
 use Rattle.swatch.specs.declared.Turn.{Turn}
 use Rattle.swatch.specs.Text.{mostBytes, lineGiven, linesOf, parentsAfter, textOf, parentsOf, inputIn, text}
 
@@ -36,7 +37,7 @@ pub record ListsCall (f : Files) (left : ℕ) (r : Record) (m : Lent) (out : Lis
   pub says : NextSays f r m given m′
   pub same-record : t .record ≡ given .record
   pub left-is : t .left ≡ leftAfter (given .answer .outcome) left
-  pub line : Puts out at (lineGiven (given .answer .outcome) (given .answer .id) (given .answer .parents)) out′ (t .at)
+  pub line : Puts out at (lineGiven (given .answer .outcome) (given .answer .info .id) (given .answer .info .parents)) out′ (t .at)
 
 -- ---- all calls
 

@@ -120,11 +120,12 @@ fn end(out: &mut [u8], at: usize) -> usize
 
 // The line of an answer.
 pub(crate) fn answer(out: &mut [u8], at: usize, a: Answer) -> usize
-    ensures { λ r. ⌜ (a .parents < 1000 → Puts (now (out .entry)) at (lineGiven (a .outcome) (a .id) (a .parents)) (now (out .exit)) r) ⌝ }
+    ensures { λ r. ⌜ (a .info .parents < 1000 → Puts (now (out .entry)) at (lineGiven (a .outcome) (a .info .id) (a .info .parents)) (now (out .exit)) r) ⌝ }
 {
     let outcome = a.outcome;
+    let info = a.info;
     match outcome {
-        Outcome::Commit => commit(out, at, &a.id, a.parents),
+        Outcome::Commit => commit(out, at, &info.id, info.parents),
         Outcome::End => end(out, at),
         Outcome::Refused(r) => refusal(out, at, r),
     }

@@ -13,7 +13,8 @@ use Rattle.walk.specs.Calls.{stateAfter, answerAt, upTo}
 use Rattle.walk.specs.Given.{Given, given}
 use Rattle.state.specs.declared.Record.{Record}
 use Rattle.state.specs.Reads.{Reads, closedRecord}
-use Rattle.traverse.specs.Contract.{Files, Lent, lengthsOf, shapeOf}
+use Rattle.state.specs.Shapes.{shapeOf}
+use Rattle.traverse.specs.Contract.{Files, Lent, lengthsOf}
 use Rattle.traverse.specs.Demand.{Call, Calls, call, filesOf, CallIs, here, after, answersOf, Gives, Shut}
 
 -- the first call, or one of the others

@@ -21,6 +21,7 @@ use Rattle.walk.specs.Universe.{universe}
 use Rattle.opening.proofs.Input.{places-few}
 use Rattle.state.specs.declared.Record.{Record}
 use Rattle.state.specs.Reads.{Memory, Shape, Reads}
+use Rattle.state.specs.Shapes.{shapeOf}
 use Rattle.state.proofs.States.{queue-length}
 use Rattle.visit.specs.declared.next.Taken.{Taken}
 use Rattle.visit.specs.Taking.{gave, Rests, TakesNext}
@@ -32,7 +33,7 @@ use Rattle.painting.specs.First.{AtFirst, GoesOn, Told, RefusesBy, Paints}
 use Rattle.traverse.specs.declared.Out.{Out}
 use Rattle.traverse.specs.Contract.{Files, inputWith, Lent, lengthsOf, OfPaper, NextSays}
 use Rattle.traverse.specs.Next.{Whole, GivesBack, shutWith, Goes}
-use Rattle.traverse.proofs.Standing.{shapeIn, goes-by, world-is, in-rows, in-store, Stands, stands, good-store, good-graph, room-parents, room-levels, few-admitted, rests, stands-whole, says-step, next-painted, next-first, first-state, whole-room}
+use Rattle.traverse.proofs.Standing.{goes-by, world-is, in-rows, in-store, Stands, stands, good-store, good-graph, room-parents, room-levels, few-admitted, rests, stands-whole, says-step, next-painted, next-first, first-state, whole-room}
 use Rattle.traverse.proofs.Paper.{of-paper, of-paper-refused, plain-end, of-paper-shut, not-shut, call-not-shut}
 
 -- ---- a painted record
@@ -45,9 +46,9 @@ module _ {f : Files} {r : Record} {m : Lent} {t : Taken} {o : Out} (m′ : Lent)
     opened-call = λ h tips k st e g.
         let i = inputWith f tips in
         let s = stands i m r k st e g in
-        let q = n .right (good-store s) (good-graph s) (walkOf i) (shapeIn i) (stateAfter i k) (universe i) (goes-by i) (world-is i) (rests s) (in-rows i) (in-store i) (room-parents s) in
+        let q = n .right (good-store s) (good-graph s) (walkOf i) (shapeOf i) (stateAfter i k) (universe i) (goes-by i) refl (world-is i) (rests s) (in-rows i) (in-store i) (room-parents s) in
         says-step s (takeNext (walkOf i) (stateAfter i k)) (next-painted (walkOf i) (stateAfter i k) (s .reads .painted ∙ h)) o m′ (b .answer ∙ q .answer) (q .down)
-        (subst (λ (y : Record). Reads y (m′ .memory) (shapeIn i) (takeNext (walkOf i) (stateAfter i k) .state)) (sym (b .after)) (q .reads));
+        (subst (λ (y : Record). Reads y (m′ .memory) (shapeOf i) (takeNext (walkOf i) (stateAfter i k) .state)) (sym (b .after)) (q .reads));
     not-twelve = λ e. not-shut p (ap (λ (a : Given). a .outcome) (sym (b .answer)) ∙ e);
     of-paper = λ h. subst (λ (a : Given). OfPaper a (m .parents) (m′ .parents)) (sym (b .answer)) (of-paper p l h);
   }
@@ -60,13 +61,13 @@ module _ {i : Input} {m : Lent} {r : Record} {k : ℕ} {st : State} (s : Stands 
   is-first = ap (stateAfter i) (only-first i k (s .reads .painted ∙ h)) ∙ first-state i st (s .accepted)
 
   at-first : AtFirst i r (m .memory) (m .levels) st
-  at-first = record { accepted = s .accepted; reads = subst (Reads r (m .memory) (shapeIn i)) is-first (s .reads); for-levels = room-levels s }
+  at-first = record { accepted = s .accepted; reads = subst (Reads r (m .memory) (shapeOf i)) is-first (s .reads); for-levels = room-levels s }
 
   paints-first : next (walkOf i) (stateAfter i k) ≡ firstCall (walkOf i) st
   paints-first = ap (next (walkOf i)) is-first ∙ next-first (walkOf i) st (ap (λ (q : State). q .painted) (sym is-first) ∙ s .reads .painted ∙ h)
 
   -- the state that painting leaves
-  rests-after : {r′ : Record} {m₁ : Memory} (g : GoesOn i st r′ m₁) → Rests (shapeIn i) r′ m₁ (g .after) (universe i)
+  rests-after : {r′ : Record} {m₁ : Memory} (g : GoesOn i st r′ m₁) → Rests (shapeOf i) r′ m₁ (g .after) (universe i)
   rests-after g =
       let e : stateAfter i k .admitted ≡ st .admitted = ap (λ (q : State). q .admitted) is-first in
       record {
@@ -87,10 +88,7 @@ refused-given : {r : Record} {m : Memory} {sh : Shape} {st : State} (w : Refusal
 unfolding step given
 refused-given w g = λ k. record {
   outcome = Refused w;
-  id = noId;
-  parents = 0;
-  generation = NoGeneration;
-  time = NoTime;
+  info = record { id = noId; parents = 0; generation = NoGeneration; time = NoTime };
   admitted = sym (g .admitted) k;
   struck = sym (g .struck) k;
   waiting = sym (queue-length g) k;
@@ -113,9 +111,9 @@ module _ {f : Files} {r : Record} {m : Lent} {p : painted.Painted} {m₁ : Memor
         let i = inputWith f tips in
         let s = stands i m r k st e g in
         let j = subst (Told i st m₁) y (told tips s h) in
-        let z = n .right (good-store s) (good-graph s) (walkOf i) (shapeIn i) (j .after) (universe i) (goes-by i) (world-is i) (rests-after s h j) (in-rows i) (in-store i) (room-parents s) in
+        let z = n .right (good-store s) (good-graph s) (walkOf i) (shapeOf i) (j .after) (universe i) (goes-by i) refl (world-is i) (rests-after s h j) (in-rows i) (in-store i) (room-parents s) in
         says-step s (takeNext (walkOf i) (j .after)) (paints-first s h ∙ j .is) o m′ (b .answer ∙ z .answer) (z .down)
-        (subst (λ (w : Record). Reads w (m′ .memory) (shapeIn i) (takeNext (walkOf i) (j .after) .state)) (sym (b .after)) (z .reads));
+        (subst (λ (w : Record). Reads w (m′ .memory) (shapeOf i) (takeNext (walkOf i) (j .after) .state)) (sym (b .after)) (z .reads));
     not-twelve = λ e. not-shut q (ap (λ (a : Given). a .outcome) (sym (b .answer)) ∙ e);
     of-paper = λ h. subst (λ (a : Given). OfPaper a (m .parents) (m′ .parents)) (sym (b .answer)) (of-paper q l h);
   }
@@ -132,7 +130,7 @@ module _ {f : Files} {r : Record} {m : Lent} {p : painted.Painted} {m₁ : Memor
             let j = subst (Told i st m₁) y (told tips s h) in
             says-step s (step (refused w) [] (j .after)) (paints-first s h ∙ j .is) o (record { memory = m₁; levels = levels; parents = m .parents })
             (b .answer ∙ refused-given w (j .reads)) (none-down w (j .after) (m .parents))
-            (subst (λ (z : Record). Reads z m₁ (shapeIn i) (step (refused w) [] (j .after) .state)) (sym (b .after)) (refused-reads w (j .reads)));
+            (subst (λ (z : Record). Reads z m₁ (shapeOf i) (step (refused w) [] (j .after) .state)) (sym (b .after)) (refused-reads w (j .reads)));
         not-twelve = λ e. call-not-shut w c (ap (λ (a : Given). a .outcome) (sym (b .answer)) ∙ e);
         of-paper = λ h. subst (λ (a : Given). OfPaper a (m .parents) (m .parents)) (sym (b .answer)) (of-paper-refused (m .parents) w r₁ c);
       }

@@ -16,6 +16,7 @@ use Rattle.walk.proofs.Whole.{length-list}
 use Rattle.opening.proofs.Ids.{idsFrom, ids-start, ids-next, ids-end}
 use Rattle.state.specs.declared.Record.{Record}
 use Rattle.state.specs.Reads.{Memory}
+use Rattle.state.specs.declared.Fixed.{Fixed}
 use Rattle.state.specs.Shapes.{shapeFor}
 use Rattle.traverse.specs.Open.{tipIn, tipsAll, Early, SameLengths, Over, TakesTip, TakesTips}
 
@@ -25,8 +26,8 @@ pub record Turns (store tips excluded : List ℕ) (o : Sorting) (m₀ : Memory) 
   pub count : n ≡ length tips / idBytes
   pub long : SameLengths m₀ m
   pub inside : (y : Id) → List·Memᴰ y (idsFrom n k tips) → List·Memᴰ y (listIds tips)
-  pub taken : (w : Walk) (c : ℕ) (st : State) → storeOk idBytes store ≡ true → Over store excluded o w → c ≤ 1048576 → Early (shapeFor (w .settings) c) (listIds tips) 0 r₀ m₀ st
-      → (s : State) × Early (shapeFor (w .settings) c) (listIds tips) k r m s × (tipsAll w (idsFrom n k tips) s ≡ tipsAll w (listIds tips) st)
+  pub taken : (w : Walk) (c : ℕ) (d : Fixed) (st : State) → storeOk idBytes store ≡ true → Over store excluded o w → c ≤ 1048576 → Early (shapeFor (w .settings) c d) (listIds tips) 0 r₀ m₀ st
+      → (s : State) × Early (shapeFor (w .settings) c d) (listIds tips) k r m s × (tipsAll w (idsFrom n k tips) s ≡ tipsAll w (listIds tips) st)
 
 pub turns-start : {store tips excluded : List ℕ} {o : Sorting} {m : Memory} {r : Record} → Turns store tips excluded o m r (length tips / idBytes) m r 0
 turns-start {tips = tips} = record {
@@ -34,7 +35,7 @@ turns-start {tips = tips} = record {
   count = refl;
   long = record { names = refl; marks = refl; times = refl; line = refl };
   inside = λ y h. subst (List·Memᴰ y) (ids-start tips) h;
-  taken = λ w c st ok v b g. (st, g, ap (λ (l : List Id). tipsAll w l st) (ids-start tips));
+  taken = λ w c d st ok v b g. (st, g, ap (λ (l : List Id). tipsAll w l st) (ids-start tips));
 }
 
 width : (b : List ℕ) (k : ℕ) → k < length b / idBytes → length (at b (idBytes * k) idBytes) ≡ idBytes
@@ -64,13 +65,13 @@ module _ {store tips excluded : List ℕ} {o : Sorting} {m₀ m : Memory} {r₀ 
           line = q .long .line ∙ t .long .line;
         };
         inside = λ y i. t .inside y (subst (List·Memᴰ y) (sym e) (List·Memᴰ·tail i));
-        taken = λ w c st ok v b g.
-            let f = t .taken w c st ok v b g in
-            let p = q .taken w c k (listIds tips) (f .0) ok v (width tips k (omega (arith, h, t .count)))
+        taken = λ w c d st ok v b g.
+            let f = t .taken w c d st ok v b g in
+            let p = q .taken w c d k (listIds tips) (f .0) ok v (width tips k (omega (arith, h, t .count)))
             (t .inside x (subst (List·Memᴰ x) (sym e) (List·Memᴰ·head refl))) b
             (omega (arith, b, h, t .count, length-list tips, g .universe .few)) (f .1) in (
               tipIn w (f .0) x,
-              subst (λ (j : ℕ). Early (shapeFor (w .settings) c) (listIds tips) j r′ m′ (tipIn w (f .0) x)) s p,
+              subst (λ (j : ℕ). Early (shapeFor (w .settings) c d) (listIds tips) j r′ m′ (tipIn w (f .0) x)) s p,
               sym (ap (λ (l : List Id). tipsAll w l (f .0)) e ∙ one-more w x (idsFrom n (k + 1) tips) (f .0)) ∙ f .2,
             );
       }
@@ -78,10 +79,10 @@ module _ {store tips excluded : List ℕ} {o : Sorting} {m₀ m : Memory} {r₀ 
   pub turns-end : n ≤ k → TakesTips store tips excluded o m₀ m r₀ r
   turns-end h = record {
     long = t .long;
-    taken = λ w c st ok v b g.
-        let f = t .taken w c st ok v b g in
+    taken = λ w c d st ok v b g.
+        let f = t .taken w c d st ok v b g in
         let e : tipsAll w (listIds tips) st ≡ f .0 = sym (f .2) ∙ ap (λ (l : List Id). tipsAll w l (f .0)) (ids-end tips n k h) ∙ no-more w (f .0) in
         let j : k ≡ length tips / idBytes = omega (arith, h, t .low, t .count) in
-        subst (λ (z : State). Early (shapeFor (w .settings) c) (listIds tips) (length tips / idBytes) r m z) (sym e)
-        (subst (λ (y : ℕ). Early (shapeFor (w .settings) c) (listIds tips) y r m (f .0)) j (f .1));
+        subst (λ (z : State). Early (shapeFor (w .settings) c d) (listIds tips) (length tips / idBytes) r m z) (sym e)
+        (subst (λ (y : ℕ). Early (shapeFor (w .settings) c d) (listIds tips) y r m (f .0)) j (f .1));
   }

@@ -11,11 +11,9 @@ use lib.IntN.{ℤ}
 use Rattle.hash.specs.Bytes.{among}
 use Rattle.hash.proofs.Tests.{clash}
 use Rattle.walk.specs.declared.Refusal.{Refusal}
-use Rattle.walk.specs.declared.Sorting.{Sorting}
-use Rattle.walk.specs.declared.Sorting.the-variants.{BreadthFirst, ByCommitTime, ByCommitTimeCutoff}
 use Rattle.walk.specs.declared.CommitTimeOrder.the-variants.{NewestFirst, OldestFirst}
 use Rattle.walk.specs.declared.OpenOutcome.the-variants.{Accepted}
-use Rattle.walk.specs.Settings.{byTime}
+use Rattle.walk.specs.Settings.{byTime, newestFirst}
 use Rattle.walk.specs.State.{State, emptyState}
 use Rattle.walk.specs.Opening.{Input, listIds, P, walkOf, refusal, roomFor, closed, opened, openTips, openWalk}
 use Rattle.walk.specs.Given.{openGiven}
@@ -27,11 +25,11 @@ use Rattle.opening.proofs.Input.{passes, places-few, room}
 use Rattle.opening.proofs.Opened.{opens, refused-closed, open-roomy}
 use Rattle.state.specs.declared.Record.{Record}
 use Rattle.state.specs.Reads.{Memory, Shape, Reads}
-use Rattle.state.specs.Shapes.{isNewest, newestOf, shapeFor, freshRecord}
+use Rattle.state.specs.Shapes.{fixedOf, shapeOf, freshRecord}
 use Rattle.state.specs.Steps as steps
 use Rattle.state.proofs.States.{queue-length}
 use Rattle.traverse.specs.declared.Opened.{Opened}
-use Rattle.traverse.specs.Contract.{Lent, lengthsOf, newestFirst, shapeOf, OpenSays}
+use Rattle.traverse.specs.Contract.{Lent, lengthsOf, OpenSays}
 use Rattle.traverse.specs.Open.{tipsAll, Early, TakesTips, Fills, Refuses, Accepts}
 use Rattle.traverse.proofs.OpenTips.{tips-all}
 
@@ -45,29 +43,15 @@ pub and-false : (b : Bool) → (b && false) ≡ false
 and-false true = refl
 and-false false = refl
 
--- ---- the shape
-
-newest-same : (o : Sorting) → newestOf o ≡ newestFirst o
-unfolding newestOf newestFirst isNewest
-newest-same BreadthFirst = refl
-newest-same (ByCommitTime NewestFirst) = refl
-newest-same (ByCommitTime OldestFirst) = refl
-newest-same (ByCommitTimeCutoff NewestFirst c) = refl
-newest-same (ByCommitTimeCutoff OldestFirst c) = refl
-
-pub shape-same : (i : Input) → shapeFor (i .settings) (P i) ≡ shapeOf i
-unfolding shapeOf
-shape-same i = λ k. record { timed = byTime (i .settings); newest = byTime (i .settings) && newest-same (i .settings .sorting) k; cap = P i }
-
 -- ---- the tips are let in, into emptied memory
 
 module _ (i : Input) {names marks marks₁ : List ℕ} {times : List ℤ} {line : List ℕ} {r : Record} {cap : ℕ} (e : cap ≡ P i) (s : steps.Starts marks marks₁ cap) (a : length marks₁ ≡ length marks)
-    (f : r ≡ freshRecord (byTime (i .settings)) (byTime (i .settings) && newestOf (i .settings .sorting)) cap) where
-  early : refusal i ≡ none → steps.Lent names marks times line (P i) → Early (shapeFor (i .settings) (P i)) (listIds (i .tips)) 0 r (steps.mem names marks₁ times line) emptyState
+    (f : r ≡ freshRecord (byTime (i .settings)) (byTime (i .settings) && newestFirst (i .settings .sorting)) cap (fixedOf (i .graph))) where
+  early : refusal i ≡ none → steps.Lent names marks times line (P i) → Early (shapeOf i) (listIds (i .tips)) 0 r (steps.mem names marks₁ times line) emptyState
   unfolding P
   early z l = record {
-    reads = rw (f ∙ ap (freshRecord (byTime (i .settings)) (byTime (i .settings) && newestOf (i .settings .sorting))) e)
-        (subst (steps.Starts marks marks₁) e s .reads (byTime (i .settings)) (byTime (i .settings) && newestOf (i .settings .sorting)) names times line l);
+    reads = rw (f ∙ ap (λ (n : ℕ). freshRecord (byTime (i .settings)) (byTime (i .settings) && newestFirst (i .settings .sorting)) n (fixedOf (i .graph))) e)
+        (subst (steps.Starts marks marks₁) e s .reads (byTime (i .settings)) (byTime (i .settings) && newestFirst (i .settings .sorting)) (fixedOf (i .graph)) names times line l);
     unfailed = ap (λ (q : Record). q .failed) f;
     few = omega arith;
     universe = record { few = omega (arith, length-list (i .tips)); has-seen = λ x e. clash e refl; has-frontier = λ x e. clash e refl };
@@ -79,7 +63,7 @@ module _ (i : Input) {names marks marks₁ : List ℕ} {times : List ℤ} {line 
   unfolding walkOf
   fills t = record {
     long = record { names = t .long .names; marks = t .long .marks ∙ a; times = t .long .times; line = t .long .line };
-    filled = λ z l. t .taken (walkOf i) (P i) emptyState (passes i z .store-good) (i .graph, refl, refl, refl) (omega (arith, places-few i z)) (early z l) .reads;
+    filled = λ z l. t .taken (walkOf i) (P i) (fixedOf (i .graph)) emptyState (passes i z .store-good) (i .graph, refl, refl, refl) (omega (arith, places-few i z)) (early z l) .reads;
   }
 
 -- ---- the outcome
@@ -134,14 +118,13 @@ module _ (i : Input) (m m′ : Lent) (o : Opened) {r : Record} (e : Fine ≡ che
   accepted-says =
       let q = opens i (roomFor i (lengthsOf m)) e in
       let t : tipsAll (walkOf i) (listIds (i .tips)) emptyState ≡ q .state = tips-said (q .state) (sym (open-roomy i true (q .accepted) refl) ∙ q .opens-true) in
-      let g : Reads r (m′ .memory) (shapeFor (i .settings) (P i)) (q .state) = subst (Reads r (m′ .memory) (shapeFor (i .settings) (P i))) t (f .filled (q .accepted) (lent (q .has-room))) in
+      let g : Reads r (m′ .memory) (shapeOf i) (q .state) = subst (Reads r (m′ .memory) (shapeOf i)) t (f .filled (q .accepted) (lent (q .has-room))) in
       record {
-        answer = a .answer (m′ .memory) (shapeFor (i .settings) (P i)) (q .state) g ∙ ap openGiven (sym (q .opens-as));
+        answer = a .answer (m′ .memory) (shapeOf i) (q .state) g ∙ ap openGiven (sym (q .opens-as));
         refused-open = λ z h. never (sym h ∙ q .opens-as);
         accepted-open = λ z h.
             subst (λ (y : Record). Reads y (m′ .memory) (shapeOf i) (stateAfter i 0)) (sym (a .same))
-            (subst (λ (y : Shape). Reads r (m′ .memory) y (stateAfter i 0)) (shape-same i)
-            (subst (Reads r (m′ .memory) (shapeFor (i .settings) (P i))) (first-state (q .state) (q .opens-true)) g));
+            (subst (Reads r (m′ .memory) (shapeOf i)) (first-state (q .state) (q .opens-true)) g);
         same-lengths = same;
         same-parents = p;
       }

@@ -28,6 +28,7 @@ use Rattle.reading.specs.Tip.{tipOf, tipSeconds}
 use Rattle.state.specs.declared.Record.{Record}
 use Rattle.state.specs.declared.Seen.{Seen}
 use Rattle.state.specs.Reads.{Memory, Shape, Reads}
+use Rattle.state.specs.declared.Fixed.{Fixed}
 use Rattle.state.specs.Shapes.{joins, shapeFor}
 use Rattle.state.specs.Steps.{mem, Sees, Waits, Entered}
 use Rattle.state.proofs.Shapes.{waits-shape}
@@ -154,8 +155,8 @@ module _ {sh : Shape} {u : List Id} {k : ℕ} {r : Record} {m : Memory} {st : St
 pub tip-skipped : {store excluded : List ℕ} {o : Sorting} (m : Memory) (x : Id) (r : Record) → among x (listIds excluded) ≡ true → TakesTip store excluded o m m x r r
 tip-skipped {excluded = excluded} m x r e = record {
   long = same-lengths m;
-  taken = λ w n k u st ok v l h a b g.
-      subst (λ (s : State). Early (shapeFor (w .settings) n) u (suc k) r m s) (sym (in-skipped w st x (ap (among x) (v .2) ∙ e))) (early-on g);
+  taken = λ w n f k u st ok v l h a b g.
+      subst (λ (s : State). Early (shapeFor (w .settings) n f) u (suc k) r m s) (sym (in-skipped w st x (ap (among x) (v .2) ∙ e))) (early-on g);
 }
 
 -- another tip, with what see told and how it comes in
@@ -172,19 +173,19 @@ module _ (store excluded : List ℕ) (o : Sorting) {names marks names′ marks�
       rw (p .0, p .1, q .same-record, q .same-times, q .same-line) (early-on g)
 
   -- a new one
-  comes : (w : Walk) (n k : ℕ) (u : List Id) (st : State) → length x ≡ idBytes → List·Memᴰ x u → n ≤ 1048576 → k < 1048576
-      → Early (shapeFor (w .settings) n) u k r (mem names marks times line) st → st .seen x ≡ false → (b : Admission) → how ≡ b
-      → Early (shapeFor (w .settings) n) u (suc k) r′ (mem names′ marks′ times′ line′) (inAs w st x b)
-  comes w n k u st l h c i g z b y =
-      go b y (s .new times line (shapeFor (w .settings) n) st (g .reads) (g .unfailed) l (rw (g .unpainted x, z)) u (g .universe) h)
+  comes : (w : Walk) (n : ℕ) (f : Fixed) (k : ℕ) (u : List Id) (st : State) → length x ≡ idBytes → List·Memᴰ x u → n ≤ 1048576 → k < 1048576
+      → Early (shapeFor (w .settings) n f) u k r (mem names marks times line) st → st .seen x ≡ false → (b : Admission) → how ≡ b
+      → Early (shapeFor (w .settings) n f) u (suc k) r′ (mem names′ marks′ times′ line′) (inAs w st x b)
+  comes w n f k u st l h c i g z b y =
+      go b y (s .new times line (shapeFor (w .settings) n f) st (g .reads) (g .unfailed) l (rw (g .unpainted x, z)) u (g .universe) h)
     where
-      go : (b′ : Admission) → how ≡ b′ → Entered r (mem names′ marks′ times line) (shapeFor (w .settings) n) st x a
-          → Early (shapeFor (w .settings) n) u (suc k) r′ (mem names′ marks′ times′ line′) (inAs w st x b′)
+      go : (b′ : Admission) → how ≡ b′ → Entered r (mem names′ marks′ times line) (shapeFor (w .settings) n f) st x a
+          → Early (shapeFor (w .settings) n f) u (suc k) r′ (mem names′ marks′ times′ line′) (inAs w st x b′)
       go (Admitted t) y′ v =
           let q = j .joins (v .fresh) (t .0) y′ in
           early-waits g w x (t .0) h (q .failed)
-          (subst (Reads r′ (mem names′ marks′ times′ line′) (shapeFor (w .settings) n)) (sym (waits-shape w n st x (t .0)))
-          (q .joined names′ marks′ (shapeFor (w .settings) n) (sees st x) x (v .reads) (g .unfailed) (v .slot) (omega (arith, c)) (omega (arith, i, g .few, g .reads .admitted))))
+          (subst (Reads r′ (mem names′ marks′ times′ line′) (shapeFor (w .settings) n f)) (sym (waits-shape w n f st x (t .0)))
+          (q .joined names′ marks′ (shapeFor (w .settings) n f) (sees st x) x (v .reads) (g .unfailed) (v .slot) (omega (arith, c)) (omega (arith, i, g .few, g .reads .admitted))))
       go OnlySeen y′ v =
           let q = j .turned y′ in
           rw (q .same-record, q .same-times, q .same-line) (early-sees g x h (v .reads))
@@ -192,12 +193,12 @@ module _ (store excluded : List ℕ) (o : Sorting) {names marks names′ marks�
   pub tip-taken : TakesTip store excluded o (mem names marks times line) (mem names′ marks′ times′ line′) x r r′
   tip-taken = record {
     long = record { names = s .long-names; marks = s .long-marks; times = j .long-times; line = j .long-line };
-    taken = λ w n k u st ok v l h c i g.
+    taken = λ w n f k u st ok v l h c i g.
         let p : among x (w .excluded) ≡ false = ap (among x) (v .2) ∙ e in
         let y : how ≡ admissionOf (w .world) (w .settings .sorting) x = d ok (v .0) ∙ ap (λ (q : World). admissionOf q o x) (sym (v .1)) ∙ ap (λ (q : Sorting). admissionOf (w .world) q x) (sym (v .3)) in
         byCases (st .seen x)
-        (λ z. subst (λ (q : State). Early (shapeFor (w .settings) n) u (suc k) r′ (mem names′ marks′ times′ line′) q) (sym (in-seen w st x p z)) (again w (shapeFor (w .settings) n) k u st g z))
-        (λ z. subst (λ (q : State). Early (shapeFor (w .settings) n) u (suc k) r′ (mem names′ marks′ times′ line′) q) (sym (in-new w st x p z)) (comes w n k u st l h c i g z (admissionOf (w .world) (w .settings .sorting) x) y));
+        (λ z. subst (λ (q : State). Early (shapeFor (w .settings) n f) u (suc k) r′ (mem names′ marks′ times′ line′) q) (sym (in-seen w st x p z)) (again w (shapeFor (w .settings) n f) k u st g z))
+        (λ z. subst (λ (q : State). Early (shapeFor (w .settings) n f) u (suc k) r′ (mem names′ marks′ times′ line′) q) (sym (in-new w st x p z)) (comes w n f k u st l h c i g z (admissionOf (w .world) (w .settings .sorting) x) y));
   }
 
 -- ---- a tip waits or does not

@@ -79,7 +79,7 @@ seconds-in (Time s) = refl
 seconds-in NoTime = refl
 
 abbrev kindIn : Outcome → Given → Kind
-kindIn Commit a = handed (a .id) (levelIn (a .generation)) (secondsIn (a .time))
+kindIn Commit a = handed (a .info .id) (levelIn (a .info .generation)) (secondsIn (a .info .time))
 kindIn End a = end
 kindIn (Refused r) a = refused r
 
@@ -89,12 +89,12 @@ outcome-in End a = refl
 outcome-in (Refused r) a = refl
 
 record SameFields (a : Given) (k : Kind) : Type 0 where
-  id : a .id ≡ idOfKind k
-  generation : a .generation ≡ levelOfKind k
-  time : a .time ≡ secondsOfKind k
+  id : a .info .id ≡ idOfKind k
+  generation : a .info .generation ≡ levelOfKind k
+  time : a .info .time ≡ secondsOfKind k
 
 fields-in : (o : Outcome) (a : Given) → ShapedBy o a → SameFields a (kindIn o a)
-fields-in Commit a s = record { id = refl; generation = level-in (a .generation); time = seconds-in (a .time) }
+fields-in Commit a s = record { id = refl; generation = level-in (a .info .generation); time = seconds-in (a .info .time) }
 fields-in End a s = record { id = s .0 .no-id; generation = s .0 .no-generation; time = s .0 .no-time }
 fields-in (Refused r) a s = record { id = s .0 .no-id; generation = s .0 .no-generation; time = s .0 .no-time }
 
@@ -103,15 +103,15 @@ of-call-in Commit a s r e = let z : _≡_ {A = ℕ} 0 1 = cc in absurd (omega ar
 of-call-in End a s r e = let z : _≡_ {A = ℕ} 0 1 = cc in absurd (omega arith)
 of-call-in (Refused q) a s r e = let z : q ≡ r = cc in subst (λ (y : Refusal). OfCall y) z (s .1)
 
-end-in : (o : Outcome) (a : Given) → ShapedBy o a → kindIn o a ≡ end → a .parents ≡ 0
+end-in : (o : Outcome) (a : Given) → ShapedBy o a → kindIn o a ≡ end → a .info .parents ≡ 0
 end-in Commit a s e = let z : _≡_ {A = ℕ} 0 1 = cc in absurd (omega arith)
 end-in End a s e = s .1
 end-in (Refused q) a s e = let z : _≡_ {A = ℕ} 0 1 = cc in absurd (omega arith)
 
-counted-in : (o : Outcome) (a : Given) → ShapedBy o a → (r : Refusal) → kindIn o a ≡ refused r → Counted r (a .parents)
+counted-in : (o : Outcome) (a : Given) → ShapedBy o a → (r : Refusal) → kindIn o a ≡ refused r → Counted r (a .info .parents)
 counted-in Commit a s r e = let z : _≡_ {A = ℕ} 0 1 = cc in absurd (omega arith)
 counted-in End a s r e = let z : _≡_ {A = ℕ} 0 1 = cc in absurd (omega arith)
-counted-in (Refused q) a s r e = let z : q ≡ r = cc in subst (λ (y : Refusal). Counted y (a .parents)) z (s .2)
+counted-in (Refused q) a s r e = let z : q ≡ r = cc in subst (λ (y : Refusal). Counted y (a .info .parents)) z (s .2)
 
 no-ids : (l : List Id) → length l ≡ 0 → l ≡ []
 no-ids [] e = refl
@@ -120,16 +120,13 @@ no-ids (x ∷ l) e = absurd (omega (arith, e))
 abbrev modelOf : Given → List Id → Answer
 modelOf a ps = record { kind = kindIn (a .outcome) a; parents = ps; admitted = a .admitted; struck = a .struck; waiting = a .waiting }
 
-given-model : (a : Given) (ps : List Id) → ShapedBy (a .outcome) a → a .parents ≡ length ps → a ≡ given (modelOf a ps)
+given-model : (a : Given) (ps : List Id) → ShapedBy (a .outcome) a → a .info .parents ≡ length ps → a ≡ given (modelOf a ps)
 unfolding given
 given-model a ps s e =
     let f = fields-in (a .outcome) a s in
     λ k. record {
       outcome = outcome-in (a .outcome) a k;
-      id = f .id k;
-      parents = e k;
-      generation = f .generation k;
-      time = f .time k;
+      info = record { id = f .id k; parents = e k; generation = f .generation k; time = f .time k };
       admitted = a .admitted;
       struck = a .struck;
       waiting = a .waiting;
@@ -140,10 +137,10 @@ given-model a ps s e =
 pub of-paper : {b b′ : List ℕ} {a : Given} → Plain b b′ a → length b′ ≡ length b → 5120 ≤ length b → OfPaper a b b′
 unfolding parentsGiven
 of-paper {b} {b′} {a} p l h =
-    let few : a .parents ≤ 256 = p .few in
-    let w : length (take (idBytes * a .parents) b′) ≡ idBytes * a .parents = length-take-le (idBytes * a .parents) b′ (omega (arith, l)) in
-    let ps = listIds (take (idBytes * a .parents) b′) in
-    let n : a .parents ≡ length ps = omega (arith, w, length-list (take (idBytes * a .parents) b′)) in
+    let few : a .info .parents ≤ 256 = p .few in
+    let w : length (take (idBytes * a .info .parents) b′) ≡ idBytes * a .info .parents = length-take-le (idBytes * a .info .parents) b′ (omega (arith, l)) in
+    let ps = listIds (take (idBytes * a .info .parents) b′) in
+    let n : a .info .parents ≡ length ps = omega (arith, w, length-list (take (idBytes * a .info .parents) b′)) in
     record {
       model = modelOf a ps;
       is = given-model a ps (p .shape) n;
@@ -152,9 +149,9 @@ of-paper {b} {b′} {a} p l h =
       bare-lost = λ e. no-ids ps (sym n ∙ counted-in (a .outcome) a (p .shape) CommitNotFound e .lost refl);
       crowded = λ e. inl (sym n ∙ counted-in (a .outcome) a (p .shape) TooManyParents e .crowded refl);
       few = omega (arith, n);
-      wide = list-wide (take (idBytes * a .parents) b′);
-      set-down = was-set-down b b′ (idBytes * a .parents) l (omega arith) (p .past)
-          ∙ ap (setDown b 0) (sym (joined-list (take (idBytes * a .parents) b′) (a .parents) w));
+      wide = list-wide (take (idBytes * a .info .parents) b′);
+      set-down = was-set-down b b′ (idBytes * a .info .parents) l (omega arith) (p .past)
+          ∙ ap (setDown b 0) (sym (joined-list (take (idBytes * a .info .parents) b′) (a .info .parents) w));
     }
 
 -- an answer that carries nothing but the running numbers, and leaves the buffer as it was: painting's refusal

@@ -28,21 +28,17 @@ use Rattle.opening.proofs.Input.{passes, places-few, Room, room}
 use Rattle.opening.proofs.Opened.{opens}
 use Rattle.state.specs.declared.Record.{Record}
 use Rattle.state.specs.Reads.{Shape, Reads, Universe}
-use Rattle.state.specs.Shapes.{shapeFor}
+use Rattle.state.specs.Shapes.{shapeOf}
 use Rattle.visit.specs.Link.{GoesBy}
 use Rattle.visit.specs.Taking.{Rests, InRows, InStore}
 use Rattle.traverse.specs.declared.Out.{Out}
-use Rattle.traverse.specs.Contract.{Lent, lengthsOf, shapeOf}
+use Rattle.traverse.specs.Contract.{Lent, lengthsOf}
 use Rattle.traverse.specs.Next.{Whole}
-use Rattle.traverse.proofs.OpenSaid.{shape-same}
 use Rattle.hash.specs.Bytes.{idBytes}
 
 -- ---- of every input
 
-abbrev pub shapeIn : Input → Shape
-shapeIn i = shapeFor (i .settings) (P i)
-
-pub goes-by : (i : Input) → GoesBy (walkOf i) (shapeIn i) (i .excluded) (i .settings)
+pub goes-by : (i : Input) → GoesBy (walkOf i) (shapeOf i) (i .excluded) (i .settings)
 unfolding walkOf
 goes-by i = record { same-settings = refl; same-excluded = refl; shape = refl }
 
@@ -64,7 +60,7 @@ pub record Stands (i : Input) (m : Lent) (r : Record) (k : ℕ) (st : State) : T
   pub has-room : roomFor i (lengthsOf m) ≡ true
   pub passed : refusal i ≡ none
   pub sizes : Room (P i) (lengthsOf m)
-  pub reads : Reads r (m .memory) (shapeIn i) (stateAfter i k)
+  pub reads : Reads r (m .memory) (shapeOf i) (stateAfter i k)
 
 pub stands : (i : Input) (m : Lent) (r : Record) (k : ℕ) (st : State) → openWalk i (roomFor i (lengthsOf m)) ≡ opened st → Reads r (m .memory) (shapeOf i) (stateAfter i k) → Stands i m r k st
 stands i m r k st e g =
@@ -74,7 +70,7 @@ stands i m r k st e g =
       has-room = o .has-room;
       passed = o .accepted;
       sizes = room i (lengthsOf m) (o .has-room);
-      reads = subst (λ (y : Shape). Reads r (m .memory) y (stateAfter i k)) (sym (shape-same i)) g;
+      reads = g;
     }
 
 module _ {i : Input} {m : Lent} {r : Record} {k : ℕ} {st : State} (s : Stands i m r k st) where
@@ -96,12 +92,12 @@ module _ {i : Input} {m : Lent} {r : Record} {k : ℕ} {st : State} (s : Stands 
   unfolding AllFit
   few-admitted = all-fit i st (s .accepted) k .admitted-fits
 
-  pub inside : Universe (shapeIn i) (stateAfter i k) (universe i)
+  pub inside : Universe (shapeOf i) (stateAfter i k) (universe i)
   inside =
       let n = all-named i st (s .accepted) k in
       record { few = universe-length i (s .passed); has-seen = n .seen-in; has-frontier = n .front-in }
 
-  pub rests : Rests (shapeIn i) r (m .memory) (stateAfter i k) (universe i)
+  pub rests : Rests (shapeOf i) r (m .memory) (stateAfter i k) (universe i)
   rests = record {
     reads = s .reads;
     inside = inside;
@@ -115,15 +111,14 @@ module _ {i : Input} {m : Lent} {r : Record} {k : ℕ} {st : State} (s : Stands 
 
   -- what a call gives is the walk's next step
   pub says-step : (p : Step) → next (walkOf i) (stateAfter i k) ≡ p → (o : Out) (m′ : Lent) → o .answer ≡ given (p .answer) → m′ .parents ≡ parentsGiven (p .answer) (m .parents)
-      → Reads (o .record) (m′ .memory) (shapeIn i) (p .state)
+      → Reads (o .record) (m′ .memory) (shapeOf i) (p .state)
       → (o .answer ≡ given (answerAt i k)) × (m′ .parents ≡ parentsGiven (answerAt i k) (m .parents)) × Reads (o .record) (m′ .memory) (shapeOf i) (stateAfter i (suc k))
   unfolding stateAfter answerOn answerAt
   says-step p e o m′ a d g =
       let q : answerAt i k ≡ p .answer = ap (answerOn (walkOf i) (stateAfter i k)) (s .accepted) ∙ ap (λ (z : Step). z .answer) e in (
         a ∙ ap given (sym q),
         d ∙ ap (λ (z : Answer). parentsGiven z (m .parents)) (sym q),
-        subst (λ (y : Shape). Reads (o .record) (m′ .memory) y (stateAfter i (suc k))) (shape-same i)
-            (subst (λ (z : Step). Reads (o .record) (m′ .memory) (shapeIn i) (z .state)) (sym e) g),
+        subst (λ (z : Step). Reads (o .record) (m′ .memory) (shapeOf i) (z .state)) (sym e) g,
       )
 
 -- ---- the walk's own cases

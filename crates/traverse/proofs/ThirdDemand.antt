@@ -69,9 +69,9 @@ is-refused (refused n) r e = let z : n ≡ r = cc in ap refused z
 is-refused (handed x g t) r e = let z : _≡_ {A = ℕ} 0 1 = cc in absurd (omega arith)
 
 -- the outcome and id that a call gave are those of its answer of the walk
-gave : {c : Call} {a : Answer} → Gives c a → (c .out .answer .outcome ≡ outcomeOf (a .kind)) × (c .out .answer .id ≡ idOfKind (a .kind))
+gave : {c : Call} {a : Answer} → Gives c a → (c .out .answer .outcome ≡ outcomeOf (a .kind)) × (c .out .answer .info .id ≡ idOfKind (a .kind))
 unfolding given
-gave g = (ap (λ (q : Given). q .outcome) (g .all-fields), ap (λ (q : Given). q .id) (g .all-fields))
+gave g = (ap (λ (q : Given). q .outcome) (g .all-fields), ap (λ (q : Given). q .info .id) (g .all-fields))
 
 says-end : {c : Call} {a : Answer} → Gives c a → a .kind ≡ end → c .out .answer .outcome ≡ End
 says-end g e = gave g .0 ∙ ap outcomeOf e

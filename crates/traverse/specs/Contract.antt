@@ -4,26 +4,23 @@ use Rattle.hash.specs.Bytes.{Id, idBytes}
 use Rattle.object.specs.Header.{most}
 use mathlib.Core.Path.{_≡_}
 use mathlib.Core.Logic.{_⊎_}
-use mathlib.Core.Bool.{Bool, true, false, _&&_}
+use mathlib.Core.Bool.{false}
 use mathlib.Core.List.{List, []}
 use lib.ListN.{length}
 use Rattle.walk.specs.declared.Settings.{Settings}
-use Rattle.walk.specs.declared.Sorting.{Sorting}
-use Rattle.walk.specs.declared.Sorting.the-variants.{BreadthFirst, ByCommitTime, ByCommitTimeCutoff}
-use Rattle.walk.specs.declared.CommitTimeOrder.the-variants.{NewestFirst, OldestFirst}
 use Rattle.walk.specs.declared.Refusal.{Refusal}
 use Rattle.walk.specs.declared.Refusal.the-variants.{CommitNotFound, TooManyParents, Closed}
 use Rattle.walk.specs.declared.Outcome.the-variants.{Refused}
-use Rattle.walk.specs.Settings.{byTime}
 use Rattle.walk.specs.State.{State}
-use Rattle.walk.specs.Opening.{Input, Lengths, P, roomFor, openWalk, closed, opened}
+use Rattle.walk.specs.Opening.{Input, Lengths, roomFor, openWalk, closed, opened}
 use Rattle.walk.specs.Next.{Answer, end, refused}
 use Rattle.walk.specs.Calls.{stateAfter, answerAt, shut}
 use Rattle.walk.specs.Reach.{Mem}
 use Rattle.walk.specs.AnyInput.{OfCall}
 use Rattle.walk.specs.Given.{Given, given, parentsGiven, openGiven}
 use Rattle.state.specs.declared.Record.{Record}
-use Rattle.state.specs.Reads.{Memory, Shape, Reads, closedRecord}
+use Rattle.state.specs.Reads.{Memory, Reads, closedRecord}
+use Rattle.state.specs.Shapes.{shapeOf}
 use Rattle.traverse.specs.declared.Opened.{Opened}
 use Rattle.traverse.specs.declared.Out.{Out}
 
@@ -60,17 +57,6 @@ lengthsOf m = record {
   line = length (m .memory .line);
   parents = length (m .parents);
 }
-
-unfoldable pub newestFirst : Sorting → Bool
-newestFirst BreadthFirst = false
-newestFirst (ByCommitTime NewestFirst) = true
-newestFirst (ByCommitTime OldestFirst) = false
-newestFirst (ByCommitTimeCutoff NewestFirst c) = true
-newestFirst (ByCommitTimeCutoff OldestFirst c) = false
-
--- the shape that an opening fixes
-unfoldable pub shapeOf : Input → Shape
-shapeOf i = record { timed = byTime (i .settings); newest = byTime (i .settings) && newestFirst (i .settings .sorting); cap = P i }
 
 -- ---- an opening
 

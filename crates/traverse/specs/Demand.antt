@@ -70,7 +70,7 @@ idIf (Refused r) x = []
 -- the ids handed out, in order
 unfoldable pub handedOut : List Given → List Id
 handedOut [] = []
-handedOut (a ∷ rest) = idIf (a .outcome) (a .id) ++ handedOut rest
+handedOut (a ∷ rest) = idIf (a .outcome) (a .info .id) ++ handedOut rest
 
 unfoldable pub refusedIf : Outcome → Bool → ℕ
 refusedIf Commit left = 0
@@ -98,7 +98,7 @@ pub record Lists (i : Input) (list : List Id) (cs : List Call) : Type 0 where
   -- "Then the answers are those of 01's walk,"
   pub of-the-walk : OfTheWalk i cs
   -- "and the first n, or all if the calls are fewer, hand out different ones of these n,"
-  pub first-n : (k : ℕ) (c : Call) → CallIs cs k c → k < length list → (c .out .answer .outcome ≡ Commit) × (c .out .answer .id ≡ getD list k noId)
+  pub first-n : (k : ℕ) (c : Call) → CallIs cs k c → k < length list → (c .out .answer .outcome ≡ Commit) × (c .out .answer .info .id ≡ getD list k noId)
   pub different : NoDup (handedOut (answersOf cs))
   pub of-these : (x : Id) → Mem x (handedOut (answersOf cs)) → Mem x list
   -- "so n calls hand out exactly them, each once."

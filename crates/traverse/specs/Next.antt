@@ -13,9 +13,10 @@ use Rattle.walk.specs.Calls.{stateAfter, answerAt}
 use Rattle.walk.specs.Given.{given, parentsGiven}
 use Rattle.state.specs.declared.Record.{Record}
 use Rattle.state.specs.Reads.{Reads}
+use Rattle.state.specs.Shapes.{shapeOf}
 use Rattle.visit.specs.declared.next.Taken.{Taken}
 use Rattle.traverse.specs.declared.Out.{Out}
-use Rattle.traverse.specs.Contract.{Files, inputWith, Lent, lengthsOf, shapeOf, closedAnswer, OfPaper}
+use Rattle.traverse.specs.Contract.{Files, inputWith, Lent, lengthsOf, closedAnswer, OfPaper}
 
 abbrev pub filesLent : List ℕ → List ℕ → List ℕ → List ℕ → Settings → Files
 filesLent store graph hidden excluded settings = record { store = store; graph = graph; hidden = hidden; excluded = excluded; settings = settings }

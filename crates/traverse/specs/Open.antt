@@ -21,7 +21,8 @@ use Rattle.reading.specs.Tip.{tipOf}
 use Rattle.state.specs.declared.Record.{Record}
 use Rattle.state.specs.declared.Seen.{Seen}
 use Rattle.state.specs.Reads.{Memory, Shape, Reads, Universe, closedRecord}
-use Rattle.state.specs.Shapes.{shapeFor}
+use Rattle.state.specs.declared.Fixed.{Fixed}
+use Rattle.state.specs.Shapes.{shapeFor, shapeOf}
 use Rattle.state.specs.Steps as steps
 use Rattle.traverse.specs.declared.Opened.{Opened}
 use Rattle.traverse.specs.declared.open.Admission.{Admission}
@@ -77,7 +78,7 @@ pub record Kept (r : Record) (times times′ : List ℤ) (line line′ : List �
   pub same-times : times′ ≡ times
   pub same-line : line′ ≡ line
 
--- admit, with its answer r′
+-- add_to_queue, with its answer r′
 pub record Admits (r : Record) (times times′ : List ℤ) (line line′ : List ℕ) (a : Seen) (how : Admission) (r′ : Record) : Type 0 where
   pub long-times : length times′ ≡ length times
   pub long-line : length line′ ≡ length line
@@ -92,20 +93,20 @@ Over store excluded o w = (graph : List ℕ) × (w .world ≡ worldOf store grap
 -- take_tip, with its answer r′: the tip x has come in, where there is room for all ids of u
 pub record TakesTip (store excluded : List ℕ) (o : Sorting) (m m′ : Memory) (x : Id) (r r′ : Record) : Type 0 where
   pub long : SameLengths m m′
-  pub taken : (w : Walk) (n k : ℕ) (u : List Id) (st : State) → storeOk idBytes store ≡ true → Over store excluded o w → length x ≡ idBytes → List·Memᴰ x u → n ≤ 1048576 → k < 1048576
-      → Early (shapeFor (w .settings) n) u k r m st → Early (shapeFor (w .settings) n) u (suc k) r′ m′ (tipIn w st x)
+  pub taken : (w : Walk) (n : ℕ) (f : Fixed) (k : ℕ) (u : List Id) (st : State) → storeOk idBytes store ≡ true → Over store excluded o w → length x ≡ idBytes → List·Memᴰ x u → n ≤ 1048576 → k < 1048576
+      → Early (shapeFor (w .settings) n f) u k r m st → Early (shapeFor (w .settings) n f) u (suc k) r′ m′ (tipIn w st x)
 
--- take_tips, with its answer r′: all tips have come in
+-- filtered, with its answer r′: all tips have come in
 pub record TakesTips (store tips excluded : List ℕ) (o : Sorting) (m m′ : Memory) (r r′ : Record) : Type 0 where
   pub long : SameLengths m m′
-  pub taken : (w : Walk) (n : ℕ) (st : State) → storeOk idBytes store ≡ true → Over store excluded o w → n ≤ 1048576
-      → Early (shapeFor (w .settings) n) (listIds tips) 0 r m st → Early (shapeFor (w .settings) n) (listIds tips) (length tips / idBytes) r′ m′ (tipsAll w (listIds tips) st)
+  pub taken : (w : Walk) (n : ℕ) (f : Fixed) (st : State) → storeOk idBytes store ≡ true → Over store excluded o w → n ≤ 1048576
+      → Early (shapeFor (w .settings) n f) (listIds tips) 0 r m st → Early (shapeFor (w .settings) n f) (listIds tips) (length tips / idBytes) r′ m′ (tipsAll w (listIds tips) st)
 
 -- fill, with its answer r′: the memory reads as the walk's first state
 pub record Fills (i : Input) (m m′ : Memory) (r′ : Record) : Type 0 where
   pub long : SameLengths m m′
   pub filled : refusal i ≡ none → steps.Lent (m .names) (m .marks) (m .times) (m .line) (P i)
-      → Reads r′ m′ (shapeFor (i .settings) (P i)) (tipsAll (walkOf i) (listIds (i .tips)) emptyState)
+      → Reads r′ m′ (shapeOf i) (tipsAll (walkOf i) (listIds (i .tips)) emptyState)
 
 pub record Refuses (r : Refusal) (o : Opened) : Type 0 where
   pub answer : o .answer ≡ openGiven (closed r)

@@ -4,11 +4,13 @@ use painting::Painted;
 use state::Record;
 use visit::Taken;
 use walk::Answer;
+use walk::Info;
 use walk::MaybeLevel;
 use walk::MaybeSeconds;
 use walk::Outcome;
 use walk::Refusal;
 use walk::Settings;
+ghost use mathlib.Core.Path.{_≡_};
 ghost use mathlib.Core.Bool.{false};
 ghost use lib.ListN.{length};
 ghost use Rattle.walk.specs.declared.Outcome.the-variants.{Refused};
@@ -48,6 +50,18 @@ fn is_whole(
     )
 }
 
+// What an answer without a commit says of one.
+fn no_commit() -> Info
+    ensures { λ i. ⌜ i ≡ record { id = noId; parents = 0; generation = NoGeneration; time = NoTime } ⌝ }
+{
+    Info {
+        id: [0u8; 20],
+        parents: 0,
+        generation: MaybeLevel::NoGeneration,
+        time: MaybeSeconds::NoTime,
+    }
+}
+
 // The answer to a closed record, and to memory that is seen to be touched: refusal 12 with zeros, and the same record.
 fn closed(r: Record) -> Out
     ensures { λ o. ⌜ GivesBack (shutWith r) o ⌝ }
@@ -55,10 +69,7 @@ fn closed(r: Record) -> Out
     Out {
         answer: Answer {
             outcome: Outcome::Refused(Refusal::Closed),
-            id: [0u8; 20],
-            parents: 0,
-            generation: MaybeLevel::NoGeneration,
-            time: MaybeSeconds::NoTime,
+            info: no_commit(),
             admitted: 0,
             struck: 0,
             waiting: 0,
@@ -75,10 +86,7 @@ fn bare(outcome: Outcome, r: Record) -> Out
     Out {
         answer: Answer {
             outcome,
-            id: [0u8; 20],
-            parents: 0,
-            generation: MaybeLevel::NoGeneration,
-            time: MaybeSeconds::NoTime,
+            info: no_commit(),
             admitted: r.admitted,
             struck: r.struck,
             waiting: q.count,
@@ -125,7 +133,7 @@ fn first_call(
         line,
         hidden,
     ) {
-        Painted::Done(r) => after(visit::take_next(
+        Painted::Done(r) => after(visit::next_by_topology_or_commit_date(
             r,
             graph,
             store,
@@ -164,7 +172,7 @@ pub fn step(
         return closed(record);
     }
     if record.painted {
-        return after(visit::take_next(
+        return after(visit::next_by_topology_or_commit_date(
             record,
             graph,
             store,

@@ -1,10 +1,12 @@
 // An opening: all tests first, then the memory is emptied and the tips are let in, in list order.
 use super::Opened;
+use commitgraph::Layout;
 use date::Seconds;
 use hash::Kind;
 use opening::Checked;
 use reading::TipRead;
 use revwalk::queue::Queue;
+use state::Fixed;
 use state::Record;
 use state::Seen;
 use walk::CommitTimeOrder;
@@ -19,11 +21,11 @@ ghost use mathlib.Core.Path.{_≡_};
 ghost use mathlib.Core.Bool.{true, _&&_};
 ghost use mathlib.Core.List.{List};
 ghost use Rattle.odb.specs.Store.{storeOk};
-ghost use Rattle.walk.specs.Settings.{timed, byTime, cutoffOf, notBefore};
+ghost use Rattle.walk.specs.Settings.{byTime, isNewest, newestFirst};
 ghost use Rattle.walk.specs.Lookup.{worldOf};
 ghost use Rattle.opening.specs.Checks.{inputOf};
 ghost use Rattle.state.specs.Reads.{closedRecord};
-ghost use Rattle.state.specs.Shapes.{isNewest, newestOf, freshRecord};
+ghost use Rattle.state.specs.Shapes.{fixedOf, freshRecord};
 ghost use Rattle.state.specs.Steps.{mem};
 ghost use Rattle.traverse.specs.Contract.{OpenSays};
 ghost use Rattle.traverse.specs.Open.{lentOf, readAs, admissionOf, Admits, TakesTip, TakesTips, Fills, Refuses, Accepts};
@@ -35,17 +37,6 @@ pub enum Admission {
     OnlySeen,
 }
 
-// Whether an order is a time order.
-fn is_timed(sorting: Sorting) -> bool
-    ensures { λ r. ⌜ r ≡ timed sorting ⌝ }
-{
-    match sorting {
-        Sorting::BreadthFirst => false,
-        Sorting::ByCommitTime(_) => true,
-        Sorting::ByCommitTimeCutoff { .. } => true,
-    }
-}
-
 // Whether the queue keeps a time order: in the mode First it does not.
 fn is_by_time(settings: Settings) -> bool
     ensures { λ r. ⌜ r ≡ byTime settings ⌝ }
@@ -53,7 +44,7 @@ fn is_by_time(settings: Settings) -> bool
     let parents = settings.parents;
     let sorting = settings.sorting;
     match parents {
-        Parents::All => is_timed(sorting),
+        Parents::All => walk::is_timed(sorting),
         Parents::First => false,
     }
 }
@@ -69,23 +60,12 @@ fn is_newest(order: CommitTimeOrder) -> bool
 
 // Whether an order takes the newest first.
 fn takes_newest(sorting: Sorting) -> bool
-    ensures { λ r. ⌜ r ≡ newestOf sorting ⌝ }
+    ensures { λ r. ⌜ r ≡ newestFirst sorting ⌝ }
 {
     match sorting {
         Sorting::BreadthFirst => false,
         Sorting::ByCommitTime(order) => is_newest(order),
         Sorting::ByCommitTimeCutoff { order, .. } => is_newest(order),
-    }
-}
-
-// Whether these seconds are not before the cutoff, where there is one.
-fn in_time(sorting: Sorting, s: Seconds) -> bool
-    ensures { λ r. ⌜ r ≡ notBefore (cutoffOf sorting) (s .0) ⌝ }
-{
-    match sorting {
-        Sorting::BreadthFirst => true,
-        Sorting::ByCommitTime(_) => true,
-        Sorting::ByCommitTimeCutoff { seconds, .. } => !date::before(s, seconds),
     }
 }
 
@@ -95,7 +75,7 @@ fn read_as(sorting: Sorting, read: TipRead) -> Admission
 {
     match read {
         TipRead::Good(s) => {
-            if in_time(sorting, s) {
+            if walk::within_cutoff_time(sorting, s) {
                 Admission::Admitted(s)
             } else {
                 Admission::OnlySeen
@@ -110,14 +90,20 @@ fn read_as(sorting: Sorting, read: TipRead) -> Admission
 fn tip_admission(store: &[u8], sorting: Sorting, id: &[u8]) -> Admission
     ensures { λ r. ⌜ (storeOk idBytes (now (store .entry)) ≡ true → (graph : List ℕ) → r ≡ admissionOf (worldOf (now (store .entry)) graph) sorting (now (id .entry))) ⌝ }
 {
-    if !is_timed(sorting) {
+    if !walk::is_timed(sorting) {
         return Admission::Admitted(Seconds(0));
     }
     read_as(sorting, reading::read_tip(store, id))
 }
 
 // A tip that is new waits in its slot, or is only seen.
-fn admit(r: Record, times: &mut [i64], line: &mut [u32], seen: Seen, how: Admission) -> Record
+fn add_to_queue(
+    r: Record,
+    times: &mut [i64],
+    line: &mut [u32],
+    seen: Seen,
+    how: Admission,
+) -> Record
     ensures { λ a. ⌜ Admits r (now (times .entry)) (now (times .exit)) (now (line .entry)) (now (line .exit)) seen how a ⌝ }
 {
     if !seen.fresh {
@@ -147,11 +133,11 @@ fn take_tip(
         return r;
     }
     let seen = state::see(r, names, marks, id);
-    admit(r, times, line, seen, tip_admission(store, sorting, id))
+    add_to_queue(r, times, line, seen, tip_admission(store, sorting, id))
 }
 
-// All tips, in list order.
-fn take_tips(
+// All tips, in list order (`filtered`, then `sorting`: each is tested, seen and queued where the order will want it).
+fn filtered(
     first: Record,
     names: &mut [u8],
     marks: &mut [u8],
@@ -176,14 +162,23 @@ fn take_tips(
 }
 
 // The record of a walk with these settings, before any tip.
-fn first_record(settings: Settings, cap: usize) -> Record
-    ensures { λ r. ⌜ r ≡ freshRecord (byTime settings) (byTime settings && newestOf (settings .sorting)) cap ⌝ }
+fn first_record(settings: Settings, cap: usize, fixed: Fixed) -> Record
+    ensures { λ r. ⌜ r ≡ freshRecord (byTime settings) (byTime settings && newestFirst (settings .sorting)) cap fixed ⌝ }
 {
     let sorting = settings.sorting;
     if is_by_time(settings) {
-        return state::fresh_record(true, takes_newest(sorting), cap);
+        return state::fresh_record(true, takes_newest(sorting), cap, fixed);
     }
-    state::fresh_record(false, false, cap)
+    state::fresh_record(false, false, cap, fixed)
+}
+
+// What is found once, in the commit-graph file, for all calls.
+fn fixed_for(graph: &[u8]) -> Fixed
+    ensures { λ f. ⌜ f ≡ fixedOf (now (graph .entry)) ⌝ }
+{
+    Fixed {
+        layout: commitgraph::parse(graph),
+    }
 }
 
 // Empties the memory and lets the tips in.
@@ -203,9 +198,9 @@ fn fill(
 {
     let cap = opening::capacity(store, graph, tips, hidden);
     state::start(marks, cap);
-    let r = first_record(settings, cap);
+    let r = first_record(settings, cap, fixed_for(graph));
     let sorting = settings.sorting;
-    take_tips(r, names, marks, times, line, store, tips, excluded, sorting)
+    filtered(r, names, marks, times, line, store, tips, excluded, sorting)
 }
 
 // The record of a walk that is not open.
@@ -217,6 +212,16 @@ fn closed_record() -> Record
         painted: false,
         failed: false,
         kept: false,
+        fixed: Fixed {
+            layout: Layout {
+                fan: 0,
+                ids: 0,
+                rows: 0,
+                edge: 0,
+                edges: 0,
+                count: 0,
+            },
+        },
         queue: Queue {
             timed: false,
             newest: false,

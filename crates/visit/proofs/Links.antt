@@ -135,8 +135,8 @@ same-state g p q h l e = rw (p, q, h, l, e) g
 joins-waits : {v : Walk} {sh : Shape} {excluded : List ℕ} {settings : Settings} → GoesBy v sh excluded settings → (st : State) (x : Id) (t : ℤ)
     → joins (beforeOf sh) (sees st x) x (cond (sh .timed) t (pos 0)) ≡ waits v st x t
 joins-waits {v} {sh} {excluded} {settings} by st x t =
-    ap (λ (q : Shape). joins (beforeOf q) (sees st x) x (cond (q .timed) t (pos 0))) (by .shape ∙ ap (λ (q : Settings). shapeFor q (sh .cap)) (sym (by .same-settings)))
-    ∙ sym (waits-shape v (sh .cap) st x t)
+    ap (λ (q : Shape). joins (beforeOf q) (sees st x) x (cond (q .timed) t (pos 0))) (by .shape ∙ ap (λ (q : Settings). shapeFor q (sh .cap) (sh .fixed)) (sym (by .same-settings)))
+    ∙ sym (waits-shape v (sh .cap) (sh .fixed) st x t)
 
 module _ (excluded : List ℕ) (settings : Settings) (r r′ : Record) (names marks names′ marks′ : List ℕ) (times times′ : List ℤ) (line line′ : List ℕ) (x : Id) (a : Seen)
     (s : Sees r names marks names′ marks′ x a) where

@@ -16,8 +16,6 @@ use Rattle.hash.proofs.Bytes.{setDown-fits, setDown-not}
 use Rattle.hash.proofs.Tests.{byCases}
 use Rattle.object.specs.Header.{most}
 use Rattle.commitgraph.specs.Graph.{graphParents, layoutOf, idIn, parentIn}
-use Rattle.commitgraph.specs.declared.Level.{Level}
-use Rattle.commit.specs.declared.Cache.{Cache}
 use Rattle.walk.specs.declared.Outcome.the-variants.{End, Refused}
 use Rattle.walk.specs.declared.Refusal.{Refusal}
 use Rattle.walk.specs.declared.Refusal.the-variants.{CommitNotFound, CommitUnreadable, TooManyParents}
@@ -29,10 +27,7 @@ use Rattle.walk.specs.Given.{noId}
 use Rattle.walk.specs.Lookup.{row, rowAt}
 use Rattle.reading.specs.declared.body.BodyEnd.{BodyEnd}
 use Rattle.reading.specs.declared.body.BodyEnd.the-variants.{Whole, Unreadable, Crowded}
-use Rattle.reading.specs.Row.{ReadsRow}
-use Rattle.reading.specs.declared.row.RowRead.{RowRead}
-use Rattle.reading.specs.declared.row.RowRead.the-variants.{Row as RowAt}
-use Rattle.reading.proofs.Rows.{row-parts, parent-there, row-parents-few}
+use Rattle.reading.proofs.Rows.{parent-there}
 use Rattle.state.specs.declared.Record.{Record}
 use Rattle.visit.specs.Parents.{SetsParent}
 use Rattle.visit.specs.Plain.{Past, Counted, Plain}
@@ -84,10 +79,6 @@ row-narrow g p ps v t e k h =
     let q : ℕ = parentIn idBytes g (layoutOf g) p k in
     let there = parent-there g p ps v t e {l = layoutOf g} {k = k} {q = parentIn idBytes g (layoutOf g) p k} refl refl h in
     omega (arith, ap (λ (a : Id × ℤ). length (a .0)) there, length-take idBytes (drop (layoutOf g .ids + idBytes * q) g))
-
--- a row that is read lists at most 256 parents, whatever the file holds
-pub row-counted : {c : Cache} {g : List ℕ} {x : Id} {w : RowRead} {p n : ℕ} {v : Level} → ReadsRow c g x w → w ≡ RowAt p n v → n ≤ most
-row-counted e i = rw i at (row-parents-few e)
 
 -- ---- the shape of an answer
 

@@ -17,7 +17,7 @@ use Rattle.odb.specs.Store.{storeOk}
 use Rattle.odb.specs.Lookup.{Locates, partOf}
 use Rattle.odb.specs.declared.Located.{Located}
 use Rattle.odb.specs.declared.Located.the-variants.{Body, Absent}
-use Rattle.commitgraph.specs.Graph.{graphOk}
+use Rattle.commitgraph.specs.Graph.{graphOk, layoutOf, parentsIn}
 use Rattle.commitgraph.specs.declared.Layout.{Layout}
 use Rattle.commitgraph.specs.declared.Level.{Level}
 use Rattle.walk.specs.declared.Settings.{Settings}
@@ -30,7 +30,7 @@ use Rattle.walk.specs.declared.MaybeLevel.the-variants.{Generation, NoGeneratio
 use Rattle.walk.specs.declared.MaybeSeconds.{MaybeSeconds}
 use Rattle.walk.specs.declared.MaybeSeconds.the-variants.{Time, NoTime}
 use Rattle.walk.specs.Settings.{followed, byTime, onlyFirst}
-use Rattle.walk.specs.Lookup.{secondsFor, World, Row, row, no-row, corrupt, worldOf}
+use Rattle.walk.specs.Lookup.{secondsFor, World, Row, row, no-row, rowAt, worldOf}
 use Rattle.walk.specs.State.{Walk, State, withQueue, isEmpty}
 use Rattle.walk.specs.Next.{Kind, end, refused, handed, Step, step, visitAll, withSeconds, queuedSeconds, ending, kindOf, fromRow, fromBody, takeStore, dropped, back, takeRow, takeQueue, takeNext}
 use Rattle.walk.specs.Given.{noId, outcomeOf, idOfKind, levelOfKind, secondsOfKind, secondsGiven, joined, given, parentsGiven}
@@ -38,17 +38,23 @@ use Rattle.walk.proofs.Take.{followed-sub, followed-map, mem-map, with-seconds}
 use Rattle.reading.specs.Body.{refusalOf}
 use Rattle.reading.specs.declared.body.BodyEnd.{BodyEnd}
 use Rattle.reading.specs.declared.body.BodyEnd.the-variants.{Whole, Unreadable, Crowded}
-use Rattle.reading.specs.Files.{cacheOf, layoutUnder, worldUnder}
-use Rattle.reading.specs.Row.{ReadsRow}
+use Rattle.commit.specs.Find.{GoodCache, foundIn, FindsCommit}
+use Rattle.commit.specs.declared.Cache.{Cache}
+use Rattle.commit.specs.declared.Cache.the-variants.{Graph}
+use Rattle.commit.specs.declared.Either.{Either}
+use Rattle.commit.specs.declared.Either.the-variants.{CachedCommit, CommitRefIter, Absent as Either·Absent}
+use Rattle.reading.specs.Files.{cacheWith, cacheOf, worldUnder}
+use Rattle.reading.specs.Row.{levelOf, rowReadOf}
 use Rattle.reading.specs.declared.row.RowRead.{RowRead}
-use Rattle.reading.specs.declared.row.RowRead.the-variants.{NoRow, Corrupt, Row as RowAt}
-use Rattle.reading.proofs.World.{located-body, located-none, good-cache, kept-world, dropped-world}
-use Rattle.reading.proofs.Rows.{row-few, RowIs, row-right}
+use Rattle.reading.specs.declared.row.RowRead.the-variants.{Corrupt, Row as RowAt}
+use Rattle.reading.proofs.World.{located-body, located-none, good-cache, kept-world, dropped-world, same-store, found-row, found-body, found-absent}
+use Rattle.reading.proofs.Rows.{row-few, row-is, row-torn, row-counted}
 use Rattle.reading.proofs.Whole.{header-few}
+use Rattle.state.specs.declared.Fixed.{Fixed}
 use Rattle.state.specs.declared.Record.{Record}
 use Rattle.state.specs.Reads.{Memory, Shape, Reads}
 use Rattle.state.specs.declared.Next.{Next}
-use Rattle.state.specs.Shapes.{shapeFor, backTo}
+use Rattle.state.specs.Shapes.{fixedOf, shapeFor, backTo}
 use Rattle.state.specs.Steps.{mem, Pops, Drops}
 use Rattle.state.proofs.States.{queue-length}
 use Rattle.state.proofs.Shapes.{back-shape}
@@ -56,7 +62,7 @@ use Rattle.visit.specs.declared.body.BodyVisited.{BodyVisited}
 use Rattle.visit.specs.declared.next.Taken.{Taken}
 use Rattle.visit.specs.Link.{GoesBy, Ready}
 use Rattle.visit.specs.Parents.{VisitsAll, VisitsRow, VisitsBody, stored}
-use Rattle.visit.specs.Taking.{gave, timeGiven, Follows, endGiven, EndsBody, Rests, Gives, InRows, InStore, TakesRow, TakesBody, TakesStored, TakesNext}
+use Rattle.visit.specs.Taking.{gave, timeGiven, Follows, endGiven, EndsBody, Rests, Gives, InRows, InStore, Popped, TakesRow, TakesBody, TakesStored, TakesCached, TakesNext}
 use Rattle.visit.specs.Plain.{Plain}
 use Rattle.visit.proofs.Past.{past-none, plain-end, plain-bare, counted-lost, plain-ends}
 use Rattle.visit.proofs.Parents.{set-down-none}
@@ -72,10 +78,7 @@ module _ {sh : Shape} {m m′ : Memory} {b b′ : List ℕ} {r : Record} {st : S
   gives-step k ps g o x n l t d w = record {
     answer = λ i. record {
       outcome = o i;
-      id = x i;
-      parents = n i;
-      generation = l i;
-      time = t i;
+      info = record { id = x i; parents = n i; generation = l i; time = t i };
       admitted = sym (g .admitted) i;
       struck = sym (g .struck) i;
       waiting = sym (queue-length g) i;
@@ -166,61 +169,57 @@ map-stored : (w : World) (l : List Id) → map (λ p. p .0) (stored w l) ≡ l
 map-stored w [] = refl
 map-stored w (x ∷ l) = ap (λ (r : List Id). x ∷ r) (map-stored w l)
 
-pub takes-body : {excluded : List ℕ} {settings : Settings} {store : List ℕ} {r : Record} {x : Id} {s : Seconds} {m m′ : Memory} {b b′ : List ℕ} {seen : BodyVisited} {o : Located} {a : Taken} (y e : ℕ)
-    → Locates idBytes store x o → o ≡ Body y e → VisitsBody excluded settings store (header idBytes (partOf store (Body y e))) r m m′ b b′ seen → EndsBody seen x (timeGiven (r .queue .timed) s) a
-    → TakesBody excluded settings store r x (s .0) m m′ b b′ a
+pub takes-body : (d : List ℕ) {excluded : List ℕ} {settings : Settings} {store : List ℕ} {r : Record} {x : Id} {s : Seconds} {m m′ : Memory} {b b′ : List ℕ} {seen : BodyVisited} {a : Taken}
+    → VisitsBody excluded settings store (header idBytes d) r m m′ b b′ seen → EndsBody seen x (timeGiven (r .queue .timed) s) a → TakesBody excluded settings store (header idBytes d) r x (s .0) m m′ b b′ a
 unfolding fromBody
-takes-body {excluded} {settings} {store} {r} {x} {s} {m} {m′} {b} {b′} {seen} {o} {a} y e f i w k = record {
-  right = λ ok g v sh st u t′ by own d j t z.
-      let h : Header = header idBytes (partOf store (Body y e)) in
-      let there : v .world .store x ≡ some h = ap (λ q. q .store x) own ∙ located-body g y e f i refl ok in
+takes-body d {excluded} {settings} {store} {r} {x} {s} {m} {m′} {b} {b′} {seen} {a} w k = record {
+  right = λ ok g v sh st u t′ by own there e j t z.
+      let h : Header = header idBytes d in
       let fs : List Id = followed (v .settings) (h .ids) in
       let same : followed settings (h .ids) ≡ fs = ap (λ (q : Settings). followed q (h .ids)) (sym (by .same-settings)) in
       let all = subst (λ (q : List Id). VisitsAll excluded settings r m m′ b b′ (stored (worldOf store g) q) (seen .after)) same (w .right ok g) in
       let ps : List (Id × ℤ) = stored (worldOf store g) fs in
       let many : length ps ≡ length fs = length-map fs (λ q. (q, secondsFor (worldOf store g) q)) in
-      let short : length ps ≤ 256 = omega (arith, many, followed-take (v .settings) (h .ids) .1, header-few (partOf store (Body y e))) in
+      let short : length ps ≤ 256 = omega (arith, many, followed-take (v .settings) (h .ids) .1, header-few d) in
       let list : withSeconds v fs ≡ ps = seconds-stored v fs ∙ ap (λ (q : World). stored q fs) own in
-      let went = all .went v sh st u (256 - length ps) by (part-ready (length ps) short d)
+      let went = all .went v sh st u (256 - length ps) by (part-ready (length ps) short e)
       (λ q c. j .inside x (q .0) h there (followed-sub (v .settings) (q .0) (h .ids) (with-seconds v fs q (subst (λ (l : List (Id × ℤ)). List·Memᴰ q l) (sym list) c) .0))) in
       let reads = subst (λ (l : List (Id × ℤ)). Reads (seen .after) m′ sh (visitAll v st l)) (sym list) (went .ready .reads) in
       let down = all .down z ∙ ap (λ (l : List Id). setDown b 0 (joined l)) (map-stored (worldOf store g) fs) in
-      subst (λ (q : Option Header). Gives sh m m′ b b′ a (fromBody v st x t′ q)) (sym there)
-      (subst (λ (q : Taken). Gives sh m m′ b b′ q (step (kindOf (ending (v .settings) h) (handed x none (queuedSeconds v t′))) fs (visitAll v st (withSeconds v fs)))) (sym (k .is))
+      subst (λ (q : Taken). Gives sh m m′ b b′ q (step (kindOf (ending (v .settings) h) (handed x none (queuedSeconds v t′))) fs (visitAll v st (withSeconds v fs)))) (sym (k .is))
       (ends-kind (seen .ends) (ending (v .settings) h) fs x (queuedSeconds v t′) (w .ends ∙ ap (λ (q : Settings). ending q h) (sym (by .same-settings))) reads (w .parents ∙ ap length same)
-      (time-right by (d .reads) s t′ t) down (went .line-kept)));
+      (time-right by (e .reads) s t′ t) down (went .line-kept));
   plain =
-      let h : Header = header idBytes (partOf store (Body y e)) in
-      let short : seen .parents ≤ most = omega (arith, w .parents, followed-take settings (h .ids) .1, header-few (partOf store (Body y e))) in
-      let full : seen .ends ≡ Crowded → seen .parents ≡ most = λ z. w .parents ∙ crowded-followed settings (partOf store (Body y e)) (sym (w .ends) ∙ ap refusalOf z) in
+      let h : Header = header idBytes d in
+      let short : seen .parents ≤ most = omega (arith, w .parents, followed-take settings (h .ids) .1, header-few d) in
+      let full : seen .ends ≡ Crowded → seen .parents ≡ most = λ z. w .parents ∙ crowded-followed settings d (sym (w .ends) ∙ ap refusalOf z) in
       subst (λ (q : Taken). Plain b b′ (q .answer)) (sym (k .is)) (plain-ends (seen .ends) x (timeGiven (r .queue .timed) s) (seen .after) full short (w .past));
 }
 
-pub takes-absent : {excluded : List ℕ} {settings : Settings} {store : List ℕ} {r : Record} {x : Id} {t : ℤ} {m : Memory} {b : List ℕ} {o : Located} → Locates idBytes store x o → o ≡ Absent
-    → TakesBody excluded settings store r x t m m b b (gave (Refused CommitNotFound) noId 0 NoGeneration NoTime r)
+-- the store does not have the commit
+absent-gives : {sh : Shape} {m : Memory} {b : List ℕ} {r : Record} {st : State} (v : Walk) (x : Id) (t : ℤ) → Reads r m sh st
+    → Gives sh m m b b (gave (Refused CommitNotFound) noId 0 NoGeneration NoTime r) (fromBody v st x t none)
 unfolding fromBody joined
-takes-absent {excluded} {settings} {store} {r} {x} {t} {m} {b} f i = record {
-  right = λ ok g v sh st u t′ by own d j e z.
-      let there : v .world .store x ≡ none = ap (λ (q : World). q .store x) own ∙ located-none g f i ok in
-      subst (λ (q : Option Header). Gives sh m m b b (gave (Refused CommitNotFound) noId 0 NoGeneration NoTime r) (fromBody v st x t′ q)) (sym there)
-      (gives-step (refused CommitNotFound) [] (d .reads) refl refl refl refl refl (set-down-none b) (λ k h. refl));
-  plain = plain-bare r (omega arith, omega arith) counted-lost (omega arith) past-none;
-}
+absent-gives {b = b} v x t g = gives-step (refused CommitNotFound) [] g refl refl refl refl refl (set-down-none b) (λ k h. refl)
+
+pub plain-absent : {b : List ℕ} (r : Record) → Plain b b (gave (Refused CommitNotFound) noId 0 NoGeneration NoTime r .answer)
+plain-absent r = plain-bare r (omega arith, omega arith) counted-lost (omega arith) past-none
 
 -- ---- the first of the queue
 
-pop-ready : {sh : Shape} {r : Record} {names marks : List ℕ} {times : List ℤ} {line line′ : List ℕ} {st : State} {u : List Id} {n : Next} (x : Id) (t : ℤ) (l : List (Id × ℤ))
-    → Rests sh r (mem names marks times line) st u → Pops r names times line line′ n → st .queue ≡ (x, t) ∷ l → Ready sh (n .rest) (mem names marks times line′) (withQueue l st) u 256
+popped : {sh : Shape} {r : Record} {names marks : List ℕ} {times : List ℤ} {line line′ : List ℕ} {st : State} {u : List Id} {n : Next} (y : Id × ℤ) (l : List (Id × ℤ))
+    → Rests sh r (mem names marks times line) st u → Pops r names times line line′ n → st .queue ≡ y ∷ l → Popped sh (mem names marks times line′) st u y l n
+popped {sh} {marks = marks} {st = st} y l d p e = record { taken = p .some marks sh st (y .0) (y .1) l (d .reads) e; inside = d .inside; slots = d .slots; numbers = d .numbers }
+
+popped-ready : {sh : Shape} {m : Memory} {st : State} {u : List Id} {y : Id × ℤ} {l : List (Id × ℤ)} {n : Next} → Popped sh m st u y l n → Ready sh (n .rest) m (withQueue l st) u 256
 unfolding withQueue
-pop-ready {sh} {r} {names} {marks} {times} {line} {line′} {st} {u} {n} x t l d p e =
-    let k = p .some marks sh st x t l (d .reads) e in
-    record {
-      reads = k .reads;
-      failed = k .failed;
-      inside = record { few = d .inside .few; has-seen = d .inside .has-seen; has-frontier = d .inside .has-frontier };
-      slots = d .slots;
-      numbers = d .numbers;
-    }
+popped-ready k = record {
+  reads = k .taken .reads;
+  failed = k .taken .failed;
+  inside = record { few = k .inside .few; has-seen = k .inside .has-seen; has-frontier = k .inside .has-frontier };
+  slots = k .slots;
+  numbers = k .numbers;
+}
 
 -- the line from 2 · cap on, over a pop
 pop-kept : {sh : Shape} {r : Record} {names marks : List ℕ} {times : List ℤ} {line line′ : List ℕ} {st : State} {n : Next} → Reads r (mem names marks times line) sh st → Pops r names times line line′ n
@@ -245,19 +244,42 @@ gives-on : {sh : Shape} {m m₁ m′ : Memory} {b b′ : List ℕ} {a : Taken} {
 gives-on k g = record { answer = g .answer; down = g .down; reads = g .reads; line-kept = λ j h. g .line-kept j h ∙ k j h }
 
 module _ {excluded : List ℕ} {settings : Settings} {store : List ℕ} {r : Record} {names marks : List ℕ} {times : List ℤ} {line line′ : List ℕ} {b : List ℕ} {n : Next} where
-  pub stored-some : {m′ : Memory} {b′ : List ℕ} {a : Taken} → Pops r names times line line′ n → n .found ≡ true
-      → TakesBody excluded settings store (n .rest) (idIn idBytes (n .id .bytes)) (n .seconds .0) (mem names marks times line′) m′ b b′ a → TakesStored excluded settings store r (mem names marks times line) m′ b b′ a
-  unfolding takeStore
-  stored-some {m′} {b′} {a} p f w = record { right = λ ok g v sh st u by own d j z. go ok g v sh st u by own d j z (st .queue) refl; plain = w .plain }
-    where
-      go : storeOk idBytes store ≡ true → (g : List ℕ) (v : Walk) (sh : Shape) (st : State) (u : List Id) → GoesBy v sh excluded settings → v .world ≡ worldOf store g
-          → Rests sh r (mem names marks times line) st u → InStore v u → 5120 ≤ length b → (q : List (Id × ℤ)) → st .queue ≡ q → Gives sh (mem names marks times line) m′ b b′ a (takeStore v st q)
-      go ok g v sh st u by own d j z [] e = clash f (p .none marks sh st (d .reads) e)
-      go ok g v sh st u by own d j z (y ∷ l) e =
-          let k = p .some marks sh st (y .0) (y .1) l (d .reads) e in
-          gives-on (pop-kept (d .reads) p)
-          (subst (λ (x : Id). Gives sh (mem names marks times line′) m′ b b′ a (fromBody v (withQueue l st) x (y .1) (v .world .store x))) (k .id)
-          (w .right ok g v sh (withQueue l st) u (y .1) by own (pop-ready (y .0) (y .1) l d p e) j (k .seconds) z))
+  module _ {o : Located} (p : Pops r names times line line′ n) (f : n .found ≡ true) (at : Locates idBytes store (idIn idBytes (n .id .bytes)) o) where
+    -- what the store has of the commit that was popped decides
+    from-store : {m′ : Memory} {b′ : List ℕ} {a : Taken} → ((g : List ℕ) → storeOk idBytes store ≡ true → (v : Walk) (sh : Shape) (st : State) (u : List Id) (y : Id × ℤ) (l : List (Id × ℤ)) → GoesBy v sh excluded settings
+        → v .world ≡ worldOf store g → Popped sh (mem names marks times line′) st u y l n → InStore v u → 5120 ≤ length b
+        → Gives sh (mem names marks times line′) m′ b b′ a (fromBody v (withQueue l st) (idIn idBytes (n .id .bytes)) (y .1) (v .world .store (idIn idBytes (n .id .bytes)))))
+        → Plain b b′ (a .answer) → TakesStored excluded settings store r (mem names marks times line) m′ b b′ a
+    unfolding takeStore
+    from-store {m′} {b′} {a} w plain = record { right = λ ok g v sh st u by own d j z. go ok g v sh st u by own d j z (st .queue) refl; plain = plain }
+      where
+        go : storeOk idBytes store ≡ true → (g : List ℕ) (v : Walk) (sh : Shape) (st : State) (u : List Id) → GoesBy v sh excluded settings → v .world ≡ worldOf store g
+            → Rests sh r (mem names marks times line) st u → InStore v u → 5120 ≤ length b → (q : List (Id × ℤ)) → st .queue ≡ q → Gives sh (mem names marks times line) m′ b b′ a (takeStore v st q)
+        go ok g v sh st u by own d j z [] e = clash f (p .none marks sh st (d .reads) e)
+        go ok g v sh st u by own d j z (y ∷ l) e =
+            let k = popped y l d p e in
+            gives-on (pop-kept (d .reads) p)
+            (subst (λ (x : Id). Gives sh (mem names marks times line′) m′ b b′ a (fromBody v (withQueue l st) x (y .1) (v .world .store x))) (k .taken .id) (w g ok v sh st u y l by own k j z))
+
+    pub stored-body : {m′ : Memory} {b′ : List ℕ} {a : Taken} (y e : ℕ) → o ≡ Body y e
+        → TakesBody excluded settings store (header idBytes (partOf store (Body y e))) (n .rest) (idIn idBytes (n .id .bytes)) (n .seconds .0) (mem names marks times line′) m′ b b′ a
+        → TakesStored excluded settings store r (mem names marks times line) m′ b b′ a
+    stored-body {m′} {b′} {a} y e i t =
+        from-store
+        (λ g ok v sh st u c l by own k j z.
+        let there : v .world .store (idIn idBytes (n .id .bytes)) ≡ some (header idBytes (partOf store (Body y e))) = ap (λ (q : World). q .store (idIn idBytes (n .id .bytes))) own ∙ located-body g y e at i refl ok in
+        subst (λ (q : Option Header). Gives sh (mem names marks times line′) m′ b b′ a (fromBody v (withQueue l st) (idIn idBytes (n .id .bytes)) (c .1) q)) (sym there)
+        (t .right ok g v sh (withQueue l st) u (c .1) by own there (popped-ready k) j (k .taken .seconds) z))
+        (t .plain)
+
+    pub stored-absent : o ≡ Absent → TakesStored excluded settings store r (mem names marks times line) (mem names marks times line′) b b (gave (Refused CommitNotFound) noId 0 NoGeneration NoTime (n .rest))
+    stored-absent i =
+        from-store
+        (λ g ok v sh st u c l by own k j z.
+        let there : v .world .store (idIn idBytes (n .id .bytes)) ≡ none = ap (λ (q : World). q .store (idIn idBytes (n .id .bytes))) own ∙ located-none g at i ok in
+        subst (λ (q : Option Header). Gives sh (mem names marks times line′) (mem names marks times line′) b b (gave (Refused CommitNotFound) noId 0 NoGeneration NoTime (n .rest)) (fromBody v (withQueue l st) (idIn idBytes (n .id .bytes)) (c .1) q))
+        (sym there) (absent-gives v (idIn idBytes (n .id .bytes)) (c .1) (k .taken .reads)))
+        (plain-absent (n .rest))
 
   pub stored-none : Pops r names times line line′ n → n .found ≡ false
       → TakesStored excluded settings store r (mem names marks times line) (mem names marks times line′) b b (gave End noId 0 NoGeneration NoTime r)
@@ -269,7 +291,7 @@ module _ {excluded : List ℕ} {settings : Settings} {store : List ℕ} {r : Rec
 pub next-none : {excluded : List ℕ} {settings : Settings} {graph store : List ℕ} {r : Record} {names marks : List ℕ} {times : List ℤ} {line line′ : List ℕ} {b : List ℕ} {n : Next}
     → Pops r names times line line′ n → n .found ≡ false → TakesNext excluded settings graph store r (mem names marks times line) (mem names marks times line′) b b (gave End noId 0 NoGeneration NoTime r)
 unfolding takeNext takeQueue
-next-none p f = record { right = λ ok good v sh st u by own d i j z. ended d p f (takeNext v st) (λ e. ap (takeQueue v st) (sym e)) }
+next-none p f = record { right = λ ok good v sh st u by fixed own d i j z. ended d p f (takeNext v st) (λ e. ap (takeQueue v st) (sym e)) }
 
 -- what the row in use says of the front decides the case: a graph that was dropped says nothing
 row-case : (v : Walk) (st : State) (graph store : List ℕ) (kept : Bool) (x : Id × ℤ) (l : List (Id × ℤ)) → v .world ≡ worldOf store graph → st .kept ≡ kept → st .queue ≡ x ∷ l
@@ -289,73 +311,116 @@ row-step {sh} {r} {m} {st} v graph store y l {z} d g own e i k =
     row-case v st graph store (r .kept) y l own (g .kept) e ∙ ap (λ (x : Id). takeRow v st y l (worldUnder (cacheOf graph (r .kept)) graph store .graph x)) (sym i) ∙ ap (takeRow v st y l) k
 
 -- a row that is in use is the walk's own
-row-own : (v : Walk) (graph store : List ℕ) (kept : Bool) (x : Id) (ps : List (Id × ℤ)) (c : ℕ) (s : ℤ) → v .world ≡ worldOf store graph → worldUnder (cacheOf graph kept) graph store .graph x ≡ row ps c s
-    → v .world .graph x ≡ row ps c s
-row-own v graph store true x ps c s own e = ap (λ (w : World). w .graph x) (own ∙ sym (kept-world graph store)) ∙ e
-row-own v graph store false x ps c s own e = let q = sym (dropped-world graph store x) ∙ e in let z : _≡_ {A = ℕ} 0 1 = cc in absurd (omega arith)
+row-own : (v : Walk) (graph store : List ℕ) (kept : Bool) (x : Id) (d : Row) → v .world ≡ worldOf store graph → kept ≡ true → worldUnder (cacheOf graph kept) graph store .graph x ≡ d → v .world .graph x ≡ d
+row-own v graph store kept x d own k e =
+    ap (λ (w : World). w .graph x) (own ∙ sym (kept-world graph store)) ∙ ap (λ (b : Bool). worldUnder (cacheOf graph b) graph store .graph x) (sym k) ∙ e
 
--- a corrupt row is one of a graph that is kept
-corrupt-kept : (graph store : List ℕ) (kept : Bool) (x : Id) → worldUnder (cacheOf graph kept) graph store .graph x ≡ corrupt → kept ≡ true
-corrupt-kept graph store true x e = refl
-corrupt-kept graph store false x e = let q = sym (dropped-world graph store x) ∙ e in let z : _≡_ {A = ℕ} 0 1 = cc in absurd (omega arith)
+-- ---- from the row
 
-module _ {excluded : List ℕ} {settings : Settings} {graph store : List ℕ} {r : Record} {names marks : List ℕ} {times : List ℤ} {line line′ : List ℕ} {b : List ℕ} {n : Next} {w : RowRead}
-    (p : Pops r names times line line′ n) (f : n .found ≡ true) (read : ReadsRow (cacheOf graph (r .kept)) graph (idIn idBytes (n .id .bytes)) w) where
-  pub next-body : {m′ : Memory} {b′ : List ℕ} {a : Taken} → w ≡ NoRow → TakesBody excluded settings store (n .rest) (idIn idBytes (n .id .bytes)) (n .seconds .0) (mem names marks times line′) m′ b b′ a
+module _ {excluded : List ℕ} {settings : Settings} {graph store : List ℕ} {l : Layout} {p : ℕ} {n : Next} {names marks : List ℕ} {times : List ℤ} {line : List ℕ} {b : List ℕ} {w : RowRead}
+    (read : w ≡ rowReadOf (levelOf graph l p) (parentsIn idBytes graph l p)) where
+  pub cached-row : {m′ : Memory} {b′ : List ℕ} {a : Taken} {many : ℕ} {c : Level} → w ≡ RowAt many c
+      → TakesRow excluded settings graph l p many c (n .rest) (idIn idBytes (n .id .bytes)) (n .seconds .0) (mem names marks times line) m′ b b′ a
+      → TakesCached excluded settings graph l p store n (mem names marks times line) m′ b b′ a
+  unfolding takeRow
+  cached-row {m′} {b′} {a} {many} {c} e t = record {
+    right = λ ok good own v sh st u y ys by world k kept says i j z.
+        let told = row-is graph l p own read e in
+        let ps : List (Id × ℤ) = told .parents in
+        subst (λ (d : Row). Gives sh (mem names marks times line) m′ b b′ a (takeRow v st y ys d)) (sym (told .is))
+        (subst (λ (x : Id). Gives sh (mem names marks times line) m′ b b′ a (fromRow v (withQueue ys st) x (y .1) ps (c .0))) (k .taken .id)
+        (t .right good own ps (told .seconds) (told .is) (told .count) v sh (withQueue ys st) u (y .1) by (popped-ready k)
+        (λ q h. i .inside (y .0) q ps (c .0) (told .seconds) (says ∙ told .is) h) (k .taken .seconds) z));
+    plain = t .plain (row-counted graph l p read e);
+  }
+
+  pub cached-corrupt : {line′ : List ℕ} {m′ : Memory} {b′ : List ℕ} {a : Taken} {r′ : Record} → w ≡ Corrupt → Drops (n .rest) times line line′ (n .slot) r′
+      → TakesStored excluded settings store r′ (mem names marks times line′) m′ b b′ a → TakesCached excluded settings graph l p store n (mem names marks times line) m′ b b′ a
+  unfolding takeRow dropped withQueue
+  cached-corrupt {line′} {m′} {b′} {a} {r′} e x t = record {
+    right = λ ok good own v sh st u y ys by world k kept says i j z.
+        let held : n .rest .kept ≡ true = sym (k .taken .reads .kept) ∙ kept in
+        let small : n .rest .admitted + 2 < 4294967296 = omega (arith, k .numbers, k .taken .reads .admitted) in
+        let g = x .reads names marks sh (withQueue ys st) (y .0) (y .1) (k .taken .reads) (k .taken .failed) held (k .taken .slot) (k .taken .entry) small in
+        let shape : sh ≡ shapeFor (v .settings) (sh .cap) (sh .fixed) = by .shape ∙ ap (λ (s : Settings). shapeFor s (sh .cap) (sh .fixed)) (sym (by .same-settings)) in
+        let same : backTo sh y ys ≡ back v y ys = ap (λ (s : Shape). backTo s y ys) shape ∙ sym (back-shape v (sh .cap) (sh .fixed) y ys) in
+        let now : State = dropped (back v y ys) st in
+        let after : Reads r′ (mem names marks times line′) sh now = subst (λ (q : List (Id × ℤ)). Reads r′ (mem names marks times line′) sh (dropped q st)) same g in
+        let rests : Rests sh r′ (mem names marks times line′) now u =
+        record { reads = after; inside = record { few = k .inside .few; has-seen = k .inside .has-seen; has-frontier = k .inside .has-frontier }; slots = k .slots; numbers = k .numbers } in
+        subst (λ (d : Row). Gives sh (mem names marks times line) m′ b b′ a (takeRow v st y ys d)) (sym (row-torn graph l p own read e))
+        (gives-on (λ c h. x .for-line .kept c (omega (arith, h, k .taken .reads .cap))) (t .right ok graph v sh now u by world rests j z));
+    plain = t .plain;
+  }
+
+-- ---- from what `find` found
+
+-- a row is found in a graph that is kept
+graph-kept : (graph : List ℕ) (l l′ : Layout) (kept : Bool) → cacheWith graph l kept ≡ Graph l′ → kept ≡ true
+unfolding cacheWith
+graph-kept graph l l′ true e = refl
+graph-kept graph l l′ false e = let z : _≡_ {A = ℕ} 0 1 = cc in absurd (omega arith)
+
+module _ {excluded : List ℕ} {settings : Settings} {graph store : List ℕ} {r : Record} {names marks : List ℕ} {times : List ℤ} {line line′ : List ℕ} {b : List ℕ} {n : Next} {e : Either}
+    (p : Pops r names times line line′ n) (f : n .found ≡ true) (found : FindsCommit idBytes (cacheWith graph (r .fixed .layout) (r .kept)) graph store (idIn idBytes (n .id .bytes)) e) where
+  -- the popped commit, whose row in use is d, is taken as the walk takes it
+  found-next : {m′ : Memory} {b′ : List ℕ} {a : Taken} → ((v : Walk) (sh : Shape) (st : State) (u : List Id) (y : Id × ℤ) (l : List (Id × ℤ)) → storeOk idBytes store ≡ true → GoodCache idBytes (cacheOf graph (r .kept)) graph
+      → r .fixed .layout ≡ layoutOf graph → e ≡ foundIn idBytes (cacheOf graph (r .kept)) graph store (idIn idBytes (n .id .bytes)) → GoesBy v sh excluded settings → v .world ≡ worldOf store graph → st .kept ≡ r .kept
+      → Popped sh (mem names marks times line′) st u y l n → InRows v u → InStore v u → 5120 ≤ length b
+      → (d : Row) × (worldUnder (cacheOf graph (r .kept)) graph store .graph (idIn idBytes (n .id .bytes)) ≡ d) × Gives sh (mem names marks times line′) m′ b b′ a (takeRow v st y l d))
+      → TakesNext excluded settings graph store r (mem names marks times line) m′ b b′ a
+  found-next {m′} {b′} {a} w = record { right = λ ok good v sh st u by fixed own d i j z. go ok good v sh st u by fixed own d i j z (st .queue) refl }
+    where
+      go : storeOk idBytes store ≡ true → (isEmpty graph || graphOk idBytes graph) ≡ true → (v : Walk) (sh : Shape) (st : State) (u : List Id) → GoesBy v sh excluded settings → sh .fixed ≡ fixedOf graph
+          → v .world ≡ worldOf store graph → Rests sh r (mem names marks times line) st u → InRows v u → InStore v u → 5120 ≤ length b → (q : List (Id × ℤ)) → st .queue ≡ q
+          → Gives sh (mem names marks times line) m′ b b′ a (takeNext v st)
+      go ok good v sh st u by fixed own d i j z [] o = clash f (p .none marks sh st (d .reads) o)
+      go ok good v sh st u by fixed own d i j z (y ∷ l) o =
+          let k = popped y l d p o in
+          let lay : r .fixed .layout ≡ layoutOf graph = ap (λ (q : Fixed). q .layout) (d .reads .fixed ∙ fixed) in
+          let used : cacheWith graph (r .fixed .layout) (r .kept) ≡ cacheOf graph (r .kept) = ap (λ (q : Layout). cacheWith graph q (r .kept)) lay in
+          let right = subst (λ (q : Cache). GoodCache idBytes q graph) (sym used) (good-cache graph (r .kept) good) in
+          let told : e ≡ foundIn idBytes (cacheOf graph (r .kept)) graph store (idIn idBytes (n .id .bytes)) =
+          found .good ok right ∙ ap (λ (q : Cache). foundIn idBytes q graph store (idIn idBytes (n .id .bytes))) used in
+          let s = w v sh st u y l ok (good-cache graph (r .kept) good) lay told by own (d .reads .kept) k i j z in
+          subst (Gives sh (mem names marks times line) m′ b b′ a) (sym (row-step v graph store y l (s .0) (d .reads) own o (k .taken .id) (s .1)))
+          (gives-on (pop-kept (d .reads) p) (s .2))
+
+  pub next-cached : {m′ : Memory} {b′ : List ℕ} {a : Taken} (at s z : ℕ) → e ≡ CachedCommit at s z → TakesCached excluded settings graph (r .fixed .layout) at store n (mem names marks times line′) m′ b b′ a
+      → TakesNext excluded settings graph store r (mem names marks times line) m′ b b′ a
+  next-cached at s z q t = found-next (λ v sh st u y l ok good lay told by own same k i j h.
+      let file = found-row (cacheOf graph (r .kept)) graph store (idIn idBytes (n .id .bytes)) at s z good (sym told ∙ q) in
+      let used = found .listed at s z q in
+      let kept : r .kept ≡ true = graph-kept graph (r .fixed .layout) (used .0) (r .kept) (used .1) in
+      let says : v .world .graph (y .0) ≡ rowAt graph at =
+      ap (v .world .graph) (sym (k .taken .id)) ∙ row-own v graph store (r .kept) (idIn idBytes (n .id .bytes)) (rowAt graph at) own kept (file .says) in
+      (rowAt graph at, file .says, t .right ok (file .file) lay v sh st u y l by own k (same ∙ kept) says i j h))
+
+  pub next-body : {m′ : Memory} {b′ : List ℕ} {a : Taken} (s z : ℕ) → e ≡ CommitRefIter s z
+      → TakesBody excluded settings store (header idBytes (partOf store (Body s z))) (n .rest) (idIn idBytes (n .id .bytes)) (n .seconds .0) (mem names marks times line′) m′ b b′ a
       → TakesNext excluded settings graph store r (mem names marks times line) m′ b b′ a
   unfolding takeRow takeStore
-  next-body {m′} {b′} {a} e t = record { right = λ ok good v sh st u by own d i j z. go ok good v sh st u by own d j z (st .queue) refl }
-    where
-      go : storeOk idBytes store ≡ true → (isEmpty graph || graphOk idBytes graph) ≡ true → (v : Walk) (sh : Shape) (st : State) (u : List Id) → GoesBy v sh excluded settings → v .world ≡ worldOf store graph
-          → Rests sh r (mem names marks times line) st u → InStore v u → 5120 ≤ length b → (q : List (Id × ℤ)) → st .queue ≡ q → Gives sh (mem names marks times line) m′ b b′ a (takeNext v st)
-      go ok good v sh st u by own d j z [] o = clash f (p .none marks sh st (d .reads) o)
-      go ok good v sh st u by own d j z (y ∷ l) o =
-          let k = p .some marks sh st (y .0) (y .1) l (d .reads) o in
-          let told : worldUnder (cacheOf graph (r .kept)) graph store .graph (idIn idBytes (n .id .bytes)) ≡ no-row = rw e at (row-right read (good-cache graph (r .kept) good) store) in
-          subst (Gives sh (mem names marks times line) m′ b b′ a) (sym (row-step v graph store y l no-row (d .reads) own o (k .id) told))
-          (gives-on (pop-kept (d .reads) p)
-          (subst (λ (x : Id). Gives sh (mem names marks times line′) m′ b b′ a (fromBody v (withQueue l st) x (y .1) (v .world .store x))) (k .id)
-          (t .right ok graph v sh (withQueue l st) u (y .1) by own (pop-ready (y .0) (y .1) l d p o) j (k .seconds) z)))
+  next-body {m′} {b′} {a} s z q t = found-next (λ v sh st u y l ok good lay told by own same k i j h.
+      let x : Id = idIn idBytes (n .id .bytes) in
+      let c = found-body (cacheOf graph (r .kept)) graph store x s z ok (sym told ∙ q) in
+      let there : v .world .store x ≡ some (header idBytes (partOf store (Body s z))) = ap (λ (w : World). w .store x) own ∙ sym (same-store (cacheOf graph (r .kept)) graph store x) ∙ c .1 in (
+        no-row,
+        c .0,
+        subst (λ (x : Id). Gives sh (mem names marks times line′) m′ b b′ a (fromBody v (withQueue l st) x (y .1) (v .world .store x))) (k .taken .id)
+            (subst (λ (w : Option Header). Gives sh (mem names marks times line′) m′ b b′ a (fromBody v (withQueue l st) x (y .1) w)) (sym there)
+            (t .right ok graph v sh (withQueue l st) u (y .1) by own there (popped-ready k) j (k .taken .seconds) h)),
+      ))
 
-  pub next-row : {m′ : Memory} {b′ : List ℕ} {a : Taken} {lay : Layout} (at many : ℕ) (c : Level) → w ≡ RowAt at many c → lay ≡ layoutUnder (cacheOf graph (r .kept))
-      → TakesRow excluded settings graph lay at many c (n .rest) (idIn idBytes (n .id .bytes)) (n .seconds .0) (mem names marks times line′) m′ b b′ a
-      → TakesNext excluded settings graph store r (mem names marks times line) m′ b b′ a
-  unfolding takeRow
-  next-row {m′} {b′} {a} {lay} at many c e own-layout t = record { right = λ ok good v sh st u by own d i j z. go good v sh st u by own d i z (st .queue) refl }
-    where
-      go : (isEmpty graph || graphOk idBytes graph) ≡ true → (v : Walk) (sh : Shape) (st : State) (u : List Id) → GoesBy v sh excluded settings → v .world ≡ worldOf store graph
-          → Rests sh r (mem names marks times line) st u → InRows v u → 5120 ≤ length b → (q : List (Id × ℤ)) → st .queue ≡ q → Gives sh (mem names marks times line) m′ b b′ a (takeNext v st)
-      go good v sh st u by own d i z [] o = clash f (p .none marks sh st (d .reads) o)
-      go good v sh st u by own d i z (y ∷ l) o =
-          let k = p .some marks sh st (y .0) (y .1) l (d .reads) o in
-          let told : RowIs (cacheOf graph (r .kept)) graph at many c (worldUnder (cacheOf graph (r .kept)) graph store .graph (idIn idBytes (n .id .bytes))) = rw e at (row-right read (good-cache graph (r .kept) good) store) in
-          let ps : List (Id × ℤ) = told .parents in
-          let says : v .world .graph (idIn idBytes (n .id .bytes)) ≡ row ps (c .0) (told .seconds) = row-own v graph store (r .kept) (idIn idBytes (n .id .bytes)) ps (c .0) (told .seconds) own (told .is) in
-          subst (Gives sh (mem names marks times line) m′ b b′ a) (sym (row-step v graph store y l (row ps (c .0) (told .seconds)) (d .reads) own o (k .id) (told .is)))
-          (gives-on (pop-kept (d .reads) p)
-          (subst (λ (x : Id). Gives sh (mem names marks times line′) m′ b b′ a (fromRow v (withQueue l st) x (y .1) ps (c .0))) (k .id)
-          (t .right (told .file) (own-layout ∙ told .layout) ps (told .seconds) (told .place ∙ told .is) (told .count) v sh (withQueue l st) u (y .1) by (pop-ready (y .0) (y .1) l d p o)
-          (λ q h. i .inside (idIn idBytes (n .id .bytes)) q ps (c .0) (told .seconds) says h) (k .seconds) z)))
-
-  pub next-corrupt : {line″ : List ℕ} {m′ : Memory} {b′ : List ℕ} {a : Taken} {r′ : Record} → w ≡ Corrupt → Drops (n .rest) times line′ line″ (n .slot) r′
-      → TakesStored excluded settings store r′ (mem names marks times line″) m′ b b′ a → TakesNext excluded settings graph store r (mem names marks times line) m′ b b′ a
-  unfolding takeRow dropped withQueue
-  next-corrupt {line″} {m′} {b′} {a} {r′} e x t = record { right = λ ok good v sh st u by own d i j z. go ok good v sh st u by own d j z (st .queue) refl }
-    where
-      go : storeOk idBytes store ≡ true → (isEmpty graph || graphOk idBytes graph) ≡ true → (v : Walk) (sh : Shape) (st : State) (u : List Id) → GoesBy v sh excluded settings → v .world ≡ worldOf store graph
-          → Rests sh r (mem names marks times line) st u → InStore v u → 5120 ≤ length b → (q : List (Id × ℤ)) → st .queue ≡ q → Gives sh (mem names marks times line) m′ b b′ a (takeNext v st)
-      go ok good v sh st u by own d j z [] o = clash f (p .none marks sh st (d .reads) o)
-      go ok good v sh st u by own d j z (y ∷ l) o =
-          let k = p .some marks sh st (y .0) (y .1) l (d .reads) o in
-          let told : worldUnder (cacheOf graph (r .kept)) graph store .graph (idIn idBytes (n .id .bytes)) ≡ corrupt = rw e at (row-right read (good-cache graph (r .kept) good) store) in
-          let held : n .rest .kept ≡ true = sym (k .reads .kept) ∙ d .reads .kept ∙ corrupt-kept graph store (r .kept) (idIn idBytes (n .id .bytes)) told in
-          let small : n .rest .admitted + 2 < 4294967296 = omega (arith, d .numbers, k .reads .admitted) in
-          let g = x .reads names marks sh (withQueue l st) (y .0) (y .1) (k .reads) (k .failed) held (k .slot) (k .entry) small in
-          let shape : sh ≡ shapeFor (v .settings) (sh .cap) = by .shape ∙ ap (λ (s : Settings). shapeFor s (sh .cap)) (sym (by .same-settings)) in
-          let same : backTo sh y l ≡ back v y l = ap (λ (s : Shape). backTo s y l) shape ∙ sym (back-shape v (sh .cap) y l) in
-          let now : State = dropped (back v y l) st in
-          let after : Reads r′ (mem names marks times line″) sh now = subst (λ (q : List (Id × ℤ)). Reads r′ (mem names marks times line″) sh (dropped q st)) same g in
-          let rests : Rests sh r′ (mem names marks times line″) now u =
-          record { reads = after; inside = record { few = d .inside .few; has-seen = d .inside .has-seen; has-frontier = d .inside .has-frontier }; slots = d .slots; numbers = d .numbers } in
-          subst (Gives sh (mem names marks times line) m′ b b′ a) (sym (row-step v graph store y l corrupt (d .reads) own o (k .id) told))
-          (gives-on (λ c h. x .for-line .kept c (omega (arith, h, k .reads .cap)) ∙ pop-kept (d .reads) p c h) (t .right ok graph v sh now u by own rests j z))
+  pub next-absent : e ≡ Either·Absent
+      → TakesNext excluded settings graph store r (mem names marks times line) (mem names marks times line′) b b (gave (Refused CommitNotFound) noId 0 NoGeneration NoTime (n .rest))
+  unfolding takeRow takeStore
+  next-absent q = found-next (λ v sh st u y l ok good lay told by own same k i j h.
+      let x : Id = idIn idBytes (n .id .bytes) in
+      let a : Taken = gave (Refused CommitNotFound) noId 0 NoGeneration NoTime (n .rest) in
+      let c = found-absent (cacheOf graph (r .kept)) graph store x (sym told ∙ q) in
+      let there : v .world .store x ≡ none = ap (λ (w : World). w .store x) own ∙ sym (same-store (cacheOf graph (r .kept)) graph store x) ∙ c .1 in (
+        no-row,
+        c .0,
+        subst (λ (x : Id). Gives sh (mem names marks times line′) (mem names marks times line′) b b a (fromBody v (withQueue l st) x (y .1) (v .world .store x))) (k .taken .id)
+            (subst (λ (w : Option Header). Gives sh (mem names marks times line′) (mem names marks times line′) b b a (fromBody v (withQueue l st) x (y .1) w)) (sym there) (absent-gives v x (y .1) (k .taken .reads))),
+      ))

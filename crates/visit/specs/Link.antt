@@ -22,7 +22,7 @@ use Rattle.state.specs.Steps.{Waits}
 pub record GoesBy (v : Walk) (sh : Shape) (excluded : List ℕ) (settings : Settings) : Type 0 where
   pub same-settings : v .settings ≡ settings
   pub same-excluded : v .excluded ≡ listIds excluded
-  pub shape : sh ≡ shapeFor settings (sh .cap)
+  pub shape : sh ≡ shapeFor settings (sh .cap) (sh .fixed)
 
 -- the record r and the memory m read as the state st, whose ids lie in u, a list of no more ids than there are slots; and n commits more
 -- may be admitted

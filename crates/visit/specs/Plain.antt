@@ -21,9 +21,9 @@ pub record Past (n : ℕ) (b b′ : List ℕ) : Type 0 where
 
 -- "A refusal or end carries no id, level or seconds (zeros there)"
 pub record Bare (a : Given) : Type 0 where
-  pub no-id : a .id ≡ noId
-  pub no-generation : a .generation ≡ NoGeneration
-  pub no-time : a .time ≡ NoTime
+  pub no-id : a .info .id ≡ noId
+  pub no-generation : a .info .generation ≡ NoGeneration
+  pub no-time : a .info .time ≡ NoTime
 
 -- the parents that a refusal counts: 9 comes before any line is read; 11 at "a good 257th parent line", when 256 ids are read
 pub record Counted (r : Refusal) (n : ℕ) : Type 0 where
@@ -33,12 +33,12 @@ pub record Counted (r : Refusal) (n : ℕ) : Type 0 where
 -- a commit; the end, with no parents; or refusal 9, 10 or 11, with "ids already read … counted in the answer"
 abbrev pub ShapedBy : Outcome → Given → Type 0
 ShapedBy Commit a = Unit {0}
-ShapedBy End a = Bare a × (a .parents ≡ 0)
-ShapedBy (Refused r) a = Bare a × OfCall r × Counted r (a .parents)
+ShapedBy End a = Bare a × (a .info .parents ≡ 0)
+ShapedBy (Refused r) a = Bare a × OfCall r × Counted r (a .info .parents)
 
 -- an answer of document 01, with the buffer parents before and after it: at most 256 parents are counted, and "parents past the ids given
 -- keeps its bytes"
 pub record Plain (b b′ : List ℕ) (a : Given) : Type 0 where
   pub shape : ShapedBy (a .outcome) a
-  pub few : a .parents ≤ most
-  pub past : (k : ℕ) → idBytes * a .parents ≤ k → getD b′ k 0 ≡ getD b k 0
+  pub few : a .info .parents ≤ most
+  pub past : (k : ℕ) → idBytes * a .info .parents ≤ k → getD b′ k 0 ≡ getD b k 0

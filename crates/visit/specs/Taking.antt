@@ -25,12 +25,15 @@ use Rattle.walk.specs.declared.MaybeSeconds.the-variants.{Time, NoTime}
 use Rattle.walk.specs.Settings.{followed}
 use Rattle.walk.specs.Lookup.{row, rowAt, worldOf}
 use Rattle.walk.specs.State.{Walk, State, isEmpty}
-use Rattle.walk.specs.Next.{Step, fromRow, fromBody, takeStore, takeNext}
+use Rattle.walk.specs.Next.{Step, fromRow, fromBody, takeStore, takeRow, takeNext}
 use Rattle.walk.specs.Given.{noId, given, parentsGiven}
 use Rattle.reading.specs.declared.body.BodyEnd.{BodyEnd}
 use Rattle.reading.specs.declared.body.BodyEnd.the-variants.{Whole, Unreadable, Crowded}
 use Rattle.state.specs.declared.Record.{Record}
+use Rattle.state.specs.declared.Next.{Next}
 use Rattle.state.specs.Reads.{Memory, Shape, Reads, Universe}
+use Rattle.state.specs.Shapes.{fixedOf}
+use Rattle.state.specs.Steps.{Taken as OutOfQueue}
 use Rattle.visit.specs.declared.body.BodyVisited.{BodyVisited}
 use Rattle.visit.specs.declared.next.Taken.{Taken}
 use Rattle.visit.specs.Link.{GoesBy, Ready}
@@ -40,7 +43,13 @@ use Rattle.hash.specs.Bytes.{idBytes}
 -- an answer with the running numbers of the record r
 abbrev pub gave : Outcome → Id → ℕ → MaybeLevel → MaybeSeconds → Record → Taken
 gave o x n l t r = record {
-  answer = record { outcome = o; id = x; parents = n; generation = l; time = t; admitted = r .admitted; struck = r .struck; waiting = r .queue .count };
+  answer = record {
+    outcome = o;
+    info = record { id = x; parents = n; generation = l; time = t };
+    admitted = r .admitted;
+    struck = r .struck;
+    waiting = r .queue .count;
+  };
   after = r;
 }
 
@@ -89,10 +98,10 @@ pub record TakesRow (excluded : List ℕ) (settings : Settings) (g : List ℕ) (
       → Gives sh m m′ b b′ a (fromRow v st x t′ ps (c .0))
   pub plain : n ≤ most → Plain b b′ (a .answer)
 
--- from the store
-pub record TakesBody (excluded : List ℕ) (settings : Settings) (store : List ℕ) (r : Record) (x : Id) (t : ℤ) (m m′ : Memory) (b b′ : List ℕ) (a : Taken) : Type 0 where
+-- the same from its body with the header h, where the store has that under x
+pub record TakesBody (excluded : List ℕ) (settings : Settings) (store : List ℕ) (h : Header) (r : Record) (x : Id) (t : ℤ) (m m′ : Memory) (b b′ : List ℕ) (a : Taken) : Type 0 where
   pub right : storeOk idBytes store ≡ true → (g : List ℕ) (v : Walk) (sh : Shape) (st : State) (u : List Id) (t′ : ℤ) → GoesBy v sh excluded settings → v .world ≡ worldOf store g
-      → Ready sh r m st u 256 → InStore v u → (sh .timed ≡ true → t ≡ t′) → 5120 ≤ length b → Gives sh m m′ b b′ a (fromBody v st x t′ (v .world .store x))
+      → v .world .store x ≡ some h → Ready sh r m st u 256 → InStore v u → (sh .timed ≡ true → t ≡ t′) → 5120 ≤ length b → Gives sh m m′ b b′ a (fromBody v st x t′ (some h))
   pub plain : Plain b b′ (a .answer)
 
 -- the first of the queue, from the store alone
@@ -101,7 +110,21 @@ pub record TakesStored (excluded : List ℕ) (settings : Settings) (store : List
       → Rests sh r m st u → InStore v u → 5120 ≤ length b → Gives sh m m′ b b′ a (takeStore v st (st .queue))
   pub plain : Plain b b′ (a .answer)
 
--- the next commit
+-- n was popped: the first of the state's queue, which was y ∷ l; m is the memory since
+pub record Popped (sh : Shape) (m : Memory) (st : State) (u : List Id) (y : Id × ℤ) (l : List (Id × ℤ)) (n : Next) : Type 0 where
+  pub taken : OutOfQueue (m .names) (m .marks) (m .times) (m .line) sh st (y .0) (y .1) l n
+  pub inside : Universe sh st u
+  pub slots : sh .cap ≤ 4294967296
+  pub numbers : st .admitted + 256 + 2 < 4294967296
+
+-- the popped commit from its row at position p, or, where that is corrupt, the first of the queue from the store alone
+pub record TakesCached (excluded : List ℕ) (settings : Settings) (graph : List ℕ) (l : Layout) (p : ℕ) (store : List ℕ) (n : Next) (m m′ : Memory) (b b′ : List ℕ) (a : Taken) : Type 0 where
+  pub right : storeOk idBytes store ≡ true → graphOk idBytes graph ≡ true → l ≡ layoutOf graph → (v : Walk) (sh : Shape) (st : State) (u : List Id) (y : Id × ℤ) (ys : List (Id × ℤ))
+      → GoesBy v sh excluded settings → v .world ≡ worldOf store graph → Popped sh m st u y ys n → st .kept ≡ true → v .world .graph (y .0) ≡ rowAt graph p → InRows v u → InStore v u → 5120 ≤ length b
+      → Gives sh m m′ b b′ a (takeRow v st y ys (rowAt graph p))
+  pub plain : Plain b b′ (a .answer)
+
+-- the next commit, where the opening found what it fixed in this graph file
 pub record TakesNext (excluded : List ℕ) (settings : Settings) (graph store : List ℕ) (r : Record) (m m′ : Memory) (b b′ : List ℕ) (a : Taken) : Type 0 where
-  pub right : storeOk idBytes store ≡ true → (isEmpty graph || graphOk idBytes graph) ≡ true → (v : Walk) (sh : Shape) (st : State) (u : List Id) → GoesBy v sh excluded settings
+  pub right : storeOk idBytes store ≡ true → (isEmpty graph || graphOk idBytes graph) ≡ true → (v : Walk) (sh : Shape) (st : State) (u : List Id) → GoesBy v sh excluded settings → sh .fixed ≡ fixedOf graph
       → v .world ≡ worldOf store graph → Rests sh r m st u → InRows v u → InStore v u → 5120 ≤ length b → Gives sh m m′ b b′ a (takeNext v st)

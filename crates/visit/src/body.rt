@@ -1,6 +1,6 @@
 // The parents of a commit from the store.
+use crate::link::insert_into_seen_and_queue_stored;
 use crate::link::only_first;
-use crate::link::visit_stored;
 use crate::row::set_parent;
 use hash::Kind;
 use odb::Located;
@@ -99,7 +99,7 @@ fn visit_body_parent(
     let read = reading::body_parent(body, k);
     let id = object::id_slice(Kind::Sha1, &read.bytes);
     set_parent(parents, k, id);
-    visit_stored(r, names, marks, times, line, excluded, settings, store, id)
+    insert_into_seen_and_queue_stored(r, names, marks, times, line, excluded, settings, store, id)
 }
 
 // Sets down and visits the first n parents of a body.

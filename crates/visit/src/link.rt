@@ -7,11 +7,10 @@ use state::Record;
 use state::Seen;
 use walk::Parents;
 use walk::Settings;
-use walk::Sorting;
 ghost use mathlib.Core.Path.{_≡_};
 ghost use mathlib.Core.Bool.{true};
 ghost use Rattle.commitgraph.specs.Graph.{secondsIn};
-ghost use Rattle.walk.specs.Settings.{onlyFirst, cutoffOf, notBefore};
+ghost use Rattle.walk.specs.Settings.{onlyFirst};
 ghost use Rattle.reading.specs.Tip.{GivesSeconds};
 ghost use Rattle.state.specs.Steps.{mem};
 ghost use Rattle.visit.specs.Link.{Admits, Enters, Visits, VisitsStored};
@@ -31,17 +30,6 @@ pub(crate) fn only_first(settings: Settings) -> bool
     }
 }
 
-// Whether a time is not before the cutoff, where there is one.
-fn not_before(sorting: Sorting, s: Seconds) -> bool
-    ensures { λ r. ⌜ r ≡ notBefore (cutoffOf sorting) (s .0) ⌝ }
-{
-    match sorting {
-        Sorting::BreadthFirst => true,
-        Sorting::ByCommitTime(_) => true,
-        Sorting::ByCommitTimeCutoff { seconds, .. } => !date::before(s, seconds),
-    }
-}
-
 // Whether the link to a parent that is not seen yet is admitted: it is not excluded, and not before the cutoff, which first parents ignore.
 pub fn admits(excluded: &[u8], settings: Settings, id: &[u8], s: Seconds) -> bool
     ensures { λ r. ⌜ Admits (now (excluded .entry)) settings (now (id .entry)) (s .0) r ⌝ }
@@ -53,11 +41,11 @@ pub fn admits(excluded: &[u8], settings: Settings, id: &[u8], s: Seconds) -> boo
         return true;
     }
     let sorting = settings.sorting;
-    not_before(sorting, s)
+    walk::within_cutoff_time(sorting, s)
 }
 
 // A parent that is new waits, if its link is admitted.
-fn enter(
+fn insert_into_queue(
     r: Record,
     seen: Seen,
     times: &mut [i64],
@@ -103,7 +91,7 @@ fn note(levels: &mut [u32], seen: Seen, parent: usize) {
 }
 
 // Visits the parent at a position of the commit-graph file: its seconds are those of its own row.
-pub fn visit_cached(
+pub fn insert_into_seen_and_queue_cached(
     r: Record,
     names: &mut [u8],
     marks: &mut [u8],
@@ -123,7 +111,7 @@ pub fn visit_cached(
     let q = r.queue;
     let s = new_row_seconds(graph, l, parent, seen.fresh, q.timed);
     note(levels, seen, parent);
-    enter(r, seen, times, line, excluded, settings, id, s)
+    insert_into_queue(r, seen, times, line, excluded, settings, id, s)
 }
 
 // The seconds of a new parent in the store, where commits wait by time; else they are not asked.
@@ -139,7 +127,7 @@ fn new_seconds(store: &[u8], id: &[u8], fresh: bool, timed: bool) -> Seconds
 }
 
 // Visits a parent of a commit from the store: its seconds are those in the store, else 0.
-pub fn visit_stored(
+pub fn insert_into_seen_and_queue_stored(
     r: Record,
     names: &mut [u8],
     marks: &mut [u8],
@@ -155,5 +143,5 @@ pub fn visit_stored(
     let seen = state::see(r, names, marks, id);
     let q = r.queue;
     let s = new_seconds(store, id, seen.fresh, q.timed);
-    enter(r, seen, times, line, excluded, settings, id, s)
+    insert_into_queue(r, seen, times, line, excluded, settings, id, s)
 }

@@ -3,6 +3,7 @@ use crate::body::BodyVisited;
 use crate::body::visit_body;
 use crate::link::only_first;
 use crate::row::visit_row;
+use commit::Either;
 use commitgraph::Layout;
 use commitgraph::Level;
 use date::Seconds;
@@ -11,8 +12,10 @@ use object::ObjectId;
 use odb::Located;
 use reading::BodyEnd;
 use reading::RowRead;
+use state::Next;
 use state::Record;
 use walk::Answer;
+use walk::Info;
 use walk::MaybeLevel;
 use walk::MaybeSeconds;
 use walk::Outcome;
@@ -25,9 +28,12 @@ ghost use Rattle.walk.specs.declared.MaybeLevel.the-variants.{NoGeneration};
 ghost use Rattle.walk.specs.declared.MaybeSeconds.the-variants.{NoTime};
 ghost use Rattle.walk.specs.Given.{noId};
 ghost use Rattle.hash.specs.Bytes.{idBytes};
+ghost use Rattle.object.specs.Header.{header};
 ghost use Rattle.object.specs.Ids.{idIn};
+ghost use Rattle.odb.specs.Lookup.{partOf};
+ghost use Rattle.odb.specs.declared.Located.the-variants.{Body};
 ghost use Rattle.state.specs.Steps.{mem};
-ghost use Rattle.visit.specs.Taking.{gave, timeGiven, Follows, EndsBody, TakesRow, TakesBody, TakesStored, TakesNext};
+ghost use Rattle.visit.specs.Taking.{gave, timeGiven, Follows, EndsBody, TakesRow, TakesBody, TakesStored, TakesCached, TakesNext};
 ghost use Rattle.visit.specs.Plain.{Plain};
 
 // An answer, and the record after it.
@@ -58,12 +64,15 @@ fn give(
 {
     let q = r.queue;
     let bytes = id_given(id);
-    let answer = Answer {
-        outcome,
+    let info = Info {
         id: bytes,
         parents,
         generation,
         time,
+    };
+    let answer = Answer {
+        outcome,
+        info,
         admitted: r.admitted,
         struck: r.struck,
         waiting: q.count,
@@ -175,12 +184,14 @@ fn end_body(seen: BodyVisited, id: ObjectId, time: MaybeSeconds) -> Taken
     }
 }
 
-// The commit from the store.
+// The commit from its body, which stands from start to end in the store.
 fn take_body(
     r: Record,
     id: ObjectId,
     s: Seconds,
     store: &[u8],
+    start: usize,
+    end: usize,
     names: &mut [u8],
     marks: &mut [u8],
     times: &mut [i64],
@@ -189,28 +200,23 @@ fn take_body(
     excluded: &[u8],
     settings: Settings,
 ) -> Taken
-    ensures { λ a. ⌜ TakesBody (now (excluded .entry)) settings (now (store .entry)) r (idIn idBytes (id .bytes)) (s .0) (mem (now (names .entry)) (now (marks .entry)) (now (times .entry)) (now (line .entry))) (mem (now (names .exit)) (now (marks .exit)) (now (times .exit)) (now (line .exit))) (now (parents .entry)) (now (parents .exit)) a ⌝ }
+    ensures { λ a. ⌜ TakesBody (now (excluded .entry)) settings (now (store .entry)) (header idBytes (partOf (now (store .entry)) (Body start end))) r (idIn idBytes (id .bytes)) (s .0) (mem (now (names .entry)) (now (marks .entry)) (now (times .entry)) (now (line .entry))) (mem (now (names .exit)) (now (marks .exit)) (now (times .exit)) (now (line .exit))) (now (parents .entry)) (now (parents .exit)) a ⌝ }
 {
     let q = r.queue;
-    match odb::locate(Kind::Sha1, store, object::id_slice(Kind::Sha1, &id.bytes)) {
-        Located::Body { start, end } => {
-            let seen = visit_body(
-                r,
-                store,
-                start,
-                end,
-                names,
-                marks,
-                times,
-                line,
-                parents,
-                excluded,
-                settings,
-            );
-            end_body(seen, id, time_given(q.timed, s))
-        }
-        Located::Absent => refuse(Refusal::CommitNotFound, 0, r),
-    }
+    let seen = visit_body(
+        r,
+        store,
+        start,
+        end,
+        names,
+        marks,
+        times,
+        line,
+        parents,
+        excluded,
+        settings,
+    );
+    end_body(seen, id, time_given(q.timed, s))
 }
 
 // The end of the walk.
@@ -242,12 +248,18 @@ fn take_stored(
     ensures { λ a. ⌜ TakesStored (now (excluded .entry)) settings (now (store .entry)) r (mem (now (names .entry)) (now (marks .entry)) (now (times .entry)) (now (line .entry))) (mem (now (names .exit)) (now (marks .exit)) (now (times .exit)) (now (line .exit))) (now (parents .entry)) (now (parents .exit)) a ⌝ }
 {
     let first = state::pop(r, names, times, line);
-    if first.found {
-        return take_body(
+    if !first.found {
+        return end_walk(r);
+    }
+    let id = first.id;
+    match odb::locate(Kind::Sha1, store, object::id_slice(Kind::Sha1, &id.bytes)) {
+        Located::Body { start, end } => take_body(
             first.rest,
-            first.id,
+            id,
             first.seconds,
             store,
+            start,
+            end,
             names,
             marks,
             times,
@@ -255,30 +267,18 @@ fn take_stored(
             parents,
             excluded,
             settings,
-        );
+        ),
+        Located::Absent => refuse(Refusal::CommitNotFound, 0, first.rest),
     }
-    end_walk(r)
 }
 
-fn wide(x: u32) -> usize
-    ensures { λ r. ⌜ r ≡ x ⌝ }
-{
-    x as usize
-}
-
-// The position that is noted beside a slot, 0 past the end.
-fn noted(levels: &[u32], slot: u32) -> usize
-    ensures { λ r. ⌜ r ≡ getD (now (levels .entry)) slot 0 ⌝ }
-{
-    let i = wide(slot);
-    if i < levels.len() { wide(levels[i]) } else { 0 }
-}
-
-// The next commit of the queue: it is looked up, and its parents are visited. A corrupt parent list drops the commit-graph file for good, and
-// the call goes on from the store.
-pub fn take_next(
-    r: Record,
+// The first commit, which has left the queue, from its row at a position. A corrupt parent list drops the commit-graph file for good, and the
+// call goes on from the store.
+fn take_cached(
+    first: Next,
     graph: &[u8],
+    l: Layout,
+    position: usize,
     store: &[u8],
     names: &mut [u8],
     marks: &mut [u8],
@@ -289,24 +289,15 @@ pub fn take_next(
     excluded: &[u8],
     settings: Settings,
 ) -> Taken
-    ensures { λ a. ⌜ TakesNext (now (excluded .entry)) settings (now (graph .entry)) (now (store .entry)) r (mem (now (names .entry)) (now (marks .entry)) (now (times .entry)) (now (line .entry))) (mem (now (names .exit)) (now (marks .exit)) (now (times .exit)) (now (line .exit))) (now (parents .entry)) (now (parents .exit)) a × Plain (now (parents .entry)) (now (parents .exit)) (a .answer) ⌝ }
+    ensures { λ a. ⌜ TakesCached (now (excluded .entry)) settings (now (graph .entry)) l position (now (store .entry)) first (mem (now (names .entry)) (now (marks .entry)) (now (times .entry)) (now (line .entry))) (mem (now (names .exit)) (now (marks .exit)) (now (times .exit)) (now (line .exit))) (now (parents .entry)) (now (parents .exit)) a ⌝ }
 {
-    let first = state::pop(r, names, times, line);
-    if !first.found {
-        return end_walk(r);
-    }
-    let cache = reading::cache_of(graph, r.kept);
-    let l = reading::layout_of(cache);
-    let id = first.id;
-    let near = noted(levels, first.slot);
-    match reading::row_of(cache, graph, object::id_slice(Kind::Sha1, &id.bytes), near) {
+    match reading::collect_parents(graph, l, position) {
         RowRead::Row {
-            position,
             parents: count,
             level,
         } => take_row(
             first.rest,
-            id,
+            first.id,
             first.seconds,
             graph,
             l,
@@ -336,11 +327,79 @@ pub fn take_next(
                 settings,
             )
         }
-        RowRead::NoRow => take_body(
+    }
+}
+
+fn wide(x: u32) -> usize
+    ensures { λ r. ⌜ r ≡ x ⌝ }
+{
+    x as usize
+}
+
+// The position that is noted beside a slot, 0 past the end.
+fn noted(levels: &[u32], slot: u32) -> usize
+    ensures { λ r. ⌜ r ≡ getD (now (levels .entry)) slot 0 ⌝ }
+{
+    let i = wide(slot);
+    if i < levels.len() { wide(levels[i]) } else { 0 }
+}
+
+// The next commit of the queue, looked up by `find`: its parents are visited, and it is handed out. (One queue serves both orders, so this is the
+// Rust's `next_by_topology` and its `next_by_commit_date`.)
+pub fn next_by_topology_or_commit_date(
+    r: Record,
+    graph: &[u8],
+    store: &[u8],
+    names: &mut [u8],
+    marks: &mut [u8],
+    levels: &mut [u32],
+    times: &mut [i64],
+    line: &mut [u32],
+    parents: &mut [u8],
+    excluded: &[u8],
+    settings: Settings,
+) -> Taken
+    ensures { λ a. ⌜ TakesNext (now (excluded .entry)) settings (now (graph .entry)) (now (store .entry)) r (mem (now (names .entry)) (now (marks .entry)) (now (times .entry)) (now (line .entry))) (mem (now (names .exit)) (now (marks .exit)) (now (times .exit)) (now (line .exit))) (now (parents .entry)) (now (parents .exit)) a × Plain (now (parents .entry)) (now (parents .exit)) (a .answer) ⌝ }
+{
+    let first = state::pop(r, names, times, line);
+    if !first.found {
+        return end_walk(r);
+    }
+    let fixed = r.fixed;
+    let l = fixed.layout;
+    let cache = reading::cache_of(graph, l, r.kept);
+    let id = first.id;
+    let near = noted(levels, first.slot);
+    match commit::find(
+        Kind::Sha1,
+        cache,
+        graph,
+        store,
+        object::id_slice(Kind::Sha1, &id.bytes),
+        near,
+    ) {
+        Either::CachedCommit { position, .. } => take_cached(
+            first,
+            graph,
+            l,
+            position,
+            store,
+            names,
+            marks,
+            levels,
+            times,
+            line,
+            parents,
+            excluded,
+            settings,
+        ),
+        Either::CommitRefIter { start, end } => take_body(
             first.rest,
             id,
             first.seconds,
             store,
+            start,
+            end,
             names,
             marks,
             times,
@@ -349,5 +408,6 @@ pub fn take_next(
             excluded,
             settings,
         ),
+        Either::Absent => refuse(Refusal::CommitNotFound, 0, first.rest),
     }
 }

@@ -1,5 +1,5 @@
 // The parents of a commit from the commit-graph file.
-use crate::link::visit_cached;
+use crate::link::insert_into_seen_and_queue_cached;
 use commitgraph::Layout;
 use commitgraph::parents;
 use commitgraph::rows;
@@ -42,7 +42,7 @@ fn visit_row_parent(
     let parent = parents::parent(Kind::Sha1, graph, l, position, k);
     let id = rows::id_at(Kind::Sha1, graph, l, parent);
     set_parent(parents, k, id);
-    visit_cached(
+    insert_into_seen_and_queue_cached(
         r,
         names,
         marks,

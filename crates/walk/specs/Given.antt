@@ -14,6 +14,7 @@ use Rattle.walk.specs.declared.MaybeSeconds.{MaybeSeconds}
 use Rattle.walk.specs.declared.MaybeSeconds.the-variants.{Time, NoTime}
 use Rattle.walk.specs.declared.OpenOutcome.{OpenOutcome}
 use Rattle.walk.specs.declared.OpenOutcome.the-variants.{Accepted, NotOpened}
+use Rattle.walk.specs.declared.Info.{Info}
 use Rattle.walk.specs.declared.Answer as declaredAnswer
 use Rattle.walk.specs.declared.OpenAnswer.{OpenAnswer}
 use Rattle.walk.specs.Refusals.{numberOf}
@@ -57,14 +58,15 @@ secondsOfKind end = NoTime
 secondsOfKind (refused r) = NoTime
 secondsOfKind (handed x g t) = secondsGiven t
 
+-- what an answer says of a commit; n parents' ids stand in the buffer
+abbrev pub infoOf : Kind → ℕ → Info
+infoOf k n = record { id = idOfKind k; parents = n; generation = levelOfKind k; time = secondsOfKind k }
+
 -- an answer of the walk, field by field as a call gives it; the parents' ids stand in the buffer, here is their number
 unfoldable pub given : Answer → Given
 given a = record {
   outcome = outcomeOf (a .kind);
-  id = idOfKind (a .kind);
-  parents = length (a .parents);
-  generation = levelOfKind (a .kind);
-  time = secondsOfKind (a .kind);
+  info = infoOf (a .kind) (length (a .parents));
   admitted = a .admitted;
   struck = a .struck;
   waiting = a .waiting;

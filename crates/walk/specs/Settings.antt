@@ -37,6 +37,16 @@ onlyFirst s = elim (s .parents) [ All ↦ false | First ↦ true ]
 unfoldable pub byTime : Settings → Bool
 byTime s = timed (s .sorting) && not (onlyFirst s)
 
+-- whether an order takes the newest first
+unfoldable pub isNewest : CommitTimeOrder → Bool
+isNewest NewestFirst = true
+isNewest OldestFirst = false
+
+unfoldable pub newestFirst : Sorting → Bool
+newestFirst BreadthFirst = false
+newestFirst (ByCommitTime o) = isNewest o
+newestFirst (ByCommitTimeCutoff o c) = isNewest o
+
 -- "time order [takes] the newest or oldest": which of two numbers of seconds is taken first
 unfoldable pub takenBefore : CommitTimeOrder → ℤ → ℤ → Bool
 takenBefore NewestFirst a b = ltZ b a

@@ -3,6 +3,7 @@ ghost use mathlib.Core.Path.{_≡_};
 ghost use lib.Dec.{ltb};
 ghost use Rattle.walk.specs.Refusals.{numberOf};
 ghost use Rattle.walk.specs.Lookup.{pairOf, ltPair};
+ghost use Rattle.walk.specs.Settings.{timed, cutoffOf, notBefore};
 use commitgraph::Level;
 use date::Seconds;
 
@@ -75,14 +76,19 @@ pub enum MaybeSeconds {
     NoTime,
 }
 
-// The answer of a call (gix_traverse::commit::Info, and the walk's running numbers). The parents' ids stand at the start of the lent
-// buffer `parents`; here is their number.
-pub struct Answer {
-    pub outcome: Outcome,
+// What an answer says of a commit (gix_traverse::commit::Info). The parents' ids stand at the start of the lent buffer `parents`; here is
+// their number. In a refusal and at the end all else is zeros and none.
+pub struct Info {
     pub id: [u8; 20],
     pub parents: usize,
     pub generation: MaybeLevel,
     pub time: MaybeSeconds,
+}
+
+// The answer of a call: its outcome, what it says of a commit, and the walk's running numbers.
+pub struct Answer {
+    pub outcome: Outcome,
+    pub info: Info,
     pub admitted: usize,
     pub struck: usize,
     pub waiting: usize,
@@ -119,6 +125,28 @@ pub fn number(r: Refusal) -> u8
         Refusal::CommitUnreadable => 10,
         Refusal::TooManyParents => 11,
         Refusal::Closed => 12,
+    }
+}
+
+// Whether an order is a time order.
+pub fn is_timed(sorting: Sorting) -> bool
+    ensures { λ r. ⌜ r ≡ timed sorting ⌝ }
+{
+    match sorting {
+        Sorting::BreadthFirst => false,
+        Sorting::ByCommitTime(_) => true,
+        Sorting::ByCommitTimeCutoff { .. } => true,
+    }
+}
+
+// Whether these seconds are not before the order's cutoff (`Sorting::cutoff_time`), where it has one.
+pub fn within_cutoff_time(sorting: Sorting, s: Seconds) -> bool
+    ensures { λ r. ⌜ r ≡ notBefore (cutoffOf sorting) (s .0) ⌝ }
+{
+    match sorting {
+        Sorting::BreadthFirst => true,
+        Sorting::ByCommitTime(_) => true,
+        Sorting::ByCommitTimeCutoff { seconds, .. } => !date::before(s, seconds),
     }
 }
 

@@ -10,7 +10,7 @@ use lib.Dec.{eqb}
 use Rattle.hash.specs.Bytes.{setDown}
 use Rattle.hash.proofs.Bytes.{setDown-fits}
 use Rattle.state.specs.declared.Record.{Record}
-use Rattle.wire.specs.Words.{bitOf, wordsOf, queueOf, recordOf}
+use Rattle.wire.specs.Words.{bitOf, recordWords, wordsOf, queueOf, fixedIn, recordOf}
 
 bit-back : (b : Bool) → eqb (bitOf b) 1 ≡ b
 bit-back true = refl
@@ -18,7 +18,7 @@ bit-back false = refl
 
 -- whatever words stand after them
 pub words-back : (r : Record) (rest : List ℕ) → r .queue .next < 4294967296 → recordOf (wordsOf r ++ rest) ≡ r
-unfolding wordsOf queueOf recordOf
+unfolding wordsOf queueOf fixedIn recordOf
 words-back r rest h =
     let low : r .queue .next % 4294967296 ≡ r .queue .next = omega arith in
     λ k. record {
@@ -26,6 +26,7 @@ words-back r rest h =
       painted = bit-back (r .painted) k;
       failed = bit-back (r .failed) k;
       kept = bit-back (r .kept) k;
+      fixed = r .fixed;
       queue = record {
         timed = bit-back (r .queue .timed) k;
         newest = bit-back (r .queue .newest) k;
@@ -43,7 +44,7 @@ pub round-trip : (r : Record) → r .queue .next < 4294967296 → recordOf (word
 unfolding wordsOf
 round-trip r h = words-back r [] h
 
--- a record set down in lent words, with room for all twelve, is read back from them
-pub set-down-back : (w : List ℕ) (r : Record) → r .queue .next < 4294967296 → 12 ≤ length w → recordOf (setDown w 0 (wordsOf r)) ≡ r
+-- a record set down in lent words, with room for all of them, is read back from them
+pub set-down-back : (w : List ℕ) (r : Record) → r .queue .next < 4294967296 → recordWords ≤ length w → recordOf (setDown w 0 (wordsOf r)) ≡ r
 unfolding wordsOf
-set-down-back w r h n = ap recordOf (setDown-fits w 0 (wordsOf r) (omega arith)) ∙ words-back r (drop (0 + 12) w) h
+set-down-back w r h n = ap recordOf (setDown-fits w 0 (wordsOf r) (omega arith)) ∙ words-back r (drop (0 + recordWords) w) h

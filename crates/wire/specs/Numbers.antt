@@ -44,6 +44,6 @@ pub record PutsOpenAnswer (a : OpenAnswer) (numbers numbers′ : List ℕ) (n : 
 
 pub record PutsAnswer (a : Given) (id id′ numbers numbers′ : List ℕ) (seconds seconds′ : List ℤ) (n : ℕ) : Type 0 where
   pub result : n ≡ outcomeNumber (a .outcome)
-  pub id-is : id′ ≡ setDown id 0 (a .id)
+  pub id-is : id′ ≡ setDown id 0 (a .info .id)
   pub numbers-are : numbers′ ≡ setDown numbers 0 (answerWords a)
-  pub seconds-are : seconds′ ≡ set seconds 0 (secondsValue (a .time))
+  pub seconds-are : seconds′ ≡ set seconds 0 (secondsValue (a .info .time))

@@ -16,6 +16,7 @@ use Rattle.walk.specs.declared.MaybeSeconds.the-variants.{Time, NoTime}
 use Rattle.walk.specs.declared.Refusal.the-variants.{Closed}
 use Rattle.walk.specs.Refusals.{numberOf}
 use Rattle.walk.specs.Given.{Given, levelValue}
+use Rattle.state.specs.declared.Fixed.{Fixed}
 use Rattle.state.specs.declared.Record.{Record}
 
 abbrev pub bitOf : Bool → ℕ
@@ -24,12 +25,16 @@ bitOf false = 0
 
 -- ---- a record (document 01: one small record of counters)
 
--- its twelve words
+abbrev pub recordWords : ℕ
+recordWords = 18
+
+-- its words: whether it is open and what has happened, the queue, the two counts, and where the graph file's chunks stand
 unfoldable pub wordsOf : Record → List ℕ
 wordsOf r =
     bitOf (r .live) ∷ bitOf (r .painted) ∷ bitOf (r .failed) ∷ bitOf (r .kept)
     ∷ bitOf (r .queue .timed) ∷ bitOf (r .queue .newest) ∷ r .queue .cap ∷ r .queue .head ∷ r .queue .count ∷ r .queue .next
-    ∷ r .admitted ∷ r .struck ∷ []
+    ∷ r .admitted ∷ r .struck
+    ∷ r .fixed .layout .fan ∷ r .fixed .layout .ids ∷ r .fixed .layout .rows ∷ r .fixed .layout .edge ∷ r .fixed .layout .edges ∷ r .fixed .layout .count ∷ []
 
 -- a word past the end is 0, a yes or no is yes where its word is 1, and of the number that the next commit is queued under the low 32
 -- bits count
@@ -43,6 +48,11 @@ queueOf w = record {
   next = getD w 9 0 % 4294967296;
 }
 
+unfoldable pub fixedIn : List ℕ → Fixed
+fixedIn w = record {
+  layout = record { fan = getD w 12 0; ids = getD w 13 0; rows = getD w 14 0; edge = getD w 15 0; edges = getD w 16 0; count = getD w 17 0 };
+}
+
 -- the record that words stand for
 unfoldable pub recordOf : List ℕ → Record
 recordOf w = record {
@@ -50,6 +60,7 @@ recordOf w = record {
   painted = eqb (getD w 1 0) 1;
   failed = eqb (getD w 2 0) 1;
   kept = eqb (getD w 3 0) 1;
+  fixed = fixedIn w;
   queue = queueOf w;
   admitted = getD w 10 0;
   struck = getD w 11 0;
@@ -58,7 +69,7 @@ recordOf w = record {
 -- encode: the record's words set down, where there is room for them they read as that record again
 pub record Encodes (r : Record) (words words′ : List ℕ) : Type 0 where
   pub is : words′ ≡ setDown words 0 (wordsOf r)
-  pub back : 12 ≤ length words → recordOf words′ ≡ r
+  pub back : recordWords ≤ length words → recordOf words′ ≡ r
 
 -- the words after a call whose outcome has the number n, and which gives the record r back: "12 alters nothing"
 abbrev pub wordsAfter : ℕ → Record → List ℕ → List ℕ
@@ -66,7 +77,7 @@ wordsAfter n r words = cond (eqb n (numberOf Closed)) words (setDown words 0 (wo
 
 pub record PutsRecord (n : ℕ) (r : Record) (words words′ : List ℕ) : Type 0 where
   pub is : words′ ≡ wordsAfter n r words
-  pub back : eqb n (numberOf Closed) ≡ false → 12 ≤ length words → recordOf words′ ≡ r
+  pub back : eqb n (numberOf Closed) ≡ false → recordWords ≤ length words → recordOf words′ ≡ r
 
 -- ---- answers
 
@@ -85,14 +96,14 @@ hasSeconds NoTime = 0
 -- the same numbers, how many ids stand in parents, whether the answer has a level, the level, and whether it has seconds
 unfoldable pub answerWords : Given → List ℕ
 answerWords a =
-    a .admitted ∷ a .struck ∷ a .waiting ∷ a .parents ∷ hasLevel (a .generation) ∷ levelValue (a .generation) ∷ hasSeconds (a .time) ∷ []
+    a .admitted ∷ a .struck ∷ a .waiting ∷ a .info .parents ∷ hasLevel (a .info .generation) ∷ levelValue (a .info .generation) ∷ hasSeconds (a .info .time) ∷ []
 
 -- ---- room
 
--- for the record's twelve words and an opening's three numbers
+-- for the record's words and an opening's three numbers
 unfoldable pub roomToOpen : List ℕ → List ℕ → Bool
-roomToOpen words numbers = leb 12 (length words) && leb 3 (length numbers)
+roomToOpen words numbers = leb recordWords (length words) && leb 3 (length numbers)
 
--- for the record's twelve words, and a call's id, seven numbers and seconds
+-- for the record's words, and a call's id, seven numbers and seconds
 unfoldable pub roomToCall : List ℕ → List ℕ → List ℕ → List ℤ → Bool
-roomToCall words id numbers seconds = leb 12 (length words) && leb idBytes (length id) && leb 7 (length numbers) && leb 1 (length seconds)
+roomToCall words id numbers seconds = leb recordWords (length words) && leb idBytes (length id) && leb 7 (length numbers) && leb 1 (length seconds)

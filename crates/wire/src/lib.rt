@@ -1,7 +1,10 @@
 // A walk's record, settings and answers as plain numbers in lent slices, for callers in other languages. Every function is total on any
 // numbers and lengths.
+use commitgraph::Layout;
 use date::Seconds;
+use hash::Kind;
 use revwalk::queue::Queue;
+use state::Fixed;
 use state::Record;
 use walk::Answer;
 use walk::CommitTimeOrder;
@@ -19,14 +22,11 @@ ghost use lib.ListN.{getD, set};
 ghost use lib.Dec.{eqb};
 ghost use Rattle.hash.specs.Bytes.{setDown};
 ghost use Rattle.walk.specs.Given.{outcomeNumber, openNumber, levelValue, secondsValue};
-ghost use Rattle.wire.specs.Words.{bitOf, wordsOf, recordOf, queueOf, Encodes, PutsRecord, answerWords, hasLevel, hasSeconds, roomToOpen, roomToCall};
+ghost use Rattle.wire.specs.Words.{bitOf, wordsOf, recordOf, queueOf, fixedIn, Encodes, PutsRecord, answerWords, hasLevel, hasSeconds, roomToOpen, roomToCall};
 ghost use Rattle.wire.specs.Numbers.{timeOrder, sortingOf, parentsOf, settingsOf, PutsOpenAnswer, PutsAnswer};
 
 // How many words a record has.
-const RECORD_WORDS: usize = 12;
-
-// The bytes of an answer's id.
-const ID_BYTES: usize = 20;
+const RECORD_WORDS: usize = 18;
 
 // How many numbers an opening's answer has, and a call's.
 const OPEN_NUMBERS: usize = 3;
@@ -56,7 +56,7 @@ pub fn can_call(words: &[u64], id: &[u8], numbers: &[u64], seconds: &[i64]) -> b
     if words.len() < RECORD_WORDS {
         return false;
     }
-    if id.len() < ID_BYTES {
+    if id.len() < hash::width(Kind::Sha1) {
         return false;
     }
     if numbers.len() < CALL_NUMBERS {
@@ -131,10 +131,12 @@ pub fn put(out: &mut [u64], x: &[u64])
 }
 
 // The words of a record.
-pub fn words_of(r: Record) -> [u64; 12]
+pub fn words_of(r: Record) -> [u64; 18]
     ensures { λ w. ⌜ w ≡ wordsOf r ⌝ }
 {
     let q = r.queue;
+    let fixed = r.fixed;
+    let l = fixed.layout;
     [
         bit(r.live),
         bit(r.painted),
@@ -148,6 +150,12 @@ pub fn words_of(r: Record) -> [u64; 12]
         long32(q.next),
         long(r.admitted),
         long(r.struck),
+        long(l.fan),
+        long(l.ids),
+        long(l.rows),
+        long(l.edge),
+        long(l.edges),
+        long(l.count),
     ]
 }
 
@@ -181,6 +189,21 @@ fn queue_of(words: &[u64]) -> Queue
     }
 }
 
+fn fixed_in(words: &[u64]) -> Fixed
+    ensures { λ f. ⌜ f ≡ fixedIn (now (words .entry)) ⌝ }
+{
+    Fixed {
+        layout: Layout {
+            fan: count(words, 12),
+            ids: count(words, 13),
+            rows: count(words, 14),
+            edge: count(words, 15),
+            edges: count(words, 16),
+            count: count(words, 17),
+        },
+    }
+}
+
 // The record that words stand for.
 pub fn decode(words: &[u64]) -> Record
     ensures { λ r. ⌜ r ≡ recordOf (now (words .entry)) ⌝ }
@@ -190,6 +213,7 @@ pub fn decode(words: &[u64]) -> Record
         painted: flag(words, 1),
         failed: flag(words, 2),
         kept: flag(words, 3),
+        fixed: fixed_in(words),
         queue: queue_of(words),
         admitted: count(words, 10),
         struck: count(words, 11),
@@ -329,13 +353,14 @@ fn put_seconds(s: i64, out: &mut [i64])
 fn answer_words(a: Answer) -> [u64; 7]
     ensures { λ w. ⌜ w ≡ answerWords a ⌝ }
 {
-    let g = a.generation;
-    let t = a.time;
+    let info = a.info;
+    let g = info.generation;
+    let t = info.time;
     [
         long(a.admitted),
         long(a.struck),
         long(a.waiting),
-        long(a.parents),
+        long(info.parents),
         has_level(g),
         level_value(g),
         has_seconds(t),
@@ -348,9 +373,10 @@ pub fn put_answer(a: Answer, id: &mut [u8], numbers: &mut [u64], seconds: &mut [
 {
     let w = answer_words(a);
     put(numbers, &w);
-    let x = a.id;
+    let info = a.info;
+    let x = info.id;
     hash::set_down(id, 0, &x);
-    let t = a.time;
+    let t = info.time;
     let s = seconds_value(t);
     put_seconds(s.0, seconds);
     let o = a.outcome;

@@ -16,6 +16,9 @@ flag-requires-3 c κs = search needs
 flag-requires-4 : tie.Need-flag-requires-4
 flag-requires-4 c κs = search needs
 
+fixed-in-requires : tie.Need-fixed-in-requires
+fixed-in-requires c κs = search needs
+
 queue-of-requires : tie.Need-queue-of-requires
 queue-of-requires c κs = search needs
 
@@ -27,7 +30,7 @@ count-requires-2 c κs = search needs
 
 returns : tie.Need-returns
 unfolding recordOf
-returns c = λ k. record { live = c .before .before .before .before .before .before .flag .ensures k; painted = c .before .before .before .before .before .flag2 .ensures k; failed = c .before .before .before .before .flag3 .ensures k; kept = c .before .before .before .flag4 .ensures k; queue = c .before .before .queue-of .ensures k; admitted = c .before .count .ensures k; struck = c .count2 .ensures k }
+returns c = λ k. record { live = c .before .before .before .before .before .before .before .flag .ensures k; painted = c .before .before .before .before .before .before .flag2 .ensures k; failed = c .before .before .before .before .before .flag3 .ensures k; kept = c .before .before .before .before .flag4 .ensures k; fixed = c .before .before .before .fixed-in .ensures k; queue = c .before .before .queue-of .ensures k; admitted = c .before .count .ensures k; struck = c .count2 .ensures k }
 
 pub decode-spec : {M : Type 1} → statement M
 decode-spec =
@@ -37,6 +40,7 @@ decode-spec =
     flag-requires-2
     flag-requires-3
     flag-requires-4
+    fixed-in-requires
     queue-of-requires
     count-requires
     count-requires-2

@@ -43,16 +43,14 @@ same-length-3 : tie.Need-same-length-3
 same-length-3 c = search needs
 
 returns : tie.Need-returns
-returns c =
-    let v = c .before .before .before .before .before in
-    let x = c .before .before .before .before .before .before .before .before .before .before .before .before .before .before .before .before .before .before .before .before .args in
-    let z = v .seconds-value .result .0 in
+returns c = let x = c .before .before .before .before .before .before .before .before .before .before .before .before .before .before .before .before .before .before .before .before .before .args in
+    let z = c .before .before .before .before .before .seconds-value .result .0 in
     let told : toZ w64 (ofZ w64 z) ≡ z = toZ-ofZ {w = w64} {z = z} (record { sfits = c .before .before .before .struct-told .given .0 .1 }) in
     record {
       result = c .call-number .ensures;
       id-is = c .before .before .before .before .before .before .before .before .set-down .ensures;
-      numbers-are = c .before .before .before .before .before .before .before .before .before .before .before .before .before .before .put .ensures ∙ ap (setDown (x .numbers .now) 0) (c .before .before .before .before .before .before .before .before .before .before .before .before .before .before .before .before .before .answer-words .ensures);
-      seconds-are = c .before .before .put-seconds .ensures ∙ ap (set (x .seconds .now) 0) (told ∙ v .seconds-value .ensures);
+      numbers-are = c .before .before .before .before .before .before .before .before .before .before .before .before .before .before .before .put .ensures ∙ ap (setDown (x .numbers .now) 0) (c .before .before .before .before .before .before .before .before .before .before .before .before .before .before .before .before .before .before .answer-words .ensures);
+      seconds-are = c .before .before .put-seconds .ensures ∙ ap (set (x .seconds .now) 0) (told ∙ c .before .before .before .before .before .seconds-value .ensures);
     }
 
 pub put-answer-spec : {M : Type 1} → statement M

@@ -41,21 +41,45 @@ long-requires-4 c κs = search needs
 long-requires-5 : tie.Need-long-requires-5
 long-requires-5 c κs = search needs
 
+long-requires-6 : tie.Need-long-requires-6
+long-requires-6 c κs = search needs
+
+long-requires-7 : tie.Need-long-requires-7
+long-requires-7 c κs = search needs
+
+long-requires-8 : tie.Need-long-requires-8
+long-requires-8 c κs = search needs
+
+long-requires-9 : tie.Need-long-requires-9
+long-requires-9 c κs = search needs
+
+long-requires-10 : tie.Need-long-requires-10
+long-requires-10 c κs = search needs
+
+long-requires-11 : tie.Need-long-requires-11
+long-requires-11 c κs = search needs
+
 returns : tie.Need-returns
 unfolding wordsOf
 returns c = λ k.
-    c .before .before .before .before .before .before .before .before .before .before .before .bit .ensures k
-    ∷ c .before .before .before .before .before .before .before .before .before .before .bit2 .ensures k
-    ∷ c .before .before .before .before .before .before .before .before .before .bit3 .ensures k
-    ∷ c .before .before .before .before .before .before .before .before .bit4 .ensures k
-    ∷ c .before .before .before .before .before .before .before .bit5 .ensures k
-    ∷ c .before .before .before .before .before .before .bit6 .ensures k
-    ∷ c .before .before .before .before .before .long .ensures k
-    ∷ c .before .before .before .before .long2 .ensures k
-    ∷ c .before .before .before .long3 .ensures k
-    ∷ c .before .before .long32 .ensures k
-    ∷ c .before .long4 .ensures k
-    ∷ c .long5 .ensures k
+    c .before .before .before .before .before .before .before .before .before .before .before .before .before .before .before .before .before .bit .ensures k
+    ∷ c .before .before .before .before .before .before .before .before .before .before .before .before .before .before .before .before .bit2 .ensures k
+    ∷ c .before .before .before .before .before .before .before .before .before .before .before .before .before .before .before .bit3 .ensures k
+    ∷ c .before .before .before .before .before .before .before .before .before .before .before .before .before .before .bit4 .ensures k
+    ∷ c .before .before .before .before .before .before .before .before .before .before .before .before .before .bit5 .ensures k
+    ∷ c .before .before .before .before .before .before .before .before .before .before .before .before .bit6 .ensures k
+    ∷ c .before .before .before .before .before .before .before .before .before .before .before .long .ensures k
+    ∷ c .before .before .before .before .before .before .before .before .before .before .long2 .ensures k
+    ∷ c .before .before .before .before .before .before .before .before .before .long3 .ensures k
+    ∷ c .before .before .before .before .before .before .before .before .long32 .ensures k
+    ∷ c .before .before .before .before .before .before .before .long4 .ensures k
+    ∷ c .before .before .before .before .before .before .long5 .ensures k
+    ∷ c .before .before .before .before .before .long6 .ensures k
+    ∷ c .before .before .before .before .long7 .ensures k
+    ∷ c .before .before .before .long8 .ensures k
+    ∷ c .before .before .long9 .ensures k
+    ∷ c .before .long10 .ensures k
+    ∷ c .long11 .ensures k
     ∷ []
 
 pub words-of-spec : {M : Type 1} → statement M
@@ -74,4 +98,10 @@ words-of-spec =
     long32-requires
     long-requires-4
     long-requires-5
+    long-requires-6
+    long-requires-7
+    long-requires-8
+    long-requires-9
+    long-requires-10
+    long-requires-11
     returns)

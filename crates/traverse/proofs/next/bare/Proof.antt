@@ -1,10 +1,14 @@
 -- `next::bare` meets its contract: zeros, and the running numbers of the record. Assumes nothing.
 use mathlib.Core.Path.{refl}
+use borrow.Author.Needs.{needs}
 use Rattle.traverse.proofs.next.bare.Statement.{statement}
 use Rattle.traverse.proofs.next.bare.Tie as tie
 
+no-commit-requires : tie.Need-no-commit-requires
+no-commit-requires c κs = search needs
+
 returns : tie.Need-returns
-returns c = record { answer = refl; after = refl }
+returns c = rw (c .no-commit .ensures) (record { answer = refl; after = refl })
 
 pub bare-spec : {M : Type 1} → statement M
-bare-spec = tie.close (tie.spec returns)
+bare-spec = tie.close (tie.spec no-commit-requires returns)

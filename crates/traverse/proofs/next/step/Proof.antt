@@ -37,8 +37,8 @@ returns c =
     let w = c .before .before .is-whole in
     closed-says (w .ensures) (not-true (w .result) (c .before .if1 .taken)) (c .closed .ensures)
 
-take-next-requires : tie.Need-take-next-requires
-take-next-requires c κs = search needs
+next-by-topology-or-commit-date-requires : tie.Need-next-by-topology-or-commit-date-requires
+next-by-topology-or-commit-date-requires c κs = search needs
 
 after-requires : tie.Need-after-requires
 after-requires c κs = search needs
@@ -67,8 +67,8 @@ returns-2 c =
     let t = c .before .before .before .before .before .before .before .before .before .before .before .before in
     let p = t .before .before .before .before .before .before .before in
     let w = p .before .before .is-whole in
-    let k = t .take-next .kept .1 .1 .1 in
-    goes-says (w .ensures) (not-false (w .result) (p .before .if1 .left)) (p .if2 .taken) (taken-goes _ (t .take-next .ensures .0) (t .take-next .ensures .1) (k .1 .1 .1 .1 .1 .0) (c .after .ensures))
+    let k = t .next-by-topology-or-commit-date .kept .1 .1 .1 in
+    goes-says (w .ensures) (not-false (w .result) (p .before .if1 .left)) (p .if2 .taken) (taken-goes _ (t .next-by-topology-or-commit-date .ensures .0) (t .next-by-topology-or-commit-date .ensures .1) (k .1 .1 .1 .1 .1 .0) (c .after .ensures))
     (λ i. record { names = k .0 i; marks = k .1 .0 i; levels = k .1 .1 .0 i; times = k .1 .1 .1 .0 i; line = k .1 .1 .1 .1 .0 i; parents = k .1 .1 .1 .1 .1 .0 i })
 
 first-call-requires : tie.Need-first-call-requires
@@ -115,7 +115,7 @@ step-spec =
     same-length-5
     same-length-6
     returns
-    take-next-requires
+    next-by-topology-or-commit-date-requires
     after-requires
     same-length-7
     same-length-8

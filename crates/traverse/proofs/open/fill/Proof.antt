@@ -1,5 +1,10 @@
 -- `open::fill` meets its contract: emptied memory reads as the state before any tip, and then the tips come in. Assumes nothing.
+use mathlib.Core.Path.{ap, _∙_}
+use Rattle.walk.specs.Settings.{byTime, newestFirst}
+use mathlib.Core.Bool.{_&&_}
 use Rattle.opening.specs.Checks.{inputOf}
+use Rattle.state.specs.declared.Fixed.{Fixed}
+use Rattle.state.specs.Shapes.{freshRecord}
 use Rattle.traverse.proofs.OpenSaid.{fills}
 use borrow.Author.Needs.{needs}
 use Rattle.traverse.proofs.open.fill.Statement.{statement}
@@ -11,11 +16,14 @@ capacity-requires c κs = search needs
 start-requires : tie.Need-start-requires
 start-requires c κs = search needs
 
+fixed-for-requires : tie.Need-fixed-for-requires
+fixed-for-requires c κs = search needs
+
 first-record-requires : tie.Need-first-record-requires
 first-record-requires c κs = search needs
 
-take-tips-requires : tie.Need-take-tips-requires
-take-tips-requires c κs = search needs
+filtered-requires : tie.Need-filtered-requires
+filtered-requires c κs = search needs
 
 same-length : tie.Need-same-length
 same-length c = search needs
@@ -30,12 +38,9 @@ same-length-4 : tie.Need-same-length-4
 same-length-4 c = search needs
 
 returns : tie.Need-returns
-returns c =
-    let t = c .before .before .before .before .before .before .before in
-    let f = t .before .before .before .before .before in
-    let s = f .before .before .before in
-    let x = c .before .before .before .before .before .before .before .before .before .before .before .before .before .before .before .before .before .before .before .before .before .before .before .before .before .before .args in
-    fills (inputOf (x .store .now) (x .graph .now) (x .tips .now) (x .hidden .now) (x .excluded .now) (x .settings)) (s .before .before .capacity .ensures (x .excluded .now) (x .settings)) (s .start .ensures) (s .start .kept .0) (f .first-record .ensures) (t .take-tips .ensures)
+returns c = let x = c .before .before .before .before .before .before .before .before .before .before .before .before .before .before .before .before .before .before .before .before .before .before .before .before .before .before .before .args in
+    fills (inputOf (x .store .now) (x .graph .now) (x .tips .now) (x .hidden .now) (x .excluded .now) (x .settings)) (c .before .before .before .before .before .before .before .before .before .before .before .before .before .before .before .before .before .before .capacity .ensures (x .excluded .now) (x .settings)) (c .before .before .before .before .before .before .before .before .before .before .before .before .before .before .before .before .start .ensures) (c .before .before .before .before .before .before .before .before .before .before .before .before .before .before .before .before .start .kept .0)
+    (c .before .before .before .before .before .before .before .before .before .before .before .before .first-record .ensures ∙ ap (λ (f : Fixed). freshRecord (byTime (x .settings)) (byTime (x .settings) && newestFirst (x .settings .sorting)) (c .before .before .before .before .before .before .before .before .before .before .before .before .before .before .before .before .before .before .capacity .result) f) (c .before .before .before .before .before .before .before .before .before .before .before .before .before .fixed-for .ensures)) (c .before .before .before .before .before .before .before .filtered .ensures)
 
 pub fill-spec : {M : Type 1} → statement M
 fill-spec =
@@ -43,8 +48,9 @@ fill-spec =
     (tie.spec
     capacity-requires
     start-requires
+    fixed-for-requires
     first-record-requires
-    take-tips-requires
+    filtered-requires
     same-length
     same-length-2
     same-length-3

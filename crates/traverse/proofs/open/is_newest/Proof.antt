@@ -1,5 +1,5 @@
 -- `open::is_newest` meets its contract: it goes by the same cases. Assumes nothing.
-use Rattle.state.specs.Shapes.{isNewest}
+use Rattle.walk.specs.Settings.{isNewest}
 use borrow.Author.Needs.{needs}
 use Rattle.traverse.proofs.open.is_newest.Statement.{statement}
 use Rattle.traverse.proofs.open.is_newest.Tie as tie

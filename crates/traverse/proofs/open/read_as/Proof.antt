@@ -7,8 +7,8 @@ use Rattle.traverse.proofs.open.read_as.Tie as tie
 enum-known-read : tie.Need-enum-known-read
 enum-known-read c = search needs
 
-in-time-requires : tie.Need-in-time-requires
-in-time-requires c κs = search needs
+within-cutoff-time-requires : tie.Need-within-cutoff-time-requires
+within-cutoff-time-requires c κs = search needs
 
 enum-told : tie.Need-enum-told
 enum-told c = search needs
@@ -17,10 +17,10 @@ enum-told-2 : tie.Need-enum-told-2
 enum-told-2 c = search needs
 
 returns : tie.Need-returns
-returns c = rw (c .before .before .before .read .given .1, sym (c .before .in-time .ensures) ∙ c .if1 .taken)
+returns c = rw (c .before .before .before .read .given .1, sym (c .before .within-cutoff-time .ensures) ∙ c .if1 .taken)
 
 returns-2 : tie.Need-returns-2
-returns-2 c = rw (c .before .before .before .read .given .1, sym (c .before .in-time .ensures) ∙ c .if1 .left)
+returns-2 c = rw (c .before .before .before .read .given .1, sym (c .before .within-cutoff-time .ensures) ∙ c .if1 .left)
 
 returns-3 : tie.Need-returns-3
 returns-3 c = search needs
@@ -33,7 +33,7 @@ read-as-spec =
     tie.close
     (tie.spec
     enum-known-read
-    in-time-requires
+    within-cutoff-time-requires
     enum-told
     enum-told-2
     returns

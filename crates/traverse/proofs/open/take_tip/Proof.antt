@@ -18,8 +18,8 @@ see-requires c κs = search needs
 tip-admission-requires : tie.Need-tip-admission-requires
 tip-admission-requires c κs = search needs
 
-admit-requires : tie.Need-admit-requires
-admit-requires c κs = search needs
+add-to-queue-requires : tie.Need-add-to-queue-requires
+add-to-queue-requires c κs = search needs
 
 same-length : tie.Need-same-length
 same-length c = search needs
@@ -39,7 +39,7 @@ returns-2 c =
     let s = a .before .before .before .before .before .before .before .before in
     let i = s .before .before .before in
     let x = c .before .before .before .before .before .before .before .before .before .before .before .before .before .before .before .before .before .before .before .before .before .before .args in
-    tip-taken (x .store .now) (x .excluded .now) (x .sorting) (sym (i .before .is-among .ensures) ∙ i .if1 .left) (s .see .ensures) (a .before .tip-admission .ensures) (a .admit .ensures)
+    tip-taken (x .store .now) (x .excluded .now) (x .sorting) (sym (i .before .is-among .ensures) ∙ i .if1 .left) (s .see .ensures) (a .before .tip-admission .ensures) (a .add-to-queue .ensures)
 
 pub take-tip-spec : {M : Type 1} → statement M
 take-tip-spec =
@@ -49,7 +49,7 @@ take-tip-spec =
     returns
     see-requires
     tip-admission-requires
-    admit-requires
+    add-to-queue-requires
     same-length
     same-length-2
     same-length-3

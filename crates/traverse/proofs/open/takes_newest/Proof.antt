@@ -1,5 +1,5 @@
 -- `open::takes_newest` meets its contract: it goes by the same cases. Assumes nothing.
-use Rattle.state.specs.Shapes.{newestOf}
+use Rattle.walk.specs.Settings.{newestFirst}
 use borrow.Author.Needs.{needs}
 use Rattle.traverse.proofs.open.takes_newest.Statement.{statement}
 use Rattle.traverse.proofs.open.takes_newest.Tie as tie
@@ -20,15 +20,15 @@ is-newest-requires-2 : tie.Need-is-newest-requires-2
 is-newest-requires-2 c κs = search needs
 
 returns : tie.Need-returns
-unfolding newestOf
+unfolding newestFirst
 returns c = rw (c .enum-told .given .1)
 
 returns-2 : tie.Need-returns-2
-unfolding newestOf
+unfolding newestFirst
 returns-2 c = rw (c .before .before .sorting .given .1) (c .is-newest .ensures)
 
 returns-3 : tie.Need-returns-3
-unfolding newestOf
+unfolding newestFirst
 returns-3 c = rw (c .before .before .sorting2 .given .1) (c .is-newest2 .ensures)
 
 pub takes-newest-spec : {M : Type 1} → statement M

@@ -16,8 +16,8 @@ id-slice-requires c κs = search needs
 set-parent-requires : tie.Need-set-parent-requires
 set-parent-requires c κs = search needs
 
-visit-stored-requires : tie.Need-visit-stored-requires
-visit-stored-requires c κs = search needs
+insert-into-seen-and-queue-stored-requires : tie.Need-insert-into-seen-and-queue-stored-requires
+insert-into-seen-and-queue-stored-requires c κs = search needs
 
 same-length : tie.Need-same-length
 same-length c = search needs
@@ -35,7 +35,7 @@ same-length-5 : tie.Need-same-length-5
 same-length-5 c = search needs
 
 returns : tie.Need-returns
-returns c = body-parent (c .before .before .before .before .before .before .before .before .before .before .before .before .before .before .before .before .id-slice .ensures ∙ ap (idIn idBytes) (c .before .before .before .before .before .before .before .before .before .before .before .before .before .before .before .before .before .before .before .body-parent .ensures)) (c .before .before .before .before .before .before .before .before .before .before .before .before .before .before .set-parent .ensures) (c .before .before .before .before .before .before .before .visit-stored .ensures)
+returns c = body-parent (c .before .before .before .before .before .before .before .before .before .before .before .before .before .before .before .before .id-slice .ensures ∙ ap (idIn idBytes) (c .before .before .before .before .before .before .before .before .before .before .before .before .before .before .before .before .before .before .before .body-parent .ensures)) (c .before .before .before .before .before .before .before .before .before .before .before .before .before .before .set-parent .ensures) (c .before .before .before .before .before .before .before .insert-into-seen-and-queue-stored .ensures)
 
 pub visit-body-parent-spec : {M : Type 1} → statement M
 visit-body-parent-spec =
@@ -44,7 +44,7 @@ visit-body-parent-spec =
     body-parent-requires
     id-slice-requires
     set-parent-requires
-    visit-stored-requires
+    insert-into-seen-and-queue-stored-requires
     same-length
     same-length-2
     same-length-3

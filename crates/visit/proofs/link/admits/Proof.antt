@@ -16,11 +16,11 @@ only-first-requires c κs = search needs
 returns-2 : tie.Need-returns-2
 returns-2 c = first-admitted (c .before .before .before .is-among .ensures) (c .before .before .if1 .left) (c .before .only-first .ensures) (c .if2 .taken)
 
-not-before-requires : tie.Need-not-before-requires
-not-before-requires c κs = search needs
+within-cutoff-time-requires : tie.Need-within-cutoff-time-requires
+within-cutoff-time-requires c κs = search needs
 
 returns-3 : tie.Need-returns-3
-returns-3 c = timed-admitted (c .before .before .before .before .is-among .ensures) (c .before .before .before .if1 .left) (c .before .before .only-first .ensures) (c .before .if2 .left) (c .not-before .ensures)
+returns-3 c = timed-admitted (c .before .before .before .before .is-among .ensures) (c .before .before .before .if1 .left) (c .before .before .only-first .ensures) (c .before .if2 .left) (c .within-cutoff-time .ensures)
 
 pub admits-spec : {M : Type 1} → statement M
 admits-spec =
@@ -30,5 +30,5 @@ admits-spec =
     returns
     only-first-requires
     returns-2
-    not-before-requires
+    within-cutoff-time-requires
     returns-3)

@@ -1,5 +1,7 @@
--- `visit::next::take_stored` meets its contract: the front of the queue is looked up in the store; or nothing waits. Assumes nothing.
-use Rattle.visit.proofs.Takings.{stored-some, stored-none}
+-- `visit::next::take_stored` meets its contract: the first of the queue is popped, and what the store has of it decides. Assumes nothing.
+use mathlib.Core.Path.{_∙_}
+use Rattle.visit.proofs.Bodies.{not-true, not-false}
+use Rattle.visit.proofs.Takings.{stored-none, stored-body, stored-absent}
 use borrow.Author.Needs.{needs}
 use Rattle.visit.proofs.next.take_stored.Statement.{statement}
 use Rattle.visit.proofs.next.take_stored.Tie as tie
@@ -7,8 +9,8 @@ use Rattle.visit.proofs.next.take_stored.Tie as tie
 pop-requires : tie.Need-pop-requires
 pop-requires c κs = search needs
 
-take-body-requires : tie.Need-take-body-requires
-take-body-requires c κs = search needs
+end-walk-requires : tie.Need-end-walk-requires
+end-walk-requires c κs = search needs
 
 same-length : tie.Need-same-length
 same-length c = search needs
@@ -19,44 +21,80 @@ same-length-2 c = search needs
 same-length-3 : tie.Need-same-length-3
 same-length-3 c = search needs
 
+returns : tie.Need-returns
+returns c = rw (c .end-walk .ensures) (stored-none (c .before .before .before .before .before .pop .ensures) (not-true (c .before .before .before .before .before .pop .result .found) (c .before .if1 .taken)))
+
+id-slice-requires : tie.Need-id-slice-requires
+id-slice-requires c κs = search needs
+
+locate-requires : tie.Need-locate-requires
+locate-requires c κs = search needs
+
+enum-known-start : tie.Need-enum-known-start
+enum-known-start c = search needs
+
+take-body-requires : tie.Need-take-body-requires
+take-body-requires c κs = search needs
+
+enum-told : tie.Need-enum-told
+enum-told c = search needs
+
+refuse-requires : tie.Need-refuse-requires
+refuse-requires c κs = search needs
+
 same-length-4 : tie.Need-same-length-4
 same-length-4 c = search needs
 
 same-length-5 : tie.Need-same-length-5
 same-length-5 c = search needs
 
-returns : tie.Need-returns
-returns c = stored-some (c .before .before .before .before .before .before .before .before .before .before .before .before .before .before .before .before .before .before .pop .ensures) (c .before .before .before .before .before .before .before .before .before .before .before .before .before .before .before .if1 .taken) (c .before .before .before .before .before .before .before .before .before .take-body .ensures)
-
-end-walk-requires : tie.Need-end-walk-requires
-end-walk-requires c κs = search needs
-
 same-length-6 : tie.Need-same-length-6
 same-length-6 c = search needs
 
 same-length-7 : tie.Need-same-length-7
-same-length-7 c = search needs
+same-length-7 c = c .before .before .before .before .before .before .before .before .before .take-body .kept .1 .1 .1 .1 .1 .1 .1 .1 .1 .0 ∙ c .before .before .before .before .before .before .before .before .before .before .before .before .before .before .before .before .before .before .before .before .before .before .before .before .before .before .before .pop .kept .1 .1 .1 .0
 
 same-length-8 : tie.Need-same-length-8
 same-length-8 c = search needs
 
 returns-2 : tie.Need-returns-2
-returns-2 c = rw (c .end-walk .ensures) (stored-none (c .before .before .before .before .pop .ensures) (c .before .if1 .left))
+returns-2 c = let k = c .before .before .before .before .before .before .before .before .before .before .before .before .before .before .before .before .start .given in stored-body (c .before .before .before .before .before .before .before .before .before .before .before .before .before .before .before .before .before .before .before .before .before .before .before .before .before .before .before .pop .ensures) (not-false (c .before .before .before .before .before .before .before .before .before .before .before .before .before .before .before .before .before .before .before .before .before .before .before .before .before .before .before .pop .result .found) (c .before .before .before .before .before .before .before .before .before .before .before .before .before .before .before .before .before .before .before .before .before .before .before .if1 .left)) (rw (c .before .before .before .before .before .before .before .before .before .before .before .before .before .before .before .before .before .before .before .id-slice .ensures) at (c .before .before .before .before .before .before .before .before .before .before .before .before .before .before .before .before .before .before .locate .ensures)) (k .0 .0) (k .0 .1 .0) (k .1) (c .before .before .before .before .before .before .before .before .before .take-body .ensures)
+
+same-length-9 : tie.Need-same-length-9
+same-length-9 c = search needs
+
+same-length-10 : tie.Need-same-length-10
+same-length-10 c = search needs
+
+same-length-11 : tie.Need-same-length-11
+same-length-11 c = search needs
+
+returns-3 : tie.Need-returns-3
+returns-3 c = rw (c .refuse .ensures) (stored-absent (c .before .before .before .before .before .before .before .before .before .before .before .before .pop .ensures) (not-false (c .before .before .before .before .before .before .before .before .before .before .before .before .pop .result .found) (c .before .before .before .before .before .before .before .before .if1 .left)) (rw (c .before .before .before .before .id-slice .ensures) at (c .before .before .before .locate .ensures)) (c .before .enum-told .given .1))
 
 pub take-stored-spec : {M : Type 1} → statement M
 take-stored-spec =
     tie.close
     (tie.spec
     pop-requires
-    take-body-requires
+    end-walk-requires
     same-length
     same-length-2
     same-length-3
+    returns
+    id-slice-requires
+    locate-requires
+    enum-known-start
+    take-body-requires
+    enum-told
+    refuse-requires
     same-length-4
     same-length-5
-    returns
-    end-walk-requires
     same-length-6
     same-length-7
     same-length-8
-    returns-2)
+    returns-2
+    same-length-9
+    same-length-10
+    same-length-11
+    returns-3)

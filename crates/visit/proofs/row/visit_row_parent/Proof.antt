@@ -13,8 +13,8 @@ id-at-requires c κs = search needs
 set-parent-requires : tie.Need-set-parent-requires
 set-parent-requires c κs = search needs
 
-visit-cached-requires : tie.Need-visit-cached-requires
-visit-cached-requires c κs = search needs
+insert-into-seen-and-queue-cached-requires : tie.Need-insert-into-seen-and-queue-cached-requires
+insert-into-seen-and-queue-cached-requires c κs = search needs
 
 same-length : tie.Need-same-length
 same-length c = search needs
@@ -35,7 +35,7 @@ same-length-6 : tie.Need-same-length-6
 same-length-6 c = search needs
 
 returns : tie.Need-returns
-returns c = row-parent (c .before .before .before .before .before .before .before .before .before .before .before .before .before .before .before .before .before .before .before .before .parent .ensures) (c .before .before .before .before .before .before .before .before .before .before .before .before .before .before .before .before .before .before .before .id-at .ensures) (c .before .before .before .before .before .before .before .before .before .before .before .before .before .before .before .before .before .set-parent .ensures) (c .before .before .before .before .before .before .before .before .before .visit-cached .ensures)
+returns c = row-parent (c .before .before .before .before .before .before .before .before .before .before .before .before .before .before .before .before .before .before .before .before .parent .ensures) (c .before .before .before .before .before .before .before .before .before .before .before .before .before .before .before .before .before .before .before .id-at .ensures) (c .before .before .before .before .before .before .before .before .before .before .before .before .before .before .before .before .before .set-parent .ensures) (c .before .before .before .before .before .before .before .before .before .insert-into-seen-and-queue-cached .ensures)
 
 pub visit-row-parent-spec : {M : Type 1} → statement M
 visit-row-parent-spec =
@@ -44,7 +44,7 @@ visit-row-parent-spec =
     parent-requires
     id-at-requires
     set-parent-requires
-    visit-cached-requires
+    insert-into-seen-and-queue-cached-requires
     same-length
     same-length-2
     same-length-3

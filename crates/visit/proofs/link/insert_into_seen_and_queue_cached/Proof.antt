@@ -1,10 +1,10 @@
--- `visit::link::visit_cached` meets its contract: the parent is seen, and enters where it is new; its seconds are read there, and do not count elsewhere.
+-- `visit::link::insert_into_seen_and_queue_cached` meets its contract: the parent is seen, and enters where it is new; its seconds are read there, and do not count elsewhere.
 -- Assumes nothing.
 use Rattle.commitgraph.specs.Graph.{secondsIn}
 use Rattle.visit.proofs.Links.{visits}
 use borrow.Author.Needs.{needs}
-use Rattle.visit.proofs.link.visit_cached.Statement.{statement}
-use Rattle.visit.proofs.link.visit_cached.Tie as tie
+use Rattle.visit.proofs.link.insert_into_seen_and_queue_cached.Statement.{statement}
+use Rattle.visit.proofs.link.insert_into_seen_and_queue_cached.Tie as tie
 use Rattle.hash.specs.Bytes.{idBytes}
 
 see-requires : tie.Need-see-requires
@@ -16,8 +16,8 @@ new-row-seconds-requires c κs = search needs
 note-requires : tie.Need-note-requires
 note-requires c κs = search needs
 
-enter-requires : tie.Need-enter-requires
-enter-requires c κs = search needs
+insert-into-queue-requires : tie.Need-insert-into-queue-requires
+insert-into-queue-requires c κs = search needs
 
 same-length : tie.Need-same-length
 same-length c = search needs
@@ -38,16 +38,16 @@ returns : tie.Need-returns
 returns c =
     let x = c .before .before .before .before .before .before .before .before .before .before .before .before .before .before .before .before .before .before .before .before .before .before .before .before .before .before .args in
     let s = c .before .before .before .before .before .before .before .before .before .before .new-row-seconds in
-    visits (c .before .before .before .before .before .before .before .before .before .before .before .before .before .before .before .before .see .ensures) (s .result .0) (secondsIn idBytes (x .graph .now) (x .l) (x .parent)) (s .ensures) (c .before .before .before .enter .ensures)
+    visits (c .before .before .before .before .before .before .before .before .before .before .before .before .before .before .before .before .see .ensures) (s .result .0) (secondsIn idBytes (x .graph .now) (x .l) (x .parent)) (s .ensures) (c .before .before .before .insert-into-queue .ensures)
 
-pub visit-cached-spec : {M : Type 1} → statement M
-visit-cached-spec =
+pub insert-into-seen-and-queue-cached-spec : {M : Type 1} → statement M
+insert-into-seen-and-queue-cached-spec =
     tie.close
     (tie.spec
     see-requires
     new-row-seconds-requires
     note-requires
-    enter-requires
+    insert-into-queue-requires
     same-length
     same-length-2
     same-length-3

@@ -2,12 +2,12 @@
 use Rattle.frontier.proofs.PaintAll.{paints, too-many}
 -- HEAD-END
 use borrow.Author.Needs.{needs}
-use Rattle.frontier.proofs.paint.Statement.{statement}
-use Rattle.frontier.proofs.paint.Tie as tie
-use Rattle.frontier.proofs.paint.Reads as reads
-use Rattle.frontier.proofs.paint.Lts as lts
+use Rattle.frontier.proofs.compute_hidden_frontier.Statement.{statement}
+use Rattle.frontier.proofs.compute_hidden_frontier.Tie as tie
+use Rattle.frontier.proofs.compute_hidden_frontier.Reads as reads
+use Rattle.frontier.proofs.compute_hidden_frontier.Lts as lts
 use Rattle.frontier.proofs.paint_from.Reads as paint-from-reads
-use Rattle.frontier.proofs.prepare.collect.Reads as collect-reads
+use Rattle.frontier.proofs.prepare.visible_inputs_sorted.Reads as collect-reads
 use Rattle.frontier.proofs.prepare.wash.Reads as wash-reads
 
 -- src/lib.rt:90:9
@@ -23,12 +23,12 @@ wash-requires : tie.Need-wash-requires
 wash-requires c κs = search needs
 
 -- src/lib.rt:96:44
-mul-collect : tie.Need-mul-collect
-mul-collect c = search needs
+mul-visible-inputs-sorted : tie.Need-mul-visible-inputs-sorted
+mul-visible-inputs-sorted c = search needs
 
 -- src/lib.rt:96:5
-collect-requires : tie.Need-collect-requires
-collect-requires c κs = search needs
+visible-inputs-sorted-requires : tie.Need-visible-inputs-sorted-requires
+visible-inputs-sorted-requires c κs = search needs
 
 -- src/lib.rt:97:5
 paint-from-requires : tie.Need-paint-from-requires
@@ -56,17 +56,17 @@ same-length-5 c = search needs
 
 -- src/lib.rt:73:1
 returns-3 : tie.Need-returns-3
-returns-3 c = paints (c .before .before .before .before .before .before .before .before .before .before .before .before .before .before .before .before .before .before .before .before .before .before .wash .ensures) (c .before .before .before .before .before .before .before .before .before .before .before .before .before .before .before .before .before .collect .ensures) (c .before .before .before .before .before .before .before .before .before .paint-from .ensures)
+returns-3 c = paints (c .before .before .before .before .before .before .before .before .before .before .before .before .before .before .before .before .before .before .before .before .before .before .wash .ensures) (c .before .before .before .before .before .before .before .before .before .before .before .before .before .before .before .before .before .visible-inputs-sorted .ensures) (c .before .before .before .before .before .before .before .before .before .paint-from .ensures)
 
-pub paint-spec : {M : Type 1} → statement M
-paint-spec =
+pub compute-hidden-frontier-spec : {M : Type 1} → statement M
+compute-hidden-frontier-spec =
     tie.close
     (tie.spec
     returns
     returns-2
     wash-requires
-    mul-collect
-    collect-requires
+    mul-visible-inputs-sorted
+    visible-inputs-sorted-requires
     paint-from-requires
     same-length
     same-length-2

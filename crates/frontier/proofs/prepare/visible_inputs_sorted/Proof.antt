@@ -1,14 +1,14 @@
--- `prepare::collect` meets its contract: after i turns the first i slots of the queue's places stand by rising id. What is left of them grows fewer. Assumes nothing.
+-- `prepare::visible_inputs_sorted` meets its contract: after i turns the first i slots of the queue's places stand by rising id. What is left of them grows fewer. Assumes nothing.
 use mathlib.Core.Path.{_≡_, refl}
 use Prim.Native.Nat.{_-_}
 use native.Mathlib.Omega.{arith}
 use Rattle.frontier.proofs.Collect.{Collecting, collect-first, collect-next, collect-last}
 use borrow.Author.Needs.{needs}
 -- HEAD-END
-use Rattle.frontier.proofs.prepare.collect.Statement.{statement}
-use Rattle.frontier.proofs.prepare.collect.Tie as tie
-use Rattle.frontier.proofs.prepare.collect.Reads as reads
-use Rattle.frontier.proofs.prepare.collect.Lts as lts
+use Rattle.frontier.proofs.prepare.visible_inputs_sorted.Statement.{statement}
+use Rattle.frontier.proofs.prepare.visible_inputs_sorted.Tie as tie
+use Rattle.frontier.proofs.prepare.visible_inputs_sorted.Reads as reads
+use Rattle.frontier.proofs.prepare.visible_inputs_sorted.Lts as lts
 use Rattle.pending.proofs.insert_by_id.Reads as insert-by-id-reads
 use Rattle.revwalk.proofs.queue.slot_at.Reads as slot-at-reads
 
@@ -50,8 +50,8 @@ same-length c = c .before .loop .inv .1 .long
 returns : tie.Need-returns Inv-loop μ-loop
 returns c = collect-last (c .before .loop .inv .1) (c .loop-test .left) (c .before .loop .inv .0)
 
-pub collect-spec : {M : Type 1} → statement M
-collect-spec =
+pub visible-inputs-sorted-spec : {M : Type 1} → statement M
+visible-inputs-sorted-spec =
     tie.close
     (tie.spec
     Inv-loop

@@ -1,8 +1,8 @@
--- `visit::link::enter` meets its contract: a known parent and a link that is not admitted change nothing, and another waits. Assumes nothing.
+-- `visit::link::insert_into_queue` meets its contract: a known parent and a link that is not admitted change nothing, and another waits. Assumes nothing.
 use Rattle.visit.proofs.Links.{enters-admitted, enters-turned, enters-known}
 use borrow.Author.Needs.{needs}
-use Rattle.visit.proofs.link.enter.Statement.{statement}
-use Rattle.visit.proofs.link.enter.Tie as tie
+use Rattle.visit.proofs.link.insert_into_queue.Statement.{statement}
+use Rattle.visit.proofs.link.insert_into_queue.Tie as tie
 
 admits-requires : tie.Need-admits-requires
 admits-requires c κs = search needs
@@ -25,7 +25,7 @@ returns-2 c = enters-turned (c .before .admits .ensures) (c .if2 .left)
 returns-3 : tie.Need-returns-3
 returns-3 c = enters-known (c .if1 .left)
 
-pub enter-spec : {M : Type 1} → statement M
-enter-spec =
+pub insert-into-queue-spec : {M : Type 1} → statement M
+insert-into-queue-spec =
     tie.close
     (tie.spec admits-requires wait-requires same-length same-length-2 returns returns-2 returns-3)

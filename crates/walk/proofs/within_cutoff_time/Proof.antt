@@ -1,10 +1,10 @@
--- `visit::link::not_before` meets its contract: it goes by the same cases, and the seconds are set against the cutoff. Assumes nothing.
+-- `walk::within_cutoff_time` meets its contract: only a cutoff turns seconds away, those before it. Assumes nothing.
 use mathlib.Core.Path.{ap}
 use mathlib.Core.Bool.{not}
-use Rattle.walk.specs.Settings.{notBefore, cutoffOf}
+use Rattle.walk.specs.Settings.{cutoffOf, notBefore}
 use borrow.Author.Needs.{needs}
-use Rattle.visit.proofs.link.not_before.Statement.{statement}
-use Rattle.visit.proofs.link.not_before.Tie as tie
+use Rattle.walk.proofs.within_cutoff_time.Statement.{statement}
+use Rattle.walk.proofs.within_cutoff_time.Tie as tie
 
 enum-told : tie.Need-enum-told
 enum-told c = search needs
@@ -19,18 +19,18 @@ before-requires : tie.Need-before-requires
 before-requires c κs = search needs
 
 returns : tie.Need-returns
-unfolding notBefore cutoffOf
+unfolding cutoffOf notBefore
 returns c = rw (c .enum-told .given .1)
 
 returns-2 : tie.Need-returns-2
-unfolding notBefore cutoffOf
+unfolding cutoffOf notBefore
 returns-2 c = rw (c .enum-told2 .given .1)
 
 returns-3 : tie.Need-returns-3
-unfolding notBefore cutoffOf
+unfolding cutoffOf notBefore
 returns-3 c = rw (c .before .before .sorting .given .1) (ap not (c .before2 .ensures))
 
-pub not-before-spec : {M : Type 1} → statement M
-not-before-spec =
+pub within-cutoff-time-spec : {M : Type 1} → statement M
+within-cutoff-time-spec =
     tie.close
     (tie.spec enum-told enum-told-2 enum-known-sorting before-requires returns returns-2 returns-3)

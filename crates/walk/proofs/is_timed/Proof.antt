@@ -1,8 +1,8 @@
--- `opening::is_timed` meets its contract: it goes by the same cases. Assumes nothing.
+-- `walk::is_timed` meets its contract: it goes by the same cases. Assumes nothing.
 use Rattle.walk.specs.Settings.{timed}
 use borrow.Author.Needs.{needs}
-use Rattle.opening.proofs.is_timed.Statement.{statement}
-use Rattle.opening.proofs.is_timed.Tie as tie
+use Rattle.walk.proofs.is_timed.Statement.{statement}
+use Rattle.walk.proofs.is_timed.Tie as tie
 
 enum-told : tie.Need-enum-told
 enum-told c = search needs

@@ -1,9 +1,9 @@
--- `open::admit` meets its contract: only a new tip that no cutoff turns away waits. Assumes nothing.
+-- `open::add_to_queue` meets its contract: only a new tip that no cutoff turns away waits. Assumes nothing.
 use borrow.Author.Tests.{not-true, not-false}
 use Rattle.traverse.proofs.OpenTips.{admit-again, admit-turned, admit-waits}
 use borrow.Author.Needs.{needs}
-use Rattle.traverse.proofs.open.admit.Statement.{statement}
-use Rattle.traverse.proofs.open.admit.Tie as tie
+use Rattle.traverse.proofs.open.add_to_queue.Statement.{statement}
+use Rattle.traverse.proofs.open.add_to_queue.Tie as tie
 
 returns : tie.Need-returns
 returns c = let x = c .before .before .before .args in admit-again (x .r) (x .times .now) (x .line .now) (x .seen) (x .how) (not-true (x .seen .fresh) (c .if1 .taken))
@@ -33,8 +33,8 @@ returns-2 c =
 returns-3 : tie.Need-returns-3
 returns-3 c = let x = c .before .before .before .before .before .args in admit-turned (x .r) (x .times .now) (x .line .now) (x .seen) (x .how) (c .enum-told .given .1)
 
-pub admit-spec : {M : Type 1} → statement M
-admit-spec =
+pub add-to-queue-spec : {M : Type 1} → statement M
+add-to-queue-spec =
     tie.close
     (tie.spec
     returns

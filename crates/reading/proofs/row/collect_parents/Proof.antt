@@ -1,11 +1,11 @@
--- `reading::row_at` meets its contract: the parent list decides, and the level is the row's. Assumes nothing.
+-- `reading::collect_parents` meets its contract: the parent list decides, and the level is the row's. Assumes nothing.
 use mathlib.Core.Path.{sym, _∙_}
 use Rattle.commitgraph.specs.Graph.{parentsIn}
 use Rattle.reading.specs.Row.{levelOf}
 use Rattle.reading.proofs.Rows.{row-read, row-corrupt}
 use borrow.Author.Needs.{needs}
-use Rattle.reading.proofs.row.row_at.Statement.{statement}
-use Rattle.reading.proofs.row.row_at.Tie as tie
+use Rattle.reading.proofs.row.collect_parents.Statement.{statement}
+use Rattle.reading.proofs.row.collect_parents.Tie as tie
 use Rattle.hash.specs.Bytes.{idBytes}
 
 parents-requires : tie.Need-parents-requires
@@ -23,13 +23,13 @@ enum-told c = search needs
 returns : tie.Need-returns
 returns c =
     let x = c .before .before .before .before .before .before .args in
-    row-read (x .position) (levelOf (x .graph .now) (x .l) (x .position)) (parentsIn idBytes (x .graph .now) (x .l) (x .position)) (sym (c .before .before .n .given .1) ∙ c .before .before .before .before .parents .ensures) (c .level .ensures)
+    row-read (levelOf (x .graph .now) (x .l) (x .position)) (parentsIn idBytes (x .graph .now) (x .l) (x .position)) (sym (c .before .before .n .given .1) ∙ c .before .before .before .before .parents .ensures) (c .level .ensures)
 
 returns-2 : tie.Need-returns-2
 returns-2 c =
     let x = c .before .before .before .before .args in
-    row-corrupt (x .position) (levelOf (x .graph .now) (x .l) (x .position)) (parentsIn idBytes (x .graph .now) (x .l) (x .position)) (sym (c .enum-told .given .1) ∙ c .before .before .parents .ensures)
+    row-corrupt (levelOf (x .graph .now) (x .l) (x .position)) (parentsIn idBytes (x .graph .now) (x .l) (x .position)) (sym (c .enum-told .given .1) ∙ c .before .before .parents .ensures)
 
-pub row-at-spec : {M : Type 1} → statement M
-row-at-spec =
+pub collect-parents-spec : {M : Type 1} → statement M
+collect-parents-spec =
     tie.close (tie.spec parents-requires enum-known-n level-requires enum-told returns returns-2)

@@ -1,11 +1,11 @@
--- `open::take_tips` meets its contract: after k turns the memory reads as the state with the first k tips let in. Assumes nothing.
+-- `open::filtered` meets its contract: after k turns the memory reads as the state with the first k tips let in. Assumes nothing.
 use Prim.Native.Nat.{_+_, _-_, _<_}
 use native.Mathlib.Omega.{arith}
 use Rattle.state.specs.Steps.{mem}
 use Rattle.traverse.proofs.OpenLoop.{Turns, turns-start, turns-next, turns-end}
 use borrow.Author.Needs.{needs}
-use Rattle.traverse.proofs.open.take_tips.Statement.{statement}
-use Rattle.traverse.proofs.open.take_tips.Tie as tie
+use Rattle.traverse.proofs.open.filtered.Statement.{statement}
+use Rattle.traverse.proofs.open.filtered.Tie as tie
 
 abbrev Inv-loop : tie.InvT-loop
 Inv-loop names₀ marks₀ times₀ line₀ store tips excluded sorting n r₀ k₀ names marks times line r k =
@@ -57,8 +57,8 @@ same-length-4 c = c .before .loop .inv .long .line
 returns : tie.Need-returns Inv-loop μ-loop
 returns c = turns-end (c .before .loop .inv) (search needs)
 
-pub take-tips-spec : {M : Type 1} → statement M
-take-tips-spec =
+pub filtered-spec : {M : Type 1} → statement M
+filtered-spec =
     tie.close
     (tie.spec
     Inv-loop
