@@ -15,7 +15,7 @@ use Rattle.walk.specs.Opening.{Input, P, roomFor, opened, openWalk}
 use Rattle.walk.specs.Next.{Kind, end, refused, handed, Answer}
 use Rattle.walk.specs.Calls.{stateAfter, answerAt, answers}
 use Rattle.walk.specs.AnyInput.{handedBy, handedIds}
-use Rattle.walk.specs.Given.{Given, given, outcomeOf, idOfKind, parentsGiven}
+use Rattle.walk.specs.Given.{Given, given, outcomeOf, idOfKind, parentsGiven, callsAfter}
 use Rattle.opening.specs.Checks.{checkedBy}
 use Rattle.opening.proofs.Opened.{opens}
 use Rattle.state.specs.Reads.{Reads}
@@ -23,7 +23,7 @@ use Rattle.state.specs.Shapes.{shapeOf}
 use Rattle.traverse.specs.declared.Out.{Out}
 use Rattle.traverse.specs.Contract.{Files, Lent, inputWith, lengthsOf, NextSays}
 use Rattle.lister.specs.declared.Listing.{Listing}
-use Rattle.lister.specs.Walked.{refusals, firstRefusal, parentsLeft, putDown, commitsAfter, refusedAfter, reasonAfter, idsAfter, callsAfter}
+use Rattle.lister.specs.Walked.{refusals, firstRefusal, parentsLeft, putDown, commitsAfter, refusedAfter, reasonAfter, idsAfter}
 use Rattle.lister.specs.Says.{counted, Made, CallsAll}
 use Rattle.lister.proofs.OneMore.{answers-more, handed-more, refusals-more, first-more, parents-more, commits-on, refused-on, ids-on}
 use Rattle.lister.proofs.Ended.{made-all}

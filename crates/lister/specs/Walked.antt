@@ -87,12 +87,6 @@ idsAfter b n Commit x = setDown b (idBytes * n) x
 idsAfter b n End x = b
 idsAfter b n (Refused r) x = b
 
--- how many calls may follow: none after the end
-abbrev pub callsAfter : ℕ → Outcome → ℕ
-callsAfter n Commit = n - 1
-callsAfter n End = 0
-callsAfter n (Refused r) = n - 1
-
 -- how many calls may follow an opening with P slots
 abbrev pub mostCalls : OpenOutcome → ℕ → ℕ
 mostCalls Accepted p = p + 2

@@ -13,7 +13,7 @@ ghost use Prim.Native.Nat.{_+_, _≤_, _<_};
 ghost use Rattle.opening.specs.Checks.{inputOf};
 ghost use Rattle.traverse.specs.Open.{lentOf};
 ghost use Rattle.traverse.specs.Next.{filesLent};
-ghost use Rattle.lister.specs.Walked.{commitsAfter, refusedAfter, reasonOr, reasonAfter, idsAfter, callsAfter, mostCalls};
+ghost use Rattle.lister.specs.Walked.{commitsAfter, refusedAfter, reasonOr, reasonAfter, idsAfter, mostCalls};
 ghost use Rattle.lister.specs.Says.{ListSays, beforeCalls, counted, CallsAll};
 
 // What a whole walk came to. The list is whole if the outcome is Accepted, no call was refused, and the buffer has room for all commits.
@@ -58,18 +58,6 @@ fn most_calls(o: Opened) -> usize
     match outcome {
         OpenOutcome::Accepted => queue.cap + 2,
         OpenOutcome::NotOpened(_) => 0,
-    }
-}
-
-// How many calls may follow a call: none after the end.
-fn calls_after(left: usize, outcome: Outcome) -> usize
-    requires { ⌜ 0 < left ⌝ }
-    ensures { λ n. ⌜ n ≡ callsAfter left outcome ⌝ }
-{
-    match outcome {
-        Outcome::Commit => left - 1,
-        Outcome::End => 0,
-        Outcome::Refused(_) => left - 1,
     }
 }
 
@@ -194,7 +182,7 @@ fn call_all(
         let outcome = answer.outcome;
         set_down_commit(ids, l.commits, answer);
         l = count(l, o);
-        left = calls_after(left, outcome);
+        left = walk::calls_after(left, outcome);
     }
     l
 }

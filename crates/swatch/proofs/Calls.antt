@@ -5,16 +5,15 @@ use Prim.Native.Nat.{ℕ, _<_}
 use native.Mathlib.Omega.{arith}
 use Rattle.walk.specs.declared.Outcome.{Outcome}
 use Rattle.walk.specs.declared.Outcome.the-variants.{Commit, End, Refused}
-use Rattle.walk.specs.Given.{Given, given}
+use Rattle.walk.specs.Given.{Given, given, callsAfter}
 use Rattle.traverse.specs.Contract.{OfPaper}
-use Rattle.swatch.specs.Contract.{leftAfter}
 
 pub few-parents : {a : Given} {b b′ : List ℕ} → OfPaper a b b′ → a .info .parents < 1000
 unfolding given
 few-parents p = omega (arith, p .few, ap (λ (q : Given). q .info .parents) (p .is))
 
 -- and calls are fewer after one
-pub left-less : (o : Outcome) (n : ℕ) → 0 < n → leftAfter o n < n
+pub left-less : (o : Outcome) (n : ℕ) → 0 < n → callsAfter n o < n
 left-less Commit n h = omega arith
 left-less End n h = h
 left-less (Refused r) n h = omega arith

@@ -10,7 +10,7 @@ use Rattle.walk.specs.State.{Walk, State}
 use Rattle.walk.specs.Opening.{Input, walkOf, roomFor, Opening, opened, openWalk}
 use Rattle.walk.specs.Next.{Kind, end, refused, handed, Answer, next}
 use Rattle.walk.specs.Calls.{stateOf, stateAfter, answerOn, answerAt, calls, answers}
-use Rattle.walk.specs.Given.{Given, given, outcomeOf, parentsGiven}
+use Rattle.walk.specs.Given.{Given, given, outcomeOf, parentsGiven, callsAfter}
 use Rattle.walk.proofs.Whole.{answers-calls}
 use Rattle.opening.specs.Checks.{checkedBy}
 use Rattle.opening.proofs.Opened.{opens}
@@ -20,13 +20,13 @@ use Rattle.state.specs.Shapes.{shapeOf}
 use Rattle.traverse.specs.Contract.{Files, Lent, inputWith, lengthsOf}
 use Rattle.swatch.specs.declared.Turn.{Turn}
 use Rattle.swatch.specs.Text.{lineOf, lineGiven, isEnd, linesOf, parentsAfter}
-use Rattle.swatch.specs.Contract.{Puts, leftAfter, ListsCall, ListsCalls}
+use Rattle.swatch.specs.Contract.{Puts, ListsCall, ListsCalls}
 use Rattle.swatch.proofs.Puts.{puts-nothing, puts-then, puts-as}
 use Rattle.swatch.proofs.Lines.{given-line}
 
 -- ---- the first of some calls, and the others
 
-left-kind : (k : Kind) (n : ℕ) → leftAfter (outcomeOf k) n ≡ cond (isEnd k) 0 (n - 1)
+left-kind : (k : Kind) (n : ℕ) → callsAfter n (outcomeOf k) ≡ cond (isEnd k) 0 (n - 1)
 left-kind end n = refl
 left-kind (refused r) n = refl
 left-kind (handed x g t) n = refl
@@ -87,7 +87,7 @@ module _ (i : Input) (st : State) (e : openWalk i true ≡ opened st) where
   -- one call more
   listing-next : {n : ℕ} {out₀ b₀ : List ℕ} {left : ℕ} {r : Record} {m : Lent} {out : List ℕ} {at : ℕ} {o : Given} {q : Record} {t : Turn} {m′ : Lent} {out′ : List ℕ}
       → (l : Listing i n out₀ b₀ left r m out at) → 0 < left → o ≡ given (answerAt i (l .k)) → m′ .parents ≡ parentsGiven (answerAt i (l .k)) (m .parents)
-      → Reads q (m′ .memory) (shapeOf i) (stateAfter i (suc (l .k))) → t .record ≡ q → t .left ≡ leftAfter (o .outcome) left
+      → Reads q (m′ .memory) (shapeOf i) (stateAfter i (suc (l .k))) → t .record ≡ q → t .left ≡ callsAfter left (o .outcome)
       → Puts out at (lineGiven (o .outcome) (o .info .id) (o .info .parents)) out′ (t .at) → Listing i n out₀ b₀ (t .left) (t .record) m′ out′ (t .at)
   unfolding given stateAfter rest
   listing-next {n} {out₀} {b₀} {left} {r} {m} {out} {at} {o} {q} {t} {m′} {out′} l h g b d s f p = record {
@@ -122,7 +122,7 @@ module _ (i : Input) (st : State) (e : openWalk i true ≡ opened st) where
       some-left = omega arith
 
       left-is : cond (isEnd (a .kind)) 0 (left - 1) ≡ t .left
-      left-is = sym (f ∙ ap (λ (y : Given). leftAfter (y .outcome) left) (g ∙ ap given is) ∙ left-kind (a .kind) left)
+      left-is = sym (f ∙ ap (λ (y : Given). callsAfter left (y .outcome)) (g ∙ ap given is) ∙ left-kind (a .kind) left)
 
       lines-at : linesOf (calls w left reached) ≡ line ++ linesOf (calls w (cond (isEnd (a .kind)) 0 (left - 1)) (next w reached .state))
       lines-at = ap (λ (j : ℕ). linesOf (calls w j reached)) some-left ∙ lines-next w (left - 1) reached

@@ -14,6 +14,7 @@ use Rattle.state.specs.declared.Record.{Record}
 use Rattle.state.specs.Reads.{Reads}
 use Rattle.state.specs.Shapes.{shapeOf}
 use Rattle.traverse.specs.declared.Out.{Out}
+use Rattle.walk.specs.Given.{callsAfter}
 use Rattle.traverse.specs.Contract.{Files, Lent, inputWith, lengthsOf, NextSays}
 use Rattle.swatch.specs.declared.Turn.{Turn}
 use Rattle.swatch.specs.Text.{mostBytes, lineGiven, linesOf, parentsAfter, textOf, parentsOf, inputIn, text}
@@ -25,18 +26,12 @@ pub record Puts (out : List ℕ) (at : ℕ) (x : List ℕ) (out′ : List ℕ) (
 
 -- ---- one call
 
--- how many calls are left after a call that came out so: none after the end
-abbrev pub leftAfter : Outcome → ℕ → ℕ
-leftAfter Commit n = n - 1
-leftAfter End n = 0
-leftAfter (Refused r) n = n - 1
-
 -- one of `left` calls: it says what a next call says, and its line is put down
 pub record ListsCall (f : Files) (left : ℕ) (r : Record) (m : Lent) (out : List ℕ) (at : ℕ) (t : Turn) (m′ : Lent) (out′ : List ℕ) : Type 0 where
   pub given : Out
   pub says : NextSays f r m given m′
   pub same-record : t .record ≡ given .record
-  pub left-is : t .left ≡ leftAfter (given .answer .outcome) left
+  pub left-is : t .left ≡ callsAfter left (given .answer .outcome)
   pub line : Puts out at (lineGiven (given .answer .outcome) (given .answer .info .id) (given .answer .info .parents)) out′ (t .at)
 
 -- ---- all calls

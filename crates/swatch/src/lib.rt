@@ -18,7 +18,7 @@ ghost use Rattle.opening.specs.Checks.{inputOf};
 ghost use Rattle.traverse.specs.Next.{filesLent};
 ghost use Rattle.traverse.specs.Open.{lentOf};
 ghost use Rattle.swatch.specs.Text.{breadthAll, emptyStore, tipsIn, storeIn};
-ghost use Rattle.swatch.specs.Contract.{leftAfter, ListsCall, ListsCalls, ListsStore, Lists};
+ghost use Rattle.swatch.specs.Contract.{ListsCall, ListsCalls, ListsStore, Lists};
 
 // The most bytes of the input, and the fewest that `out` has.
 const MOST: usize = 65536;
@@ -40,23 +40,6 @@ fn breadth_all() -> Settings
     Settings {
         sorting: Sorting::BreadthFirst,
         parents: Parents::All,
-    }
-}
-
-fn one_less(n: usize) -> usize
-    ensures { λ r. ⌜ r ≡ n - 1 ⌝ }
-{
-    if n == 0 { 0 } else { n - 1 }
-}
-
-// How many calls are left after one that came out so: none after the end.
-fn left_after(outcome: Outcome, left: usize) -> usize
-    ensures { λ r. ⌜ r ≡ leftAfter outcome left ⌝ }
-{
-    match outcome {
-        Outcome::Commit => one_less(left),
-        Outcome::End => 0,
-        Outcome::Refused(_) => one_less(left),
     }
 }
 
@@ -97,7 +80,7 @@ fn list_call(
     Turn {
         record: after,
         at: put::answer(out, at, a),
-        left: left_after(outcome, left),
+        left: walk::calls_after(left, outcome),
     }
 }
 

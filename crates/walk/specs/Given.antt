@@ -1,6 +1,6 @@
 -- Answers as the code gives them: document 01's numbers and values for every case, and the bytes of the buffer parents.
 -- Assumes nothing.
-use Prim.Native.Nat.{ℕ}
+use Prim.Native.Nat.{ℕ, _-_}
 use mathlib.Core.Option.{Option, none, some}
 use mathlib.Core.List.{List, [], _∷_, _++_}
 use lib.ListN.{length, replicate}
@@ -100,6 +100,12 @@ outcomeNumber (Refused r) = numberOf r
 abbrev pub openNumber : OpenOutcome → ℕ
 openNumber Accepted = 0
 openNumber (NotOpened r) = numberOf r
+
+-- how many of n calls may follow one that came out so: none after the end
+abbrev pub callsAfter : ℕ → Outcome → ℕ
+callsAfter n Commit = n - 1
+callsAfter n End = 0
+callsAfter n (Refused r) = n - 1
 
 -- "zeros there": a level and a number of seconds, 0 where there is none
 abbrev pub levelValue : MaybeLevel → ℕ

@@ -1,6 +1,8 @@
 // The walk's settings, answers and refusals (gix_traverse::commit: `Sorting`, `Parents`, `Info`); specs/ says what a walk is.
 ghost use mathlib.Core.Path.{_≡_};
 ghost use lib.Dec.{ltb};
+ghost use Prim.Native.Nat.{_-_};
+ghost use Rattle.walk.specs.Given.{callsAfter};
 ghost use Rattle.walk.specs.Refusals.{numberOf};
 ghost use Rattle.walk.specs.Lookup.{pairOf, ltPair};
 ghost use Rattle.walk.specs.Settings.{timed, cutoffOf, notBefore};
@@ -125,6 +127,23 @@ pub fn number(r: Refusal) -> u8
         Refusal::CommitUnreadable => 10,
         Refusal::TooManyParents => 11,
         Refusal::Closed => 12,
+    }
+}
+
+fn one_less(n: usize) -> usize
+    ensures { λ r. ⌜ r ≡ n - 1 ⌝ }
+{
+    if n == 0 { 0 } else { n - 1 }
+}
+
+// How many of some calls may follow one that came out so: none after the end.
+pub fn calls_after(left: usize, outcome: Outcome) -> usize
+    ensures { λ r. ⌜ r ≡ callsAfter left outcome ⌝ }
+{
+    match outcome {
+        Outcome::Commit => one_less(left),
+        Outcome::End => 0,
+        Outcome::Refused(_) => one_less(left),
     }
 }
 

@@ -14,8 +14,8 @@ step-requires c κs = search needs
 answer-requires : tie.Need-answer-requires
 answer-requires c κs = search needs
 
-left-after-requires : tie.Need-left-after-requires
-left-after-requires c κs = search needs
+calls-after-requires : tie.Need-calls-after-requires
+calls-after-requires c κs = search needs
 
 same-length : tie.Need-same-length
 same-length c = search needs
@@ -45,7 +45,7 @@ returns c =
       given = t .step .result;
       says = rw (t .before .before .before .before .before .before .before .breadth-all .ensures) at (t .step .ensures);
       same-record = refl;
-      left-is = c .left-after .ensures;
+      left-is = c .calls-after .ensures;
       line = c .before .before .before .answer .ensures (few-parents (t .step .ensures .of-paper));
     }
 
@@ -56,7 +56,7 @@ list-call-spec =
     breadth-all-requires
     step-requires
     answer-requires
-    left-after-requires
+    calls-after-requires
     same-length
     same-length-2
     same-length-3

@@ -1,7 +1,7 @@
--- `left_after` meets its contract: by its outcome. Assumes nothing.
+-- `walk::calls_after` meets its contract: by its outcome. Assumes nothing.
 use borrow.Author.Needs.{needs}
-use Rattle.swatch.proofs.left_after.Statement.{statement}
-use Rattle.swatch.proofs.left_after.Tie as tie
+use Rattle.walk.proofs.calls_after.Statement.{statement}
+use Rattle.walk.proofs.calls_after.Tie as tie
 
 enum-told : tie.Need-enum-told
 enum-told c = search needs
@@ -27,8 +27,8 @@ returns-2 c = search needs
 returns-3 : tie.Need-returns-3
 returns-3 c = rw (c .before .enum-told3 .given .1) (c .one-less2 .ensures)
 
-pub left-after-spec : {M : Type 1} → statement M
-left-after-spec =
+pub calls-after-spec : {M : Type 1} → statement M
+calls-after-spec =
     tie.close
     (tie.spec
     enum-told
