@@ -102,28 +102,13 @@ module _ (v : Walk) (st : State) (x : Id) (t t′ : ℤ) (e : byTime (v .setting
 
 -- ---- a parent enters
 
-module _ {excluded : List ℕ} {settings : Settings} {r : Record} {times : List ℤ} {line : List ℕ} {x : Id} {t : ℤ} {a : Seen} where
-  pub enters-known : a .fresh ≡ false → Enters excluded settings r times times line line x t a r
-  enters-known f = record {
-    known = λ g. (refl, refl, refl);
-    turned = λ g v p q n. (refl, refl, refl);
-    admitted = λ g v p q n. clash g f;
-  }
+module _ {excluded : List ℕ} {settings : Settings} {r : Record} {times : List ℤ} {line : List ℕ} {x : Id} {t : ℤ} {slot : ℕ} where
+  pub enters-turned : {b : Bool} → Admits excluded settings x t b → b ≡ false → Enters excluded settings r times times line line x t slot r
+  enters-turned d e = record { turned = λ v p q n. (refl, refl, refl); admitted = λ v p q n. clash n (sym (d .right v p q) ∙ e) }
 
-  pub enters-turned : {b : Bool} → Admits excluded settings x t b → b ≡ false → Enters excluded settings r times times line line x t a r
-  enters-turned d e = record {
-    known = λ g. (refl, refl, refl);
-    turned = λ g v p q n. (refl, refl, refl);
-    admitted = λ g v p q n. clash n (sym (d .right v p q) ∙ e);
-  }
-
-  pub enters-admitted : {b : Bool} {times′ : List ℤ} {line′ : List ℕ} {r′ : Record} → a .fresh ≡ true → Admits excluded settings x t b → b ≡ true → Waits r times times′ line line′ (a .slot) t r′
-      → Enters excluded settings r times times′ line line′ x t a r′
-  enters-admitted f d e w = record {
-    known = λ g. clash f g;
-    turned = λ g v p q n. clash (sym (d .right v p q) ∙ e) n;
-    admitted = λ g v p q n. w;
-  }
+  pub enters-admitted : {b : Bool} {times′ : List ℤ} {line′ : List ℕ} {r′ : Record} → Admits excluded settings x t b → b ≡ true → Waits r times times′ line line′ slot t r′
+      → Enters excluded settings r times times′ line line′ x t slot r′
+  enters-admitted d e w = record { turned = λ v p q n. clash (sym (d .right v p q) ∙ e) n; admitted = λ v p q n. w }
 
 -- ---- a visit
 
@@ -152,23 +137,24 @@ module _ (excluded : List ℕ) (settings : Settings) (r r′ : Record) (names ma
       line-kept = λ k h. ap (λ (q : List ℕ). getD q k 0) l;
     }
 
-    went-known : {t : ℤ} → Enters excluded settings r times times′ line line′ x t a r′ → a .fresh ≡ false → Goal st
-    went-known e f =
-        let o = s .still f in
-        let p = e .known f in
-        still st (same-state (d .reads) (o .0) (o .1) (p .0) (p .1) (p .2)) (p .2) (p .1) (d .inside) refl
+    -- a known parent changes nothing
+    went-known : a .fresh ≡ false → times′ ≡ times → line′ ≡ line → r′ ≡ r → (t : ℤ) → Goal (visit v st x t)
+    went-known f p q h t =
+        byCases (st .frontier x || st .seen x)
+        (λ k. subst Goal (sym (visit-old v st x t k)) (let o = s .still f in still st (same-state (d .reads) (o .0) (o .1) p q h) h q (d .inside) refl))
+        (λ k. clash (s .new times line sh st (d .reads) (d .failed) w k u (d .inside) i .fresh) f)
 
-    went-turned : {t : ℤ} → Enters excluded settings r times times′ line line′ x t a r′ → (st .frontier x || st .seen x) ≡ false → admits v x t ≡ false → Goal (sees st x)
+    went-turned : {t : ℤ} → Enters excluded settings r times times′ line line′ x t (a .slot) r′ → (st .frontier x || st .seen x) ≡ false → admits v x t ≡ false → Goal (sees st x)
     went-turned e k n =
         let o = s .new times line sh st (d .reads) (d .failed) w k u (d .inside) i in
-        let p = e .turned (o .fresh) v (by .same-settings) (by .same-excluded) n in
+        let p = e .turned v (by .same-settings) (by .same-excluded) n in
         let g : Reads r′ (mem names′ marks′ times′ line′) sh (sees st x) = rw (p .0, p .1, p .2) (o .reads) in
         still (sees st x) g (p .2) (p .1) (sees-inside v st x (pos 0) i (d .inside)) (sees-count v st x (pos 0))
 
-    went-admitted : {t : ℤ} → Enters excluded settings r times times′ line line′ x t a r′ → (st .frontier x || st .seen x) ≡ false → admits v x t ≡ true → Goal (waits v st x t)
+    went-admitted : {t : ℤ} → Enters excluded settings r times times′ line line′ x t (a .slot) r′ → (st .frontier x || st .seen x) ≡ false → admits v x t ≡ true → Goal (waits v st x t)
     went-admitted {t} e k n =
         let o = s .new times line sh st (d .reads) (d .failed) w k u (d .inside) i in
-        let p = e .admitted (o .fresh) v (by .same-settings) (by .same-excluded) n in
+        let p = e .admitted v (by .same-settings) (by .same-excluded) n in
         let g = p .joined names′ marks′ sh (sees st x) x (o .reads) (d .failed) (o .slot) (d .slots) (omega (arith, d .numbers, d .reads .admitted)) in
         record {
           ready = record {
@@ -184,29 +170,32 @@ module _ (excluded : List ℕ) (settings : Settings) (r r′ : Record) (names ma
     not-timed : r .queue .timed ≡ false → byTime (v .settings) ≡ false
     not-timed j = ap byTime (by .same-settings) ∙ sym (ap (λ (q : Shape). q .timed) (by .shape)) ∙ sym (d .reads .timed) ∙ j
 
-    went : (t : ℤ) → Enters excluded settings r times times′ line line′ x t a r′ → Goal (visit v st x t)
-    went t e =
+    went : a .fresh ≡ true → (t : ℤ) → Enters excluded settings r times times′ line line′ x t (a .slot) r′ → Goal (visit v st x t)
+    went f t e =
         byCases (st .frontier x || st .seen x)
-        (λ k. subst Goal (sym (visit-old v st x t k)) (went-known e (s .old times line sh st (d .reads) k)))
+        (λ k. clash f (s .old times line sh st (d .reads) k))
         (λ k. byCases (admits v x t)
         (λ n. subst Goal (sym (visit-new v st x t true k n)) (went-admitted e k n))
         (λ n. subst Goal (sym (visit-new v st x t false k n)) (went-turned e k n)))
 
-    -- the seconds of a known parent do not count, nor do any where commits do not wait by time
-    went-with : (t t′ : ℤ) → (a .fresh ≡ true → r .queue .timed ≡ true → t ≡ t′) → Enters excluded settings r times times′ line line′ x t a r′ → Goal (visit v st x t′)
-    went-with t t′ f e =
-        byCases (st .frontier x || st .seen x)
-        (λ k. subst Goal (sym (visit-old v st x t′ k)) (went-known e (s .old times line sh st (d .reads) k)))
-        (λ k. byCases (r .queue .timed)
-        (λ j.
-        let q : t ≡ t′ = f (s .new times line sh st (d .reads) (d .failed) w k u (d .inside) i .fresh) j in
-        subst (λ (z : ℤ). Goal (visit v st x z)) q (went t e))
-        (λ j. subst Goal (visit-timeless v st x t t′ (not-timed j)) (went t e)))
+    -- seconds do not count where commits do not wait by time
+    went-with : a .fresh ≡ true → (t t′ : ℤ) → (r .queue .timed ≡ true → t ≡ t′) → Enters excluded settings r times times′ line line′ x t (a .slot) r′ → Goal (visit v st x t′)
+    went-with f t t′ q e =
+        byCases (r .queue .timed)
+        (λ j. subst (λ (z : ℤ). Goal (visit v st x z)) (q j) (went f t e))
+        (λ j. subst Goal (visit-timeless v st x t t′ (not-timed j)) (went f t e))
 
 -- where the seconds t of a new parent are t′, in a queue by time
 pub visits : {excluded : List ℕ} {settings : Settings} {r r′ : Record} {names marks names′ marks′ : List ℕ} {times times′ : List ℤ} {line line′ : List ℕ} {x : Id} {a : Seen}
-    → Sees r names marks names′ marks′ x a → (t t′ : ℤ) → (a .fresh ≡ true → r .queue .timed ≡ true → t ≡ t′) → Enters excluded settings r times times′ line line′ x t a r′
+    → Sees r names marks names′ marks′ x a → a .fresh ≡ true → (t t′ : ℤ) → (r .queue .timed ≡ true → t ≡ t′) → Enters excluded settings r times times′ line line′ x t (a .slot) r′
     → Visits excluded settings r (mem names marks times line) (mem names′ marks′ times′ line′) x t′ r′
-visits {excluded} {settings} {r} {r′} {names} {marks} {names′} {marks′} {times} {times′} {line} {line′} {x} {a} s t t′ f e = record {
-  right = λ v sh st u n by d w i. went-with excluded settings r r′ names marks names′ marks′ times times′ line line′ x a s v sh st u n by d w i t t′ f e;
+visits {excluded} {settings} {r} {r′} {names} {marks} {names′} {marks′} {times} {times′} {line} {line′} {x} {a} s f t t′ q e = record {
+  right = λ v sh st u n by d w i. went-with excluded settings r r′ names marks names′ marks′ times times′ line line′ x a s v sh st u n by d w i f t t′ q e;
+}
+
+-- a known parent, whatever its seconds
+pub visits-known : {excluded : List ℕ} {settings : Settings} {r : Record} {names marks names′ marks′ : List ℕ} {times : List ℤ} {line : List ℕ} {x : Id} {a : Seen}
+    → Sees r names marks names′ marks′ x a → a .fresh ≡ false → (t : ℤ) → Visits excluded settings r (mem names marks times line) (mem names′ marks′ times line) x t r
+visits-known {excluded} {settings} {r} {names} {marks} {names′} {marks′} {times} {line} {x} {a} s f t = record {
+  right = λ v sh st u n by d w i. went-known excluded settings r r names marks names′ marks′ times times line line x a s v sh st u n by d w i f refl refl refl t;
 }

@@ -13,7 +13,6 @@ use Rattle.walk.specs.State.{Walk, State}
 use Rattle.walk.specs.Opening.{listIds}
 use Rattle.walk.specs.Next.{admits, visit}
 use Rattle.state.specs.declared.Record.{Record}
-use Rattle.state.specs.declared.Seen.{Seen}
 use Rattle.state.specs.Reads.{Memory, Shape, Reads, Universe}
 use Rattle.state.specs.Shapes.{shapeFor}
 use Rattle.state.specs.Steps.{Waits}
@@ -42,11 +41,10 @@ pub record Went (sh : Shape) (m : Memory) (r′ : Record) (m′ : Memory) (st′
 pub record Admits (excluded : List ℕ) (settings : Settings) (x : Id) (t : ℤ) (r : Bool) : Type 0 where
   pub right : (v : Walk) → v .settings ≡ settings → v .excluded ≡ listIds excluded → r ≡ admits v x t
 
--- what `enter` does with the answer a of `see`: a new parent x waits if its link is admitted, else nothing is changed
-pub record Enters (excluded : List ℕ) (settings : Settings) (r : Record) (times times′ : List ℤ) (line line′ : List ℕ) (x : Id) (t : ℤ) (a : Seen) (r′ : Record) : Type 0 where
-  pub known : a .fresh ≡ false → (times′ ≡ times) × (line′ ≡ line) × (r′ ≡ r)
-  pub turned : a .fresh ≡ true → (v : Walk) → v .settings ≡ settings → v .excluded ≡ listIds excluded → admits v x t ≡ false → (times′ ≡ times) × (line′ ≡ line) × (r′ ≡ r)
-  pub admitted : a .fresh ≡ true → (v : Walk) → v .settings ≡ settings → v .excluded ≡ listIds excluded → admits v x t ≡ true → Waits r times times′ line line′ (a .slot) t r′
+-- what `insert_into_queue` does with a new parent x, in its slot: it waits if its link is admitted, else nothing is changed
+pub record Enters (excluded : List ℕ) (settings : Settings) (r : Record) (times times′ : List ℤ) (line line′ : List ℕ) (x : Id) (t : ℤ) (slot : ℕ) (r′ : Record) : Type 0 where
+  pub turned : (v : Walk) → v .settings ≡ settings → v .excluded ≡ listIds excluded → admits v x t ≡ false → (times′ ≡ times) × (line′ ≡ line) × (r′ ≡ r)
+  pub admitted : (v : Walk) → v .settings ≡ settings → v .excluded ≡ listIds excluded → admits v x t ≡ true → Waits r times times′ line line′ slot t r′
 
 -- the parent x with t seconds is visited
 pub record Visits (excluded : List ℕ) (settings : Settings) (r : Record) (m m′ : Memory) (x : Id) (t : ℤ) (r′ : Record) : Type 0 where

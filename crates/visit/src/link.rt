@@ -4,7 +4,6 @@ use commitgraph::rows;
 use date::Seconds;
 use hash::Kind;
 use state::Record;
-use state::Seen;
 use walk::Parents;
 use walk::Settings;
 ghost use mathlib.Core.Path.{_≡_};
@@ -44,10 +43,10 @@ pub fn admits(excluded: &[u8], settings: Settings, id: &[u8], s: Seconds) -> boo
     walk::within_cutoff_time(sorting, s)
 }
 
-// A parent that is new waits, if its link is admitted.
+// A new parent waits in its slot, if its link is admitted.
 fn insert_into_queue(
     r: Record,
-    seen: Seen,
+    slot: usize,
     times: &mut [i64],
     line: &mut [u32],
     excluded: &[u8],
@@ -55,37 +54,30 @@ fn insert_into_queue(
     id: &[u8],
     s: Seconds,
 ) -> Record
-    ensures { λ a. ⌜ Enters (now (excluded .entry)) settings r (now (times .entry)) (now (times .exit)) (now (line .entry)) (now (line .exit)) (now (id .entry)) (s .0) seen a ⌝ }
+    ensures { λ a. ⌜ Enters (now (excluded .entry)) settings r (now (times .entry)) (now (times .exit)) (now (line .entry)) (now (line .exit)) (now (id .entry)) (s .0) slot a ⌝ }
 {
-    if seen.fresh {
-        if admits(excluded, settings, id, s) {
-            return state::wait(r, times, line, seen.slot, s);
-        }
+    if admits(excluded, settings, id, s) {
+        return state::wait(r, times, line, slot, s);
     }
     r
 }
 
 // The seconds of a new parent in its own graph row, where commits wait by time; else they are not asked.
-fn new_row_seconds(graph: &[u8], l: Layout, parent: usize, fresh: bool, timed: bool) -> Seconds
-    ensures { λ r. ⌜ (fresh ≡ true → timed ≡ true → r .0 ≡ secondsIn idBytes (now (graph .entry)) l parent) ⌝ }
+fn new_row_seconds(graph: &[u8], l: Layout, parent: usize, timed: bool) -> Seconds
+    ensures { λ r. ⌜ (timed ≡ true → r .0 ≡ secondsIn idBytes (now (graph .entry)) l parent) ⌝ }
 {
-    if fresh {
-        if timed {
-            return rows::seconds(Kind::Sha1, graph, l, parent);
-        }
+    if timed {
+        return rows::seconds(Kind::Sha1, graph, l, parent);
     }
     Seconds(0)
 }
 
 // Notes the position of a new parent beside its slot, where it is tried first when the parent leaves the queue. Nothing is promised of what is
 // noted: a row is looked up by its id.
-fn note(levels: &mut [u32], seen: Seen, parent: usize) {
-    let slot = seen.slot;
-    if seen.fresh {
-        if slot < levels.len() {
-            if parent <= MOST {
-                levels[slot] = parent as u32;
-            }
+fn note(levels: &mut [u32], slot: usize, parent: usize) {
+    if slot < levels.len() {
+        if parent <= MOST {
+            levels[slot] = parent as u32;
         }
     }
 }
@@ -108,20 +100,22 @@ pub fn insert_into_seen_and_queue_cached(
     ensures { λ a. ⌜ Visits (now (excluded .entry)) settings r (mem (now (names .entry)) (now (marks .entry)) (now (times .entry)) (now (line .entry))) (mem (now (names .exit)) (now (marks .exit)) (now (times .exit)) (now (line .exit))) (now (id .entry)) (secondsIn idBytes (now (graph .entry)) l parent) a ⌝ }
 {
     let seen = state::see(r, names, marks, id);
+    // a known parent changes nothing, and the record is handed back before anything of it is asked
+    if !seen.fresh {
+        return r;
+    }
     let q = r.queue;
-    let s = new_row_seconds(graph, l, parent, seen.fresh, q.timed);
-    note(levels, seen, parent);
-    insert_into_queue(r, seen, times, line, excluded, settings, id, s)
+    let s = new_row_seconds(graph, l, parent, q.timed);
+    note(levels, seen.slot, parent);
+    insert_into_queue(r, seen.slot, times, line, excluded, settings, id, s)
 }
 
 // The seconds of a new parent in the store, where commits wait by time; else they are not asked.
-fn new_seconds(store: &[u8], id: &[u8], fresh: bool, timed: bool) -> Seconds
-    ensures { λ r. ⌜ (fresh ≡ true → timed ≡ true → GivesSeconds (now (store .entry)) (now (id .entry)) r) ⌝ }
+fn new_seconds(store: &[u8], id: &[u8], timed: bool) -> Seconds
+    ensures { λ r. ⌜ (timed ≡ true → GivesSeconds (now (store .entry)) (now (id .entry)) r) ⌝ }
 {
-    if fresh {
-        if timed {
-            return reading::seconds_for(store, id);
-        }
+    if timed {
+        return reading::seconds_for(store, id);
     }
     Seconds(0)
 }
@@ -141,7 +135,10 @@ pub fn insert_into_seen_and_queue_stored(
     ensures { λ a. ⌜ VisitsStored (now (excluded .entry)) settings (now (store .entry)) r (mem (now (names .entry)) (now (marks .entry)) (now (times .entry)) (now (line .entry))) (mem (now (names .exit)) (now (marks .exit)) (now (times .exit)) (now (line .exit))) (now (id .entry)) a ⌝ }
 {
     let seen = state::see(r, names, marks, id);
+    if !seen.fresh {
+        return r;
+    }
     let q = r.queue;
-    let s = new_seconds(store, id, seen.fresh, q.timed);
-    insert_into_queue(r, seen, times, line, excluded, settings, id, s)
+    let s = new_seconds(store, id, q.timed);
+    insert_into_queue(r, seen.slot, times, line, excluded, settings, id, s)
 }

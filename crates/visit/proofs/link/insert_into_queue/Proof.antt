@@ -1,5 +1,5 @@
--- `visit::link::insert_into_queue` meets its contract: a known parent and a link that is not admitted change nothing, and another waits. Assumes nothing.
-use Rattle.visit.proofs.Links.{enters-admitted, enters-turned, enters-known}
+-- `visit::link::insert_into_queue` meets its contract: a link that is not admitted changes nothing, and another parent waits. Assumes nothing.
+use Rattle.visit.proofs.Links.{enters-admitted, enters-turned}
 use borrow.Author.Needs.{needs}
 use Rattle.visit.proofs.link.insert_into_queue.Statement.{statement}
 use Rattle.visit.proofs.link.insert_into_queue.Tie as tie
@@ -17,15 +17,11 @@ same-length-2 : tie.Need-same-length-2
 same-length-2 c = search needs
 
 returns : tie.Need-returns
-returns c = enters-admitted (c .before .before .before .before .before .before .before .before .if1 .taken) (c .before .before .before .before .before .before .before .admits .ensures) (c .before .before .before .before .before .before .if2 .taken) (c .before .before .before .wait .ensures)
+returns c = enters-admitted (c .before .before .before .before .before .before .before .admits .ensures) (c .before .before .before .before .before .before .if1 .taken) (c .before .before .before .wait .ensures)
 
 returns-2 : tie.Need-returns-2
-returns-2 c = enters-turned (c .before .admits .ensures) (c .if2 .left)
-
-returns-3 : tie.Need-returns-3
-returns-3 c = enters-known (c .if1 .left)
+returns-2 c = enters-turned (c .before .admits .ensures) (c .if1 .left)
 
 pub insert-into-queue-spec : {M : Type 1} → statement M
 insert-into-queue-spec =
-    tie.close
-    (tie.spec admits-requires wait-requires same-length same-length-2 returns returns-2 returns-3)
+    tie.close (tie.spec admits-requires wait-requires same-length same-length-2 returns returns-2)

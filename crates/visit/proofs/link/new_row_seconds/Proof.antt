@@ -1,4 +1,4 @@
--- `visit::link::new_row_seconds` meets its contract: the row of a new parent is asked, where commits wait by time. Assumes nothing.
+-- `visit::link::new_row_seconds` meets its contract: the row is asked where commits wait by time. Assumes nothing.
 use Rattle.hash.proofs.Tests.{clash}
 use borrow.Author.Needs.{needs}
 use Rattle.visit.proofs.link.new_row_seconds.Statement.{statement}
@@ -8,19 +8,10 @@ seconds-requires : tie.Need-seconds-requires
 seconds-requires c κs = search needs
 
 returns : tie.Need-returns
-returns c = λ f t. c .seconds .ensures
+returns c = λ t. c .seconds .ensures
 
 returns-2 : tie.Need-returns-2
-returns-2 c = λ f t. clash t (c .if2 .left)
-
-returns-3 : tie.Need-returns-3
-returns-3 c = λ f t. clash f (c .if1 .left)
+returns-2 c = λ t. clash t (c .if1 .left)
 
 pub new-row-seconds-spec : {M : Type 1} → statement M
-new-row-seconds-spec =
-    tie.close
-    (tie.spec
-    seconds-requires
-    returns
-    returns-2
-    returns-3)
+new-row-seconds-spec = tie.close (tie.spec seconds-requires returns returns-2)
