@@ -39,7 +39,7 @@ two-words p q ps qs (x ∷ xs) r n e =
     (λ h. let z : p ≡ x = eqb-true p x h in let m : eqb q x ≡ false = subst (λ (y : ℕ). eqb q y ≡ false) z n in rw m)
     (λ h. no-some (rw h at e))
 
-parent-no-author : (w : ℕ) (b : List ℕ) (t : Id × List ℕ) → idLine w parentWord b ≡ some t → authorLine b ≡ none
+pub parent-no-author : (w : ℕ) (b : List ℕ) (t : Id × List ℕ) → idLine w parentWord b ≡ some t → authorLine b ≡ none
 unfolding authorLine wordLine
 parent-no-author w b t e = rw (two-words 112 97 _ _ b _ refl (idLine-some w parentWord b t e .word))
 

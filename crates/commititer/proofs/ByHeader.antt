@@ -3,7 +3,7 @@
 -- `read_token` at `start` and at `parents_place`. Assumes nothing.
 use mathlib.Core.Path.{_≡_, refl, sym, _∙_, ap}
 use Prim.Native.Nat.{ℕ, _+_, _*_, _≤_, _<_}
-use mathlib.Core.Bool.{true, false}
+use mathlib.Core.Bool.{Bool, true, false}
 use mathlib.Core.Option.{Option, none, some}
 use mathlib.Core.List.{List, [], _∷_}
 use mathlib.Core.Logic.{⊎-elim}
@@ -11,21 +11,22 @@ use native.Mathlib.Omega.{arith}
 use lib.ListN.{length, drop, getD}
 use types.Run.{OneOf}
 use denote.Enum.Declared.{tagOf}
-use Rattle.hash.specs.Bytes.{Id}
-use Rattle.object.specs.Ids.{idRoom}
+use Rattle.hash.specs.Bytes.{Id, pick, setDown}
+use Rattle.object.specs.Ids.{idRoom, idIn}
 use Rattle.object.specs.Header.{treeSize, parentSize, isSome, idLine, treeWord, parentWord, authorLine, most, withTree, header}
-use Rattle.object.specs.Read.{parentAt}
-use Rattle.object.proofs.Lines.{good-is, is-none}
+use Rattle.object.specs.Read.{idDown, parentAt}
+use Rattle.object.proofs.IdBytes.{id-in}
+use Rattle.object.proofs.Lines.{idLine-some, good-is, is-none}
 use Rattle.object.proofs.Headers.{header-lines, parent-taken, parent-stop, parent-crowd}
 use Rattle.commititer.specs.Token.{here, start, parentToken, parentTold, authorTold, lineIn, lineAt, tokenOf, tokenAt, parentsPlace}
-use Rattle.commititer.specs.Tokens.{isTree, isParent, isAuthor}
+use Rattle.commititer.specs.Tokens.{isTree, isParent, isAuthor, parentDown}
 use Rattle.commititer.specs.declared.TokenRead.{TokenRead}
 use Rattle.commititer.specs.declared.State.the-variants.{Parents as ParentLines}
 use Rattle.commititer.specs.declared.Token.{Token}
 use Rattle.commititer.specs.declared.Token.the-variants.{Tree, Parent, Author, Committer, Bad, End}
 use Rattle.commititer.proofs.Token as T
 use Rattle.commititer.proofs.ParentsPlace.{place-few}
-use Rattle.commititer.proofs.Agree.{is-missing, tree-step, no-tree}
+use Rattle.commititer.proofs.Agree.{is-missing, parent-no-author, tree-step, no-tree}
 
 -- ---- at the start
 
@@ -40,7 +41,7 @@ tree-told w b {t} read = go (idLine w treeWord b) refl
 -- ---- where parents may stand: a parent where a parent line stands, else an author where an author line does
 
 module _ (w : ℕ) (b : List ℕ) (i : ℕ) where
-  here-parent : isParent (tokenAt w b (here i ParentLines) .token) ≡ isSome (idLine w parentWord (drop i b))
+  pub here-parent : isParent (tokenAt w b (here i ParentLines) .token) ≡ isSome (idLine w parentWord (drop i b))
   unfolding tokenAt lineAt lineIn
   here-parent = go (idLine w parentWord (drop i b)) (authorLine (drop i b))
     where
@@ -60,6 +61,27 @@ module _ (w : ℕ) (b : List ℕ) (i : ℕ) where
   here-id : (x : Id) (r : List ℕ) → idLine w parentWord (drop i b) ≡ some (x, r) → tokenAt w b (here i ParentLines) ≡ parentToken x
   unfolding tokenAt lineAt lineIn
   here-id x r e = rw e
+
+  -- no line is both
+  pub author-here : isAuthor (tokenAt w b (here i ParentLines) .token) ≡ isSome (authorLine (drop i b))
+  author-here = go (idLine w parentWord (drop i b)) refl
+    where
+      go : (o : Option (Id × List ℕ)) → idLine w parentWord (drop i b) ≡ o → isAuthor (tokenAt w b (here i ParentLines) .token) ≡ isSome (authorLine (drop i b))
+      go none e = here-author e
+      go (some t) e = ap (λ (r : TokenRead). isAuthor (r .token)) (here-id (t .0) (t .1) e) ∙ sym (ap isSome (parent-no-author w (drop i b) t e))
+
+  -- the id that is set down is the line's
+  pub parent-down : (k : ℕ) (c : List ℕ) → w ≤ idRoom → idDown w k (idLine w parentWord (drop i b)) c ≡ parentDown w k (tokenAt w b (here i ParentLines)) c
+  parent-down k c small = go (idLine w parentWord (drop i b)) refl
+    where
+      go : (o : Option (Id × List ℕ)) → idLine w parentWord (drop i b) ≡ o → idDown w k (idLine w parentWord (drop i b)) c ≡ parentDown w k (tokenAt w b (here i ParentLines)) c
+      go none e =
+          ap (λ (o : Option (Id × List ℕ)). idDown w k o c) e
+          ∙ sym (ap (λ (t : Bool). pick t (setDown c (w * k) (idIn w (tokenAt w b (here i ParentLines) .id .bytes))) c) (here-parent ∙ ap isSome e))
+      go (some t) e =
+          ap (λ (o : Option (Id × List ℕ)). idDown w k o c) e
+          ∙ ap (setDown c (w * k)) (sym (id-in w (t .0) (idLine-some w parentWord (drop i b) t e .width) small))
+          ∙ sym (ap (λ (r : TokenRead). parentDown w k r c) (here-id (t .0) (t .1) e))
 
 -- ---- after the tree line and k of the header's parents
 

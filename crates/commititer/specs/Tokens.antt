@@ -2,14 +2,14 @@
 -- (document 01, "Header lines"). `proofs/Agree.antt` shows that it is the header that crate `object` reads, and that the tokens are all good
 -- just where the header is. Assumes nothing.
 use mathlib.Core.Path.{_≡_}
-use Prim.Native.Nat.{ℕ, zero, suc}
+use Prim.Native.Nat.{ℕ, zero, suc, _*_}
 use mathlib.Core.Bool.{Bool, true, false, _&&_}
 use mathlib.Core.Option.{Option, none, some}
 use mathlib.Core.List.{List, [], _∷_}
 use lib.ListN.{length, take, drop}
 use lib.IntN.{ℤ}
 use lib.Dec.{ltb, leb}
-use Rattle.hash.specs.Bytes.{Id, pick}
+use Rattle.hash.specs.Bytes.{Id, pick, setDown}
 use Rattle.object.specs.Ids.{idIn}
 use Rattle.object.specs.Header.{isSome, Header, most, secondsOf, header}
 use Rattle.object.specs.Read.{readingOf}
@@ -69,6 +69,10 @@ isBad Author = false
 isBad (Committer s) = false
 isBad Bad = true
 isBad End = false
+
+-- a parent's id set down as number k of a list of ids, where it fits; with any other token nothing is changed
+abbrev pub parentDown : ℕ → ℕ → TokenRead → List ℕ → List ℕ
+parentDown w k t b = pick (isParent (t .token)) (setDown b (w * k) (idIn w (t .id .bytes))) b
 
 -- ---- what the tokens come to
 

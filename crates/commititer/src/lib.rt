@@ -7,6 +7,7 @@ use object::Line;
 use object::ObjectId;
 use object::SecondsRead;
 use object::person;
+ghost use Prim.Native.Nat.{ℕ};
 ghost use mathlib.Core.Path.{_≡_};
 ghost use lib.ListN.{drop};
 ghost use Rattle.hash.specs.Bytes.{widthOf};
@@ -27,6 +28,7 @@ ghost use Rattle.commititer.specs.Token.{
   parentsPlace,
   movedOn,
 };
+ghost use Rattle.commititer.specs.Tokens.{isTree, isParent, isAuthor, parentDown};
 
 // What stands at a place of a header: one of the four kinds of line, the committer's with its seconds; a line that is not the one that may
 // stand there, or is bad; or nothing more to read. It has what a walk over commits asks of a line and no more, so a tree's id and an
@@ -308,4 +310,39 @@ pub fn parents_place(kind: Kind, k: usize) -> Place
         at,
         state: State::Parents,
     }
+}
+
+// Whether a tree stands at the start of a body.
+pub fn is_tree(kind: Kind, data: &[u8]) -> bool
+    ensures { λ r. ⌜ r ≡ isTree (tokenAt (widthOf kind) (now («data» .entry)) start .token) ⌝ }
+{
+    match object::tree_line(kind, data, 0) {
+        Line::Good(_) => true,
+        Line::Bad => false,
+    }
+}
+
+// Whether a parent stands at a place where parents may stand.
+pub fn is_parent(kind: Kind, data: &[u8], at: usize) -> bool
+    ensures { λ r. ⌜ r ≡ isParent (tokenAt (widthOf kind) (now («data» .entry)) (here at State.Parents) .token) ⌝ }
+{
+    object::is_parent_line(kind, data, at)
+}
+
+// Whether an author stands at such a place, whatever the kind of the ids.
+pub fn is_author(data: &[u8], at: usize) -> bool
+    ensures { λ r. ⌜ ((w : ℕ) → r ≡ isAuthor (tokenAt w (now («data» .entry)) (here at State.Parents) .token)) ⌝ }
+{
+    match person::author_line(data, at) {
+        Line::Good(_) => true,
+        Line::Bad => false,
+    }
+}
+
+// Sets down the id of the parent at such a place as number k of a list of ids, where it fits: its digits are decoded there, and no token is made.
+// Where no parent stands nothing is changed.
+pub fn put_parent(kind: Kind, data: &[u8], at: usize, out: &mut [u8], k: usize) -> bool
+    ensures { λ r. ⌜ (r ≡ isParent (tokenAt (widthOf kind) (now («data» .entry)) (here at State.Parents) .token)) × (now (out .exit) ≡ parentDown (widthOf kind) k (tokenAt (widthOf kind) (now («data» .entry)) (here at State.Parents)) (now (out .entry))) ⌝ }
+{
+    object::put_parent(kind, data, at, out, k)
 }

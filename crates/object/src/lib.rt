@@ -13,8 +13,8 @@ ghost use Prim.Native.Nat.{_+_, _*_, _/_, _≤_, _<_};
 ghost use lib.Dec.{eqb};
 ghost use lib.ListN.{length, drop};
 ghost use Rattle.hash.specs.Bytes.{widthOf};
-ghost use Rattle.object.specs.Header.{treeSize, parentSize, isSome, strip, hexVal, hexBytes, idLine, parentLines, most, authorLine, afterAuthor, secondsOf, header};
-ghost use Rattle.object.specs.Read.{idRead, treeAt, parentAt, afterParents, secondsRead, readingOf};
+ghost use Rattle.object.specs.Header.{treeSize, parentSize, isSome, strip, hexVal, hexBytes, idLine, parentWord, parentLines, most, authorLine, afterAuthor, secondsOf, header};
+ghost use Rattle.object.specs.Read.{idRead, idDown, Decodes, treeAt, parentAt, afterParents, secondsRead, readingOf};
 
 // A line that was read: the place after its newline.
 pub enum Line {
@@ -140,7 +140,21 @@ fn no_id() -> ParentLine
     }
 }
 
-// The id in 2 w digits at a place, none of them wrong. (So it tests none, and has no early exit either.)
+// Decodes the id in 2 w digits at a place, none of them wrong, to the start of out. (So it tests none, and has no early exit either.)
+fn decode_to(w: usize, body: &[u8], at: usize, out: &mut [u8])
+    requires { ⌜ at + 2 * w ≤ length (now body) ⌝ }
+    requires { ⌜ isSome (hexBytes w (drop at (now body))) ≡ true ⌝ }
+    requires { ⌜ w ≤ length (now out) ⌝ }
+    ensures { λ r. ⌜ Decodes w (drop at (now (body .entry))) (now (out .entry)) (now (out .exit)) ⌝ }
+{
+    let mut i = 0;
+    while i < w {
+        out[i] = hex_value(body[at + 2 * i]) * 16 + hex_value(body[at + 2 * i + 1]);
+        i += 1;
+    }
+}
+
+// The same id by value.
 fn decode(w: usize, body: &[u8], at: usize) -> ParentLine
     requires { ⌜ at + 2 * w ≤ length (now body) ⌝ }
     requires { ⌜ isSome (hexBytes w (drop at (now body))) ≡ true ⌝ }
@@ -148,11 +162,7 @@ fn decode(w: usize, body: &[u8], at: usize) -> ParentLine
     ensures { λ r. ⌜ r ≡ idRead (hexBytes w (drop at (now (body .entry)))) ⌝ }
 {
     let mut bytes = [0u8; 32];
-    let mut i = 0;
-    while i < w {
-        bytes[i] = hex_value(body[at + 2 * i]) * 16 + hex_value(body[at + 2 * i + 1]);
-        i += 1;
-    }
+    decode_to(w, body, at, &mut bytes);
     ParentLine {
         good: true,
         id: ObjectId { bytes },
@@ -167,6 +177,27 @@ fn decoded(kind: Kind, body: &[u8], at: usize) -> ParentLine
     match kind {
         Kind::Sha1 => decode(20, body, at),
         Kind::Sha256 => decode(32, body, at),
+    }
+}
+
+// Sets down the id in the digits at a place, none of them wrong, as number k of a list of ids, where it fits. It is decoded to an array of its own
+// width first: the compiler can't tell that out is no part of body, and so would decode digit by digit.
+fn put_decoded(kind: Kind, body: &[u8], at: usize, out: &mut [u8], k: usize)
+    requires { ⌜ at + 2 * widthOf kind ≤ length (now body) ⌝ }
+    requires { ⌜ isSome (hexBytes (widthOf kind) (drop at (now body))) ≡ true ⌝ }
+    ensures { λ r. ⌜ now (out .exit) ≡ idDown (widthOf kind) k (hexBytes (widthOf kind) (drop at (now (body .entry)))) (now (out .entry)) ⌝ }
+{
+    match kind {
+        Kind::Sha1 => {
+            let mut id = [0u8; 20];
+            decode_to(20, body, at, &mut id);
+            hash::set_nth(Kind::Sha1, out, k, &id);
+        }
+        Kind::Sha256 => {
+            let mut id = [0u8; 32];
+            decode_to(32, body, at, &mut id);
+            hash::set_nth(Kind::Sha256, out, k, &id);
+        }
     }
 }
 
@@ -228,6 +259,19 @@ pub fn is_parent_line(kind: Kind, body: &[u8], at: usize) -> bool
     ensures { λ r. ⌜ r ≡ parentAt (widthOf kind) (now (body .entry)) at .good ⌝ }
 {
     is_id_line(kind, body, at, b"parent ")
+}
+
+// Sets down the id of the parent line at a place as number k of a list of ids, where it fits; where no good parent line stands there, nothing is
+// changed.
+pub fn put_parent(kind: Kind, body: &[u8], at: usize, out: &mut [u8], k: usize) -> bool
+    ensures { λ r. ⌜ (r ≡ isSome (idLine (widthOf kind) parentWord (drop at (now (body .entry))))) × (now (out .exit) ≡ idDown (widthOf kind) k (idLine (widthOf kind) parentWord (drop at (now (body .entry)))) (now (out .entry))) ⌝ }
+{
+    let word = b"parent ";
+    if !is_id_line(kind, body, at, word) {
+        return false;
+    }
+    put_decoded(kind, body, at + word.len(), out, k);
+    true
 }
 
 // The place after the parent lines at a place, uncounted.

@@ -2,6 +2,8 @@ pub mod IdLists
 pub mod World
 pub mod Tips
 pub mod Rows
+pub mod Down
 pub mod Lines
+pub mod Bodies
 pub mod Whole
 pub mod ByValue

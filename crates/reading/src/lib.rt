@@ -6,10 +6,9 @@ mod row;
 mod tip;
 
 pub use body::BodyEnd;
-pub use body::BodyStep;
+pub use body::BodyRead;
 pub use body::body_parent;
-pub use body::body_step;
-pub use body::body_tree_ok;
+pub use body::read_body;
 use commit::Cache;
 use commit::Either;
 use commitgraph::Layout;

@@ -26,7 +26,7 @@ use Rattle.state.proofs.States.{queue-length}
 use Rattle.visit.specs.declared.next.Taken.{Taken}
 use Rattle.visit.specs.Taking.{gave, Rests, TakesNext}
 use Rattle.visit.specs.Plain.{Plain}
-use Rattle.visit.proofs.Parents.{set-down-none}
+use Rattle.reading.proofs.Down.{set-down-none}
 use Rattle.painting.specs.declared.Painted as painted
 use Rattle.painting.specs.declared.Painted.the-variants as painting
 use Rattle.painting.specs.First.{AtFirst, GoesOn, Told, RefusesBy, Paints}

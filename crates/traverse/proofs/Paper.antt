@@ -29,7 +29,7 @@ use Rattle.walk.proofs.Width.{list-wide}
 use Rattle.state.specs.declared.Record.{Record}
 use Rattle.visit.specs.Taking.{gave}
 use Rattle.visit.specs.Plain.{Counted, ShapedBy, Plain}
-use Rattle.visit.proofs.Parents.{set-down-none}
+use Rattle.reading.proofs.Down.{set-down-none}
 use Rattle.traverse.specs.Contract.{closedAnswer, OfPaper}
 
 -- ---- the ids of a list, end to end

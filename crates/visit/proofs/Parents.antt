@@ -3,26 +3,25 @@
 use mathlib.Core.Path.{_≡_, refl, sym, ap, _∙_, subst}
 use Prim.Native.Nat.{ℕ, suc, _+_, _*_, _≤_, _<_}
 use mathlib.Core.Bool.{true}
-use mathlib.Core.Option.{some}
-use mathlib.Core.List.{List, [], _∷_, _++_, map, List·Memᴰ, List·Memᴰ·head, Memᴰ·append-left, Memᴰ·append-right, append-assoc, append-nil}
+use mathlib.Core.List.{List, [], _∷_, _++_, map, List·Memᴰ, List·Memᴰ·head, Memᴰ·append-left, Memᴰ·append-right}
 use native.Mathlib.Omega.{arith}
-use lib.ListN.{length, take, drop, getD, length-append, length-drop}
-use lib.Seq.{length-take-le, take-suc, take-append-seam, drop-append-add, drop-drop}
+use lib.ListN.{length, take, getD, length-append}
+use lib.Seq.{length-take-le, take-suc}
 use lib.IntN.{ℤ, pos}
 use Rattle.hash.specs.Bytes.{Id, idBytes, setDown}
-use Rattle.hash.proofs.Bytes.{setDown-fits}
-use Rattle.commitgraph.specs.Graph.{graphOk, layoutOf, idIn, secondsIn, parentsIn, parentIn}
+use Rattle.commitgraph.specs.Graph.{graphOk, layoutOf, idIn, secondsIn, parentIn}
 use Rattle.commitgraph.specs.declared.Layout.{Layout}
 use Rattle.walk.specs.declared.Settings.{Settings}
 use Rattle.walk.specs.Lookup.{row, rowAt}
 use Rattle.walk.specs.State.{Walk, State}
 use Rattle.walk.specs.Next.{visit, visitAll}
 use Rattle.walk.specs.Given.{joined}
+use Rattle.reading.proofs.Down.{joined-snoc, set-down-none, set-down-next}
 use Rattle.reading.proofs.Rows.{parent-there, row-few, row-width}
 use Rattle.state.specs.declared.Record.{Record}
-use Rattle.state.specs.Reads.{Memory, Shape}
-use Rattle.visit.specs.Link.{GoesBy, Ready, Went, Visits}
-use Rattle.visit.specs.Parents.{SetsParent, VisitsAll, VisitsRowParent, VisitsRow}
+use Rattle.state.specs.Reads.{Memory}
+use Rattle.visit.specs.Link.{Ready, Went, Visits}
+use Rattle.visit.specs.Parents.{SetsParent, VisitsAll, VisitsRowParent, VisitsRow, VisitsEach}
 use Rattle.visit.specs.Plain.{Past}
 use Rattle.visit.proofs.Past.{past-none, past-next, row-narrow}
 
@@ -37,33 +36,6 @@ pub map-snoc : {A B : Type 0} (f : A → B) (l : List A) (a : A) → map f (l ++
 map-snoc f [] a = refl
 map-snoc f (b ∷ l) a = ap (λ (r : List _). f b ∷ r) (map-snoc f l a)
 
-joined-snoc : (l : List Id) (x : Id) → joined (l ++ (x ∷ [])) ≡ joined l ++ x
-unfolding joined
-joined-snoc [] x = append-nil x
-joined-snoc (y ∷ l) x = ap (λ (r : List ℕ). y ++ r) (joined-snoc l x) ∙ sym (append-assoc y (joined l) x)
-
-set-down-start : (b y : List ℕ) → length y ≤ length b → setDown b 0 y ≡ y ++ drop (length y) b
-set-down-start b y h =
-    let z : 0 + length y ≡ length y = omega arith in
-    setDown-fits b 0 y (omega arith) ∙ ap (λ (k : ℕ). y ++ drop k b) z
-
-pub set-down-none : (b : List ℕ) → b ≡ setDown b 0 []
-set-down-none b = sym (set-down-start b [] (omega arith))
-
--- bytes set down behind those at the start
-set-down-next : (b y x : List ℕ) → length y + length x ≤ length b → setDown (setDown b 0 y) (length y) x ≡ setDown b 0 (y ++ x)
-set-down-next b y x h =
-    let d : List ℕ = drop (length y) b in
-    let n : length y + length x ≤ length (y ++ d) = simp (length-append, length-drop) (omega arith) in
-    let m : length (y ++ x) ≤ length b = simp length-append h in
-    ap (λ (l : List ℕ). setDown l (length y) x) (set-down-start b y (omega arith))
-    ∙ setDown-fits (y ++ d) (length y) x n
-    ∙ ap (λ (l : List ℕ). l ++ (x ++ drop (length y + length x) (y ++ d))) (take-append-seam y d)
-    ∙ ap (λ (l : List ℕ). y ++ (x ++ l)) (drop-append-add y d (length x) ∙ drop-drop (length x) (length y) b)
-    ∙ sym (append-assoc y x (drop (length y + length x) b))
-    ∙ ap (λ (k : ℕ). (y ++ x) ++ drop k b) (sym (length-append y x))
-    ∙ sym (set-down-start b (y ++ x) m)
-
 -- ---- a run of visits
 
 -- the parents ps are visited, and their ids have 20 bytes each
@@ -71,22 +43,32 @@ pub record Run (excluded : List ℕ) (settings : Settings) (r : Record) (m m′ 
   pub all : VisitsAll excluded settings r m m′ b b′ ps r′
   pub long : length (joined (map (λ p. p .0) ps)) ≡ 20 * length ps
 
+module _ {excluded : List ℕ} {settings : Settings} {r : Record} {m : Memory} where
+  pub each-none : VisitsEach excluded settings r m m [] r
+  unfolding visitAll
+  each-none = record { went = λ v sh st u n by d i. let z : 0 + n ≡ n = omega arith in record { ready = subst (λ (j : ℕ). Ready sh r m st u j) z d; line-kept = λ k h. refl } }
+
+  -- one parent more
+  pub each-next : {r′ r″ : Record} {m′ m″ : Memory} {ps : List (Id × ℤ)} (p : Id × ℤ) → length (p .0) ≡ idBytes → VisitsEach excluded settings r m m′ ps r′
+      → Visits excluded settings r′ m′ m″ (p .0) (p .1) r″ → VisitsEach excluded settings r m m″ (ps ++ (p ∷ [])) r″
+  each-next {r′} {r″} {m′} {m″} {ps} p w f v = record {
+    went = λ a sh st u n by y i.
+        let h : length (ps ++ (p ∷ [])) + n ≡ length ps + suc n = simp length-append (omega arith) in
+        let one = f .went a sh st u (suc n) by (subst (λ (j : ℕ). Ready sh r m st u j) h y) (λ q j. i q (Memᴰ·append-left (p ∷ []) j)) in
+        let two = v .right a sh (visitAll a st ps) u n by (one .ready) w (i p (Memᴰ·append-right ps (List·Memᴰ·head refl))) in
+        subst (λ (s : State). Went sh m r″ m″ s u n) (sym (visitAll-snoc a ps p st)) (record { ready = two .ready; line-kept = λ j g. two .line-kept j g ∙ one .line-kept j g });
+  }
+
 module _ {excluded : List ℕ} {settings : Settings} {r : Record} {m : Memory} {b : List ℕ} where
   pub run-start : Run excluded settings r m m b b [] r
-  unfolding visitAll joined
-  run-start = record {
-    all = record {
-      went = λ v sh st u n by d i. let z : 0 + n ≡ n = omega arith in record { ready = subst (λ (j : ℕ). Ready sh r m st u j) z d; line-kept = λ k h. refl };
-      down = λ h. sym (set-down-start b [] (omega arith));
-    };
-    long = refl;
-  }
+  unfolding joined
+  run-start = record { all = record { went = each-none .went; down = λ h. set-down-none b }; long = refl }
 
   -- one parent more: the k-th
   pub run-next : {r′ r″ : Record} {m′ m″ : Memory} {b′ b″ : List ℕ} {ps : List (Id × ℤ)} (qs : List (Id × ℤ)) (p : Id × ℤ) (k : ℕ) → qs ≡ ps ++ (p ∷ []) → length ps ≡ k → k < 256
       → length (p .0) ≡ idBytes → Run excluded settings r m m′ b b′ ps r′ → Visits excluded settings r′ m′ m″ (p .0) (p .1) r″ → b″ ≡ setDown b′ (20 * k) (p .0)
       → Run excluded settings r m m″ b b″ qs r″
-  run-next {r′} {r″} {m′} {m″} {b′} {b″} {ps} qs p k e c f w run v d = subst (λ (l : List (Id × ℤ)). Run excluded settings r m m″ b b″ l r″) (sym e) (record { all = record { went = went-on; down = down-on }; long = long-on })
+  run-next {r′} {r″} {m′} {m″} {b′} {b″} {ps} qs p k e c f w run v d = subst (λ (l : List (Id × ℤ)). Run excluded settings r m m″ b b″ l r″) (sym e) (record { all = record { went = went-on .went; down = down-on }; long = long-on })
     where
       joined-on : joined (map (λ q. q .0) (ps ++ (p ∷ []))) ≡ joined (map (λ q. q .0) ps) ++ p .0
       joined-on = ap joined (map-snoc (λ (q : Id × ℤ). q .0) ps p) ∙ joined-snoc (map (λ q. q .0) ps) (p .0)
@@ -94,13 +76,8 @@ module _ {excluded : List ℕ} {settings : Settings} {r : Record} {m : Memory} {
       long-on : length (joined (map (λ q. q .0) (ps ++ (p ∷ [])))) ≡ 20 * length (ps ++ (p ∷ []))
       long-on = ap length joined-on ∙ simp length-append (omega (arith, run .long, w))
 
-      went-on : (v : Walk) (sh : Shape) (st : State) (u : List Id) (n : ℕ) → GoesBy v sh excluded settings → Ready sh r m st u (length (ps ++ (p ∷ [])) + n)
-          → ((q : Id × ℤ) → List·Memᴰ q (ps ++ (p ∷ [])) → List·Memᴰ (q .0) u) → Went sh m r″ m″ (visitAll v st (ps ++ (p ∷ []))) u n
-      went-on a sh st u n by y i =
-          let h : length (ps ++ (p ∷ [])) + n ≡ length ps + suc n = simp length-append (omega arith) in
-          let one = run .all .went a sh st u (suc n) by (subst (λ (j : ℕ). Ready sh r m st u j) h y) (λ q j. i q (Memᴰ·append-left (p ∷ []) j)) in
-          let two = v .right a sh (visitAll a st ps) u n by (one .ready) w (i p (Memᴰ·append-right ps (List·Memᴰ·head refl))) in
-          subst (λ (s : State). Went sh m r″ m″ s u n) (sym (visitAll-snoc a ps p st)) (record { ready = two .ready; line-kept = λ j g. two .line-kept j g ∙ one .line-kept j g })
+      went-on : VisitsEach excluded settings r m m″ (ps ++ (p ∷ [])) r″
+      went-on = each-next p w (record { went = run .all .went }) v
 
       down-on : 5120 ≤ length b → b″ ≡ setDown b 0 (joined (map (λ q. q .0) (ps ++ (p ∷ []))))
       down-on h =
@@ -154,6 +131,12 @@ module _ {excluded : List ℕ} {settings : Settings} {g : List ℕ} {l : Layout}
       subst (λ (j : ℕ). VisitsRow excluded settings g l p j r m m′ b b′ r′) e (record { right = λ ok own ps v t q h. run .right ok own ps v t q h .all; past = run .past })
 
 -- ---- the lent buffers keep their lengths
+
+pub record Sizes (m m′ : Memory) : Type 0 where
+  pub for-names : length (m′ .names) ≡ length (m .names)
+  pub for-marks : length (m′ .marks) ≡ length (m .marks)
+  pub for-times : length (m′ .times) ≡ length (m .times)
+  pub for-line : length (m′ .line) ≡ length (m .line)
 
 pub record Lengths (names marks : List ℕ) (times : List ℤ) (line parents names′ marks′ : List ℕ) (times′ : List ℤ) (line′ parents′ : List ℕ) : Type 0 where
   pub for-names : length names′ ≡ length names

@@ -1,19 +1,12 @@
 -- What is set down stays inside the ids that are counted, and the answer has one of document 01's shapes, on any bytes: an id of at most 20
 -- bytes changes nothing past its own place, and at most 256 parents come out of either file. Assumes nothing.
-use mathlib.Core.Path.{_≡_, refl, sym, ap, _∙_}
+use mathlib.Core.Path.{_≡_, refl, ap, _∙_}
 use Prim.Native.Nat.{ℕ, _+_, _*_, _-_, _≤_, _<_}
-use mathlib.Core.Bool.{true, false}
-use mathlib.Core.Option.{some}
-use mathlib.Core.List.{List, [], _++_}
+use mathlib.Core.List.{List, []}
 use native.Mathlib.Omega.{arith}
-use lib.Dec.{leb}
 use lib.ListN.{length, take, drop, getD, length-take}
-use lib.Seq.{getD-append-add, getD-drop, length-take-le}
 use lib.IntN.{ℤ, pos}
-use borrow.Author.Tests.{leb-true, leb-false}
 use Rattle.hash.specs.Bytes.{Id, idBytes, at, setDown}
-use Rattle.hash.proofs.Bytes.{setDown-fits, setDown-not}
-use Rattle.hash.proofs.Tests.{byCases}
 use Rattle.object.specs.Header.{most}
 use Rattle.commitgraph.specs.Graph.{graphParents, layoutOf, idIn, parentIn}
 use Rattle.walk.specs.declared.Outcome.the-variants.{End, Refused}
@@ -27,6 +20,7 @@ use Rattle.walk.specs.Given.{noId}
 use Rattle.walk.specs.Lookup.{row, rowAt}
 use Rattle.reading.specs.declared.body.BodyEnd.{BodyEnd}
 use Rattle.reading.specs.declared.body.BodyEnd.the-variants.{Whole, Unreadable, Crowded}
+use Rattle.reading.proofs.Down.{set-down-past}
 use Rattle.reading.proofs.Rows.{parent-there}
 use Rattle.state.specs.declared.Record.{Record}
 use Rattle.visit.specs.Parents.{SetsParent}
@@ -41,26 +35,6 @@ past-none = record { same = λ k h. refl }
 -- one id more
 pub past-next : {k : ℕ} {b b′ b″ : List ℕ} → Past k b b′ → Past (k + 1) b′ b″ → Past (k + 1) b b″
 past-next p q = record { same = λ j h. q .same j h ∙ p .same j (omega arith) }
-
--- the bytes past those that are set down
-set-down-past : (b : List ℕ) (i : ℕ) (x : List ℕ) (j : ℕ) → i + length x ≤ j → getD (setDown b i x) j 0 ≡ getD b j 0
-set-down-past b i x j h = byCases (leb (i + length x) (length b)) fits misfit
-  where
-    fits : leb (i + length x) (length b) ≡ true → getD (setDown b i x) j 0 ≡ getD b j 0
-    fits e =
-        let n : i + length x ≤ length b = leb-true (i + length x) (length b) e in
-        let a : length (take i b) ≡ i = length-take-le i b (omega arith) in
-        let u : j ≡ length (take i b) + (length x + (j - (i + length x))) = omega (arith, a) in
-        let w : i + length x + (j - (i + length x)) ≡ j = omega arith in
-        ap (λ (l : List ℕ). getD l j 0) (setDown-fits b i x n)
-        ∙ ap (λ (k : ℕ). getD (take i b ++ (x ++ drop (i + length x) b)) k 0) u
-        ∙ getD-append-add (take i b) (x ++ drop (i + length x) b) (length x + (j - (i + length x))) 0
-        ∙ getD-append-add x (drop (i + length x) b) (j - (i + length x)) 0
-        ∙ getD-drop (i + length x) b (j - (i + length x)) 0
-        ∙ ap (λ (k : ℕ). getD b k 0) w
-
-    misfit : leb (i + length x) (length b) ≡ false → getD (setDown b i x) j 0 ≡ getD b j 0
-    misfit e = ap (λ (l : List ℕ). getD l j 0) (setDown-not b i x (leb-false (i + length x) (length b) e))
 
 pub parent-set : {k : ℕ} {x b b′ : List ℕ} → length x ≤ idBytes → b′ ≡ setDown b (idBytes * k) x → SetsParent k x b b′
 parent-set {k} {x} {b} h e = record {

@@ -47,6 +47,8 @@ use Rattle.reading.specs.Files.{cacheWith, cacheOf, worldUnder}
 use Rattle.reading.specs.Row.{levelOf, rowReadOf}
 use Rattle.reading.specs.declared.row.RowRead.{RowRead}
 use Rattle.reading.specs.declared.row.RowRead.the-variants.{Corrupt, Row as RowAt}
+use Rattle.reading.proofs.Bodies.{followed-one, followed-all}
+use Rattle.reading.proofs.Down.{set-down-none}
 use Rattle.reading.proofs.World.{located-body, located-none, good-cache, kept-world, dropped-world, same-store, found-row, found-body, found-absent}
 use Rattle.reading.proofs.Rows.{row-few, row-is, row-torn, row-counted}
 use Rattle.reading.proofs.Whole.{header-few}
@@ -65,8 +67,7 @@ use Rattle.visit.specs.Parents.{VisitsAll, VisitsRow, VisitsBody, stored
 use Rattle.visit.specs.Taking.{gave, timeGiven, Follows, endGiven, EndsBody, Rests, Gives, InRows, InStore, Popped, TakesRow, TakesBody, TakesStored, TakesCached, TakesNext}
 use Rattle.visit.specs.Plain.{Plain}
 use Rattle.visit.proofs.Past.{past-none, plain-end, plain-bare, counted-lost, plain-ends}
-use Rattle.visit.proofs.Parents.{set-down-none}
-use Rattle.visit.proofs.Bodies.{followed-take, followed-one, followed-all, crowded-followed, seconds-stored}
+use Rattle.visit.proofs.Bodies.{followed-take, crowded-followed, seconds-stored}
 use Rattle.hash.specs.Bytes.{idBytes}
 
 -- ---- an answer as the code gives it

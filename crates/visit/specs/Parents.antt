@@ -6,7 +6,9 @@ use mathlib.Core.Bool.{true}
 use mathlib.Core.List.{List, [], map, List·Memᴰ}
 use lib.ListN.{length, take, getD}
 use lib.IntN.{ℤ, pos}
-use Rattle.hash.specs.Bytes.{Id, idBytes, setDown}
+use Rattle.hash.specs.Bytes.{Id, idBytes, at, setDown}
+use Rattle.object.specs.declared.ObjectId.{ObjectId}
+use Rattle.object.specs.Ids.{padded}
 use Rattle.object.specs.Header.{Header, header, most}
 use Rattle.odb.specs.Store.{storeOk}
 use Rattle.commitgraph.specs.Graph.{graphOk, layoutOf}
@@ -17,11 +19,9 @@ use Rattle.walk.specs.Lookup.{World, row, rowAt, worldOf, secondsFor}
 use Rattle.walk.specs.State.{Walk, State}
 use Rattle.walk.specs.Next.{visitAll, ending}
 use Rattle.walk.specs.Given.{joined}
-use Rattle.reading.specs.declared.body.BodyEnd.the-variants.{Whole}
-use Rattle.reading.specs.Body.{endOf, refusalOf}
+use Rattle.reading.specs.Body.{refusalOf, parentIdAt}
 use Rattle.state.specs.declared.Record.{Record}
 use Rattle.state.specs.Reads.{Memory, Shape}
-use Rattle.visit.specs.declared.body.BodyRead.{BodyRead}
 use Rattle.visit.specs.declared.body.BodyVisited.{BodyVisited}
 use Rattle.visit.specs.Link.{GoesBy, Ready, Went, Visits}
 use Rattle.visit.specs.Plain.{Past}
@@ -56,33 +56,29 @@ pub record VisitsRow (excluded : List ℕ) (settings : Settings) (g : List ℕ) 
 abbrev pub stored : World → List Id → List (Id × ℤ)
 stored w l = map (λ x. (x, secondsFor w x)) l
 
--- parent k of the body d
-pub record VisitsBodyParent (excluded : List ℕ) (settings : Settings) (store d : List ℕ) (k : ℕ) (r : Record) (m m′ : Memory) (b b′ : List ℕ) (r′ : Record) : Type 0 where
-  pub right : storeOk idBytes store ≡ true → (g : List ℕ) → header idBytes d .tree ≡ true → k < length (header idBytes d .ids)
+-- the first n ids of the header h stand end to end at the start of b, where b has room for as many as may be
+pub record Stand (h : Header) (n : ℕ) (b : List ℕ) : Type 0 where
+  pub each : 5120 ≤ length b → (k : ℕ) → k < n → at b (idBytes * k) idBytes ≡ getD (h .ids) k []
+
+-- the id of parent k of the body d by value: what stands at its place in b, where b has that room; else that of its line
+pub record GivesId (d b : List ℕ) (k : ℕ) (r : ObjectId) : Type 0 where
+  pub there : 5120 ≤ length b → r .bytes ≡ padded (at b (idBytes * k) idBytes)
+  pub read : length b < 5120 → r .bytes ≡ parentIdAt d k
+
+-- parent k of the body d, of which n stand in b
+pub record VisitsBodyParent (excluded : List ℕ) (settings : Settings) (store d b : List ℕ) (k : ℕ) (r : Record) (m m′ : Memory) (r′ : Record) : Type 0 where
+  pub right : storeOk idBytes store ≡ true → (g : List ℕ) → header idBytes d .tree ≡ true → (n : ℕ) → n ≤ length (header idBytes d .ids) → Stand (header idBytes d) n b → k < n
       → Visits excluded settings r m m′ (getD (header idBytes d .ids) k []) (secondsFor (worldOf store g) (getD (header idBytes d .ids) k [])) r′
-      × (b′ ≡ setDown b (idBytes * k) (getD (header idBytes d .ids) k []))
-  pub past : Past (k + 1) b b′
 
--- the first n parents of the body d
-pub record VisitsParents (excluded : List ℕ) (settings : Settings) (store d : List ℕ) (n : ℕ) (r : Record) (m m′ : Memory) (b b′ : List ℕ) (r′ : Record) : Type 0 where
-  pub right : storeOk idBytes store ≡ true → (g : List ℕ) → n ≤ length (header idBytes d .ids) → VisitsAll excluded settings r m m′ b b′ (stored (worldOf store g) (take n (header idBytes d .ids))) r′
-  pub past : Past n b b′
+-- the parents ps, each with its seconds, are visited
+pub record VisitsEach (excluded : List ℕ) (settings : Settings) (r : Record) (m m′ : Memory) (ps : List (Id × ℤ)) (r′ : Record) : Type 0 where
+  pub went : (v : Walk) (sh : Shape) (st : State) (u : List Id) (n : ℕ) → GoesBy v sh excluded settings → Ready sh r m st u (length ps + n) → ((p : Id × ℤ) → List·Memᴰ p ps → List·Memᴰ (p .0) u)
+      → Went sh m r′ m′ (visitAll v st ps) u n
 
--- "save where First has stopped": the first parent alone, and how the reading of a header with a good tree line ends
-pub record EndsFirst (h : Header) (r : BodyRead) : Type 0 where
-  pub parents : h .tree ≡ true → r .parents ≡ length (take 1 (h .ids))
-  pub stopped : h .tree ≡ true → 0 < length (h .ids) → r .ends ≡ Whole
-  pub ends : h .tree ≡ true → length (h .ids) ≡ 0 → r .ends ≡ endOf h
-
--- all parents
-pub record EndsAll (h : Header) (r : BodyRead) : Type 0 where
-  pub parents : h .tree ≡ true → r .parents ≡ length (h .ids)
-  pub ends : h .tree ≡ true → r .ends ≡ endOf h
-
--- the parents that the mode follows, and why the header is refused
-pub record ReadsBody (settings : Settings) (h : Header) (r : BodyRead) : Type 0 where
-  pub parents : r .parents ≡ length (followed settings (h .ids))
-  pub ends : refusalOf (r .ends) ≡ ending settings h
+-- the first n parents of the body d, which stand in b
+pub record VisitsParents (excluded : List ℕ) (settings : Settings) (store d b : List ℕ) (n : ℕ) (r : Record) (m m′ : Memory) (r′ : Record) : Type 0 where
+  pub right : storeOk idBytes store ≡ true → (g : List ℕ) → n ≤ length (header idBytes d .ids) → Stand (header idBytes d) n b
+      → VisitsEach excluded settings r m m′ (stored (worldOf store g) (take n (header idBytes d .ids))) r′
 
 -- the parents of a body with the header h that the mode follows, and why the header is refused
 pub record VisitsBody (excluded : List ℕ) (settings : Settings) (store : List ℕ) (h : Header) (r : Record) (m m′ : Memory) (b b′ : List ℕ) (a : BodyVisited) : Type 0 where

@@ -1,8 +1,8 @@
 // The parents of a commit from the store.
 use crate::link::insert_into_seen_and_queue_stored;
 use crate::link::only_first;
-use crate::row::set_parent;
 use hash::Kind;
+use object::ObjectId;
 use odb::Located;
 use reading::BodyEnd;
 use state::Record;
@@ -11,14 +11,8 @@ ghost use Rattle.object.specs.Header.{header};
 ghost use Rattle.odb.specs.Lookup.{partOf};
 ghost use Rattle.odb.specs.declared.Located.the-variants.{Body};
 ghost use Rattle.state.specs.Steps.{mem};
-ghost use Rattle.visit.specs.Parents.{VisitsBodyParent, VisitsParents, EndsFirst, EndsAll, ReadsBody, VisitsBody};
+ghost use Rattle.visit.specs.Parents.{GivesId, VisitsBodyParent, VisitsParents, VisitsBody};
 ghost use Rattle.hash.specs.Bytes.{idBytes};
-
-// How many parents of a body are followed, and how its reading ends.
-pub struct BodyRead {
-    pub parents: usize,
-    pub ends: BodyEnd,
-}
 
 // The parents of a body that were visited, how many they are, and how its reading ended.
 pub struct BodyVisited {
@@ -27,60 +21,20 @@ pub struct BodyVisited {
     pub ends: BodyEnd,
 }
 
-// The most parents of a commit.
-const MOST_PARENTS: usize = 256;
+// The bytes of as many ids as a commit may have parents.
+const PARENTS_ROOM: usize = 5120;
 
-// The first parent alone: the reading stops after it.
-fn first_parent(body: &[u8]) -> BodyRead
-    ensures { λ r. ⌜ EndsFirst (header idBytes (now (body .entry))) r ⌝ }
+// The id of parent k of a body whose ids were set down: it stands in `parents`, where that has room for as many as may be; else its line is read again.
+fn parent_id(body: &[u8], parents: &[u8], k: usize) -> ObjectId
+    ensures { λ r. ⌜ GivesId (now (body .entry)) (now (parents .entry)) k r ⌝ }
 {
-    let step = reading::body_step(body, 0);
-    if step.taken {
-        return BodyRead {
-            parents: 1,
-            ends: BodyEnd::Whole,
-        };
+    if parents.len() < PARENTS_ROOM {
+        return reading::body_parent(body, k);
     }
-    let ends = step.ends;
-    BodyRead { parents: 0, ends }
+    object::id_of(hash::nth(Kind::Sha1, parents, k))
 }
 
-// All parents of a body with a good tree line.
-fn all_parents(body: &[u8]) -> BodyRead
-    ensures { λ r. ⌜ EndsAll (header idBytes (now (body .entry))) r ⌝ }
-{
-    let mut k = 0;
-    while k <= MOST_PARENTS {
-        let step = reading::body_step(body, k);
-        if !step.taken {
-            let ends = step.ends;
-            return BodyRead { parents: k, ends };
-        }
-        k += 1;
-    }
-    BodyRead {
-        parents: 0,
-        ends: BodyEnd::Crowded,
-    }
-}
-
-// How many parents of a body are followed, and how its reading ends.
-fn read_body(body: &[u8], settings: Settings) -> BodyRead
-    ensures { λ r. ⌜ ReadsBody settings (header idBytes (now (body .entry))) r ⌝ }
-{
-    if !reading::body_tree_ok(body) {
-        return BodyRead {
-            parents: 0,
-            ends: BodyEnd::Unreadable,
-        };
-    }
-    if only_first(settings) {
-        return first_parent(body);
-    }
-    all_parents(body)
-}
-
-// Sets down and visits parent k of a body.
+// Visits parent k of a body whose ids were set down.
 fn visit_body_parent(
     r: Record,
     store: &[u8],
@@ -90,19 +44,27 @@ fn visit_body_parent(
     marks: &mut [u8],
     times: &mut [i64],
     line: &mut [u32],
-    parents: &mut [u8],
+    parents: &[u8],
     excluded: &[u8],
     settings: Settings,
 ) -> Record
-    ensures { λ a. ⌜ VisitsBodyParent (now (excluded .entry)) settings (now (store .entry)) (now (body .entry)) k r (mem (now (names .entry)) (now (marks .entry)) (now (times .entry)) (now (line .entry))) (mem (now (names .exit)) (now (marks .exit)) (now (times .exit)) (now (line .exit))) (now (parents .entry)) (now (parents .exit)) a ⌝ }
+    ensures { λ a. ⌜ VisitsBodyParent (now (excluded .entry)) settings (now (store .entry)) (now (body .entry)) (now (parents .entry)) k r (mem (now (names .entry)) (now (marks .entry)) (now (times .entry)) (now (line .entry))) (mem (now (names .exit)) (now (marks .exit)) (now (times .exit)) (now (line .exit))) a ⌝ }
 {
-    let read = reading::body_parent(body, k);
-    let id = object::id_slice(Kind::Sha1, &read.bytes);
-    set_parent(parents, k, id);
-    insert_into_seen_and_queue_stored(r, names, marks, times, line, excluded, settings, store, id)
+    let id = parent_id(body, parents, k);
+    insert_into_seen_and_queue_stored(
+        r,
+        names,
+        marks,
+        times,
+        line,
+        excluded,
+        settings,
+        store,
+        object::id_slice(Kind::Sha1, &id.bytes),
+    )
 }
 
-// Sets down and visits the first n parents of a body.
+// Visits the first n parents of a body, whose ids were set down.
 fn visit_parents(
     r: Record,
     store: &[u8],
@@ -112,11 +74,11 @@ fn visit_parents(
     marks: &mut [u8],
     times: &mut [i64],
     line: &mut [u32],
-    parents: &mut [u8],
+    parents: &[u8],
     excluded: &[u8],
     settings: Settings,
 ) -> Record
-    ensures { λ a. ⌜ VisitsParents (now (excluded .entry)) settings (now (store .entry)) (now (body .entry)) n r (mem (now (names .entry)) (now (marks .entry)) (now (times .entry)) (now (line .entry))) (mem (now (names .exit)) (now (marks .exit)) (now (times .exit)) (now (line .exit))) (now (parents .entry)) (now (parents .exit)) a ⌝ }
+    ensures { λ a. ⌜ VisitsParents (now (excluded .entry)) settings (now (store .entry)) (now (body .entry)) (now (parents .entry)) n r (mem (now (names .entry)) (now (marks .entry)) (now (times .entry)) (now (line .entry))) (mem (now (names .exit)) (now (marks .exit)) (now (times .exit)) (now (line .exit))) a ⌝ }
 {
     let mut at = r;
     let mut k = 0;
@@ -139,7 +101,7 @@ fn visit_parents(
     at
 }
 
-// Sets down and visits the parents of the body from start to end, the first alone where only that is followed.
+// Sets down the parents of the body from start to end, the first alone where only that is followed, and then visits them.
 pub fn visit_body(
     r: Record,
     store: &[u8],
@@ -156,7 +118,7 @@ pub fn visit_body(
     ensures { λ a. ⌜ VisitsBody (now (excluded .entry)) settings (now (store .entry)) (header idBytes (partOf (now (store .entry)) (Body start end))) r (mem (now (names .entry)) (now (marks .entry)) (now (times .entry)) (now (line .entry))) (mem (now (names .exit)) (now (marks .exit)) (now (times .exit)) (now (line .exit))) (now (parents .entry)) (now (parents .exit)) a ⌝ }
 {
     let body = odb::body(store, Located::Body { start, end });
-    let read = read_body(body, settings);
+    let read = reading::read_body(Kind::Sha1, body, only_first(settings), parents);
     let at = visit_parents(
         r,
         store,

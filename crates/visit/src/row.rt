@@ -13,7 +13,7 @@ ghost use Rattle.visit.specs.Parents.{SetsParent, VisitsRowParent, Visit
 const MOST_PARENTS: usize = 256;
 
 // Sets down the id of parent k in the 20 bytes that are its place; a longer one is not set down.
-pub(crate) fn set_parent(parents: &mut [u8], k: usize, id: &[u8])
+fn set_parent(parents: &mut [u8], k: usize, id: &[u8])
     ensures { λ r. ⌜ SetsParent k (now (id .entry)) (now (parents .entry)) (now (parents .exit)) ⌝ }
 {
     if k < MOST_PARENTS && id.len() <= hash::width(Kind::Sha1) {

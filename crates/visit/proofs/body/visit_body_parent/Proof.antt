@@ -1,20 +1,14 @@
--- `visit::body::visit_body_parent` meets its contract: the id is that of the line, and its seconds are in the store. Assumes nothing.
+-- `visit::body::visit_body_parent` meets its contract: the id is the header's, and its seconds are in the store. Assumes nothing.
 use Rattle.visit.proofs.Bodies.{body-parent}
-use mathlib.Core.Path.{_∙_, ap}
-use Rattle.hash.specs.Bytes.{idBytes}
-use Rattle.object.specs.Ids.{idIn}
 use borrow.Author.Needs.{needs}
 use Rattle.visit.proofs.body.visit_body_parent.Statement.{statement}
 use Rattle.visit.proofs.body.visit_body_parent.Tie as tie
 
-body-parent-requires : tie.Need-body-parent-requires
-body-parent-requires c κs = search needs
+parent-id-requires : tie.Need-parent-id-requires
+parent-id-requires c κs = search needs
 
 id-slice-requires : tie.Need-id-slice-requires
 id-slice-requires c κs = search needs
-
-set-parent-requires : tie.Need-set-parent-requires
-set-parent-requires c κs = search needs
 
 insert-into-seen-and-queue-stored-requires : tie.Need-insert-into-seen-and-queue-stored-requires
 insert-into-seen-and-queue-stored-requires c κs = search needs
@@ -31,23 +25,18 @@ same-length-3 c = search needs
 same-length-4 : tie.Need-same-length-4
 same-length-4 c = search needs
 
-same-length-5 : tie.Need-same-length-5
-same-length-5 c = search needs
-
 returns : tie.Need-returns
-returns c = body-parent (c .before .before .before .before .before .before .before .before .before .before .before .before .before .before .before .before .id-slice .ensures ∙ ap (idIn idBytes) (c .before .before .before .before .before .before .before .before .before .before .before .before .before .before .before .before .before .before .before .body-parent .ensures)) (c .before .before .before .before .before .before .before .before .before .before .before .before .before .before .set-parent .ensures) (c .before .before .before .before .before .before .before .insert-into-seen-and-queue-stored .ensures)
+returns c = body-parent (c .before .before .before .before .before .before .before .before .before .before .before .before .before .before .before .parent-id .ensures) (c .before .before .before .before .before .before .before .before .id-slice .ensures) (c .before .before .before .before .before .before .before .insert-into-seen-and-queue-stored .ensures)
 
 pub visit-body-parent-spec : {M : Type 1} → statement M
 visit-body-parent-spec =
     tie.close
     (tie.spec
-    body-parent-requires
+    parent-id-requires
     id-slice-requires
-    set-parent-requires
     insert-into-seen-and-queue-stored-requires
     same-length
     same-length-2
     same-length-3
     same-length-4
-    same-length-5
     returns)
