@@ -68,20 +68,10 @@ fn set_level(levels: &mut [u32], slot: u32, level: Level)
     }
 }
 
-fn set_time(times: &mut [i64], slot: u32, time: Seconds)
-    ensures { λ r. ⌜ now (times .exit) ≡ set (now (times .entry)) slot (time .0) ⌝ }
-{
-    let i = slot as usize;
-    let t = time.0;
-    if i < times.len() {
-        times[i] = t;
-    }
-}
-
 // Sets down a commit's generation and seconds in a slot; past the end nothing is changed.
 pub fn set_pair(levels: &mut [u32], times: &mut [i64], slot: u32, pair: GenThenTime)
     ensures { λ r. ⌜ (now (levels .exit) ≡ set (now (levels .entry)) slot (pair .generation .0)) × (now (times .exit) ≡ set (now (times .entry)) slot (pair .time .0)) ⌝ }
 {
     set_level(levels, slot, pair.generation);
-    set_time(times, slot, pair.time);
+    revwalk::set_seconds(times, slot, pair.time);
 }

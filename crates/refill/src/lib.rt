@@ -86,21 +86,12 @@ pub fn skip_painting(r: Record) -> Record
     painted_with(r, r.queue, r.failed)
 }
 
-// Sets down the seconds of a slot; past the end nothing is changed.
-fn set_time(times: &mut [i64], slot: usize, s: i64)
-    ensures { λ r. ⌜ now (times .exit) ≡ set (now (times .entry)) slot s ⌝ }
-{
-    if slot < times.len() {
-        times[slot] = s;
-    }
-}
-
 // The seconds of one slot are read again from the store.
-fn read_slot(store: &[u8], names: &[u8], times: &mut [i64], slot: usize)
+fn read_slot(store: &[u8], names: &[u8], times: &mut [i64], slot: u32)
     ensures { λ r. ⌜ RereadsSlot (now (store .entry)) (now (names .entry)) slot (now (times .entry)) (now (times .exit)) ⌝ }
 {
-    let s = reading::seconds_for(store, table::id_of(Kind::Sha1, names, slot));
-    set_time(times, slot, s.0);
+    let s = reading::seconds_for(store, table::id_of(Kind::Sha1, names, wide(slot)));
+    revwalk::set_seconds(times, slot, s);
 }
 
 // How many slots wait with seconds.
@@ -117,8 +108,7 @@ fn read_again(q: Queue, store: &[u8], names: &[u8], times: &mut [i64], line: &[u
     let n = timed_count(q);
     let mut i = 0;
     while i < n {
-        let slot = wide(queue::slot_at(q, line, i));
-        read_slot(store, names, times, slot);
+        read_slot(store, names, times, queue::slot_at(q, line, i));
         i += 1;
     }
 }

@@ -128,14 +128,12 @@ fn with_queue(r: Record, queue: Queue, kept: bool, admitted: usize) -> Record
     }
 }
 
-// Sets down the seconds of a slot, in a queue by time; past the end nothing is changed.
-fn set_time(timed: bool, times: &mut [i64], slot: usize, s: i64)
-    ensures { λ r. ⌜ now (times .exit) ≡ cond timed (set (now (times .entry)) slot s) (now (times .entry)) ⌝ }
+// Sets down the seconds of a slot, in a queue by time.
+fn set_time(timed: bool, times: &mut [i64], slot: u32, s: Seconds)
+    ensures { λ r. ⌜ now (times .exit) ≡ cond timed (set (now (times .entry)) slot (s .0)) (now (times .entry)) ⌝ }
 {
     if timed {
-        if slot < times.len() {
-            times[slot] = s;
-        }
+        revwalk::set_seconds(times, slot, s);
     }
 }
 
@@ -151,7 +149,7 @@ pub fn wait(r: Record, times: &mut [i64], line: &mut [u32], slot: usize, s: Seco
     if MOST < admitted {
         return r;
     }
-    set_time(q.timed, times, slot, s.0);
+    set_time(q.timed, times, slot as u32, s);
     let longer = queue::push(q, line, times, slot as u32);
     with_queue(r, longer, r.kept, admitted + 1)
 }
@@ -160,19 +158,6 @@ fn wide(x: u32) -> usize
     ensures { λ r. ⌜ r ≡ x ⌝ }
 {
     x as usize
-}
-
-// The seconds of a slot, 0 past the end.
-fn time_of(times: &[i64], slot: usize) -> i64
-    ensures { λ r. ⌜ r ≡ getD (now (times .entry)) slot (pos 0) ⌝ }
-{
-    if slot < times.len() { times[slot] } else { 0 }
-}
-
-fn seconds_of(times: &[i64], slot: usize) -> Seconds
-    ensures { λ r. ⌜ r .0 ≡ getD (now (times .entry)) slot (pos 0) ⌝ }
-{
-    Seconds(time_of(times, slot))
 }
 
 // Takes the first commit out of the queue.
@@ -191,7 +176,7 @@ pub fn pop(r: Record, names: &[u8], times: &[i64], line: &mut [u32]) -> Next
     }
     let slot = wide(p.slot);
     let id = object::id_of(table::id_of(Kind::Sha1, names, slot));
-    let seconds = seconds_of(times, slot);
+    let seconds = revwalk::seconds_of(times, p.slot);
     let rest = with_queue(r, p.queue, r.kept, r.admitted);
     Next {
         found: true,

@@ -1,4 +1,5 @@
 -- `refill::read_again` meets its contract: the first places of the queue have the seconds of their ids. Assumes nothing.
+use mathlib.Core.Path.{refl}
 use Prim.Native.Nat.{_-_}
 use Rattle.refill.proofs.Rereading.{Rereading, reread-none, reread-more, reread-all}
 use borrow.Author.Needs.{needs}
@@ -20,9 +21,6 @@ loop-holds c = reread-none (c .timed-count .ensures)
 slot-at-requires : tie.Need-slot-at-requires Inv-loop μ-loop
 slot-at-requires c κs = search needs
 
-wide-requires : tie.Need-wide-requires Inv-loop μ-loop
-wide-requires c κs = search needs
-
 read-slot-requires : tie.Need-read-slot-requires Inv-loop μ-loop
 read-slot-requires c κs = search needs
 
@@ -33,7 +31,7 @@ loop-less : tie.Need-loop-less Inv-loop μ-loop
 loop-less c = search needs
 
 loop-again : tie.Need-loop-again Inv-loop μ-loop
-loop-again c = reread-more (c .before .before .before .before .before .before .loop .inv) (search needs) (c .before .before .before .before .slot-at .ensures) (c .before .before .before .wide .ensures) (c .before .read-slot .ensures)
+loop-again c = reread-more (c .before .before .before .before .before .loop .inv) (search needs) (c .before .before .slot-at .ensures) refl (c .before .read-slot .ensures)
 
 same-length : tie.Need-same-length Inv-loop μ-loop
 same-length c = c .before .loop .inv .long
@@ -50,7 +48,6 @@ read-again-spec =
     timed-count-requires
     loop-holds
     slot-at-requires
-    wide-requires
     read-slot-requires
     add-i
     loop-less

@@ -1,8 +1,5 @@
 -- `state::pop` meets its contract: the slot that the queue hands out, with its id and seconds. Assumes nothing.
 use mathlib.Core.Path.{_∙_, ap}
-use Prim.Native.Nat.{ℕ}
-use lib.ListN.{getD}
-use lib.IntN.{pos}
 use Rattle.hashtable.specs.Table.{idOf}
 use Rattle.object.specs.Ids.{padded}
 use Rattle.state.proofs.Popping.{pops-none, pops-some}
@@ -47,7 +44,7 @@ returns-2 c =
     rw (c .with-queue .ensures)
     (pops-some (p .pop .ensures) (w .before .if1 .left)
     (c .before .before .id-of2 .ensures ∙ ap padded (i .id-of .ensures ∙ ap (idOf idBytes (x .names .now)) (w .wide .ensures)))
-    (c .before .seconds-of .ensures ∙ ap (λ (k : ℕ). getD (x .times .now) k (pos 0)) (w .wide .ensures)))
+    (c .before .seconds-of .ensures))
 
 pub pop-spec : {M : Type 1} → statement M
 pop-spec =

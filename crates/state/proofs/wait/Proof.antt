@@ -1,12 +1,6 @@
 -- `state::wait` meets its contract: the seconds are set down, and then the slot is pushed; where a number is too large nothing is changed.
 -- Assumes nothing.
-use mathlib.Core.Path.{_∙_, ap}
-use mathlib.Core.Bool.{cond}
 use native.Mathlib.Omega.{arith}
-use lib.ListN.{set}
-use lib.IntN.{ℤ}
-use mir.Syntax.{w64}
-use mir.Facts.{toZ-ofZ}
 use Rattle.state.proofs.Queueing.{waits-pushed, waits-not}
 use borrow.Author.Needs.{needs}
 use Rattle.state.proofs.wait.Statement.{statement}
@@ -20,6 +14,9 @@ returns-2 c = waits-not (λ sh l m b. omega (arith, c .if2 .taken))
 
 set-time-requires : tie.Need-set-time-requires
 set-time-requires c κs = search needs
+
+cast-set-time : tie.Need-cast-set-time
+cast-set-time c = search needs
 
 cast-push : tie.Need-cast-push
 cast-push c = search needs
@@ -43,12 +40,8 @@ returns-3 : tie.Need-returns-3
 returns-3 c =
     let p = c .before .before .before in
     let t = p .before .before .before .before in
-    let x = t .before .before .before .before .before .before .before .args in
-    let v = toZ-ofZ {w = w64} {z = x .s .0} (record { sfits = t .before .struct-told .given .0 .1 }) in
-    rw (c .with-queue .ensures)
-    (waits-pushed (x .times .now) (x .slot) (x .s .0)
-    (t .set-time .ensures ∙ ap (λ (z : ℤ). cond (x .r .queue .timed) (set (x .times .now) (x .slot) z) (x .times .now)) v)
-    (p .push .ensures))
+    let x = t .before .before .before .before .before .before .args in
+    rw (c .with-queue .ensures) (waits-pushed (x .times .now) (x .slot) (x .s .0) (t .set-time .ensures) (p .push .ensures))
 
 pub wait-spec : {M : Type 1} → statement M
 wait-spec =
@@ -56,6 +49,7 @@ wait-spec =
     (tie.spec
     returns
     returns-2
+    cast-set-time
     set-time-requires
     cast-push
     push-requires
