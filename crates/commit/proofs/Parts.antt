@@ -1,5 +1,5 @@
--- What `part` gives of an answer of `find`: the row of the commit-graph file, or the body in the commit store. The row's place is cut off at
--- the end of the file, as the row itself is. Assumes nothing.
+-- What `part` and its two arms give of an answer of `find`: the row of the commit-graph file, or the body in the commit store. The row's place
+-- is cut off at the end of the file, as the row itself is. Assumes nothing.
 use Prim.Native.Nat.{ℕ, _+_, _*_, _≤_}
 use mathlib.Core.Path.{_≡_, refl, sym, _∙_, ap}
 use mathlib.Core.Option.{some}
@@ -13,7 +13,7 @@ use Rattle.odb.proofs.Lookup.{partOf-yes}
 use Rattle.commitgraph.specs.Graph.{rowSize, rowIn, rowStart, rowEnd}
 use Rattle.commitgraph.specs.declared.Layout.{Layout}
 use Rattle.commitgraph.proofs.RowsPlace.{at-ends}
-use Rattle.commit.specs.Find.{inGraph, inStore, FindsCommit, fromTo, partOf}
+use Rattle.commit.specs.Find.{inGraph, inStore, FindsCommit, fromTo, partInStore, partOf}
 use Rattle.commit.specs.declared.Cache.{Cache}
 use Rattle.commit.specs.declared.Cache.the-variants.{Graph}
 use Rattle.commit.specs.declared.Either.{Either}
@@ -48,3 +48,8 @@ module _ {w : ℕ} {c : Cache} {g s : List ℕ} {x : Id} {r : Either} (f : Finds
   found-body a e q =
       let t = f .stored a e q in
       (t .0, t .1, ap (λ (i : ℕ). fromTo s i e) (t .2) ∙ ap (fromTo s (bodyStart w s (t .0))) (t .3) ∙ part-body w g s (t .0))
+
+  -- a body that was found: the slice of it is the one that the store itself gives, since what is found lies inside the store
+  pub found-slice : (a e : ℕ) → r ≡ CommitRefIter a e → partInStore (CommitRefIter a e) s ≡ partOfStore s (Body a e)
+  unfolding partInStore partOf
+  found-slice a e q = let i = f .inside a e q in part-store g s a e (i .0) (i .1)

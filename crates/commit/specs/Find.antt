@@ -67,6 +67,18 @@ pub record FindsCommit (w : ℕ) (c : Cache) (g s : List ℕ) (x : Id) (r : Eith
 abbrev pub fromTo : List ℕ → ℕ → ℕ → List ℕ
 fromTo b a e = at b a (e - a)
 
+-- the row of the commit-graph file that an answer names, empty where it names none there
+unfoldable pub partInGraph : Either → List ℕ → List ℕ
+partInGraph (CachedCommit p a e) g = fromTo g a e
+partInGraph (CommitRefIter a e) g = []
+partInGraph Absent g = []
+
+-- the body in the commit store that an answer names, likewise
+unfoldable pub partInStore : Either → List ℕ → List ℕ
+partInStore (CachedCommit p a e) s = []
+partInStore (CommitRefIter a e) s = fromTo s a e
+partInStore Absent s = []
+
 -- the part of the file that an answer names, empty where it names none
 unfoldable pub partOf : Either → List ℕ → List ℕ → List ℕ
 partOf (CachedCommit p a e) g s = fromTo g a e
@@ -74,5 +86,5 @@ partOf (CommitRefIter a e) g s = fromTo s a e
 partOf Absent g s = []
 
 unfoldable pub findAll : Unit {0}
-unfolding GoodCache BareCache rowOf foundIn foundAmong partOf
+unfolding GoodCache BareCache rowOf foundIn foundAmong partInGraph partInStore partOf
 findAll = tt

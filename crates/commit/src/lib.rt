@@ -6,7 +6,7 @@ use hash::Kind;
 use odb::Located;
 ghost use mathlib.Core.Path.{_≡_};
 ghost use Rattle.hash.specs.Bytes.{widthOf};
-ghost use Rattle.commit.specs.Find.{inGraph, inStore, FindsCommit, fromTo, partOf};
+ghost use Rattle.commit.specs.Find.{inGraph, inStore, FindsCommit, fromTo, partInGraph, partInStore, partOf};
 
 // The commit-graph file, where one is used: where its chunks stand. (In the Rust an Option of the file.)
 pub enum Cache {
@@ -15,7 +15,8 @@ pub enum Cache {
 }
 
 // Which file has a commit, and where: the position of its row in the commit-graph file, and the row's bytes; or the bytes of its body in
-// the commit store. Bytes are told by the first and the one after the last. (The Rust holds the references themselves; `part` gives them.)
+// the commit store. Bytes are told by the first and the one after the last. (The Rust holds the references themselves; `part_of_graph`,
+// `part_of_store` and `part` give them.)
 pub enum Either {
     CachedCommit {
         position: usize,
@@ -74,14 +75,36 @@ fn bytes(file: &[u8], start: usize, end: usize) -> &[u8]
     hash::part(file, start, end - start)
 }
 
-// The part of a file that an answer names: a row of the commit-graph file or a body of the commit store, itself and not a copy; empty
-// where it names none.
+// The row of the commit-graph file that an answer names: a part of the file itself and not a copy; empty where it names none there.
+pub fn part_of_graph(at: Either, graph: &[u8]) -> &[u8]
+    ensures { λ r. ⌜ now r ≡ partInGraph at (now (graph .entry)) ⌝ }
+{
+    match at {
+        Either::CachedCommit { start, end, .. } => bytes(graph, start, end),
+        Either::CommitRefIter { .. } => bytes(graph, 0, 0),
+        Either::Absent => bytes(graph, 0, 0),
+    }
+}
+
+// The body in the commit store that an answer names, likewise: the walk and the painting read a commit's body so.
+pub fn part_of_store(at: Either, store: &[u8]) -> &[u8]
+    ensures { λ r. ⌜ now r ≡ partInStore at (now (store .entry)) ⌝ }
+{
+    match at {
+        Either::CachedCommit { .. } => bytes(store, 0, 0),
+        Either::CommitRefIter { start, end } => bytes(store, start, end),
+        Either::Absent => bytes(store, 0, 0),
+    }
+}
+
+// The part of a file that an answer names: a row of the commit-graph file or a body of the commit store, whichever it is; empty where it
+// names none. Both files are lent for one time, as the part is one's or the other's.
 pub fn part<'a>(at: Either, graph: &'a [u8], store: &'a [u8]) -> &'a [u8]
     ensures { λ r. ⌜ now r ≡ partOf at (now (graph .entry)) (now (store .entry)) ⌝ }
 {
     match at {
-        Either::CachedCommit { start, end, .. } => bytes(graph, start, end),
-        Either::CommitRefIter { start, end } => bytes(store, start, end),
-        Either::Absent => bytes(store, 0, 0),
+        Either::CachedCommit { .. } => part_of_graph(at, graph),
+        Either::CommitRefIter { .. } => part_of_store(at, store),
+        Either::Absent => part_of_store(at, store),
     }
 }

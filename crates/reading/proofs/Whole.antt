@@ -88,9 +88,9 @@ row-is-read {c} {g} {s} {x} p a b t f =
 
 -- ---- a body
 
--- a reading q of a body's header
-pub body-commit : (a e : ℕ) {q : Reading} {b d : List ℕ} → q ≡ readingOf (header idBytes b) → b ≡ d → bodyCommit a e q ≡ bodyCommit a e (readingOf (header idBytes d))
-body-commit a e p f = ap (bodyCommit a e) (p ∙ ap (λ (c : List ℕ). readingOf (header idBytes c)) f)
+-- the commit of a body that is given by its bytes
+pub body-commit : {r : Commit} (a e : ℕ) {b d : List ℕ} → r ≡ bodyCommit a e (readingOf (header idBytes b)) → b ≡ d → r ≡ bodyCommit a e (readingOf (header idBytes d))
+body-commit a e p f = p ∙ ap (λ (c : List ℕ). bodyCommit a e (readingOf (header idBytes c))) f
 
 -- the commit m of the body from a to e, whose header reads as d and has n parents
 record BodyTold (a e n : ℕ) (d : Read) (m : Commit) : Type 0 where

@@ -32,8 +32,6 @@ use walk::Refusal;
 ghost use mathlib.Core.Path.{_≡_};
 ghost use Rattle.object.specs.Header.{header};
 ghost use Rattle.object.specs.Read.{readingOf};
-ghost use Rattle.odb.specs.Lookup.{partOf};
-ghost use Rattle.odb.specs.declared.Located.the-variants.{Body as BodyAt};
 ghost use Rattle.commitgraph.specs.Graph.{parentsIn};
 ghost use Rattle.reading.specs.Files.{cacheWith, layoutUnder};
 ghost use Rattle.reading.specs.Whole.{pairIn, rowCommit, bodyCommit, ReadsCommit, GivesParent};
@@ -106,11 +104,11 @@ fn row_commit(graph: &[u8], l: Layout, position: usize) -> Commit
     }
 }
 
-// The commit of a body.
-fn body_commit(store: &[u8], start: usize, end: usize) -> Commit
-    ensures { λ r. ⌜ r ≡ bodyCommit start end (readingOf (header idBytes (partOf (now (store .entry)) (BodyAt start end)))) ⌝ }
+// The commit of a body, which stands from start to end in the store.
+fn body_commit(body: &[u8], start: usize, end: usize) -> Commit
+    ensures { λ r. ⌜ r ≡ bodyCommit start end (readingOf (header idBytes (now (body .entry)))) ⌝ }
 {
-    match object::readable(Kind::Sha1, odb::body(store, Located::Body { start, end })) {
+    match object::readable(Kind::Sha1, body) {
         Reading::Readable { parents, seconds } => Commit::Body {
             start,
             end,
@@ -130,9 +128,14 @@ fn body_commit(store: &[u8], start: usize, end: usize) -> Commit
 pub fn read_commit(cache: Cache, graph: &[u8], store: &[u8], id: &[u8]) -> Commit
     ensures { λ r. ⌜ ReadsCommit cache (now (graph .entry)) (now (store .entry)) (now (id .entry)) r ⌝ }
 {
-    match commit::find(Kind::Sha1, cache, graph, store, id, 0) {
+    let at = commit::find(Kind::Sha1, cache, graph, store, id, 0);
+    match at {
         Either::CachedCommit { position, .. } => row_commit(graph, layout_of(cache), position),
-        Either::CommitRefIter { start, end } => body_commit(store, start, end),
+        Either::CommitRefIter { start, end } => body_commit(
+            commit::part_of_store(at, store),
+            start,
+            end,
+        ),
         Either::Absent => Commit::Failed(Refusal::CommitNotFound),
     }
 }

@@ -178,10 +178,10 @@ stored-ids : (w : World) (l : List Id) → map (λ p. p .0) (stored w l) ≡ l
 stored-ids w [] = refl
 stored-ids w (x ∷ l) = ap (λ (r : List Id). x ∷ r) (stored-ids w l)
 
-pub body-visited : {excluded : List ℕ} {settings : Settings} {store d : List ℕ} {r r′ : Record} {m m′ : Memory} {b b′ : List ℕ} {first : Bool} {a : BodyRead} {h : Header} → header idBytes d ≡ h → onlyFirst settings ≡ first
+pub body-visited : {excluded : List ℕ} {settings : Settings} {store d : List ℕ} {r r′ : Record} {m m′ : Memory} {b b′ : List ℕ} {first : Bool} {a : BodyRead} → onlyFirst settings ≡ first
     → length b′ ≡ length b → ReadsBody idBytes first (header idBytes d) b b′ a → VisitsParents excluded settings store d b′ (a .parents) r m m′ r′
-    → VisitsBody excluded settings store h r m m′ b b′ (record { after = r′; parents = a .parents; ends = a .ends })
-body-visited {excluded} {settings} {store} {d} {r} {r′} {m} {m′} {b} {b′} {first} {a} {h} q o same e v = subst (λ (k : Header). VisitsBody excluded settings store k r m m′ b b′ (record { after = r′; parents = a .parents; ends = a .ends })) q (record {
+    → VisitsBody excluded settings store (header idBytes d) r m m′ b b′ (record { after = r′; parents = a .parents; ends = a .ends })
+body-visited {excluded} {settings} {store} {d} {r} {r′} {m} {m′} {b} {b′} {first} {a} o same e v = record {
   parents = e .parents settings o;
   ends = e .ends settings o;
   right = λ ok g. subst (λ (k : List Id). VisitsAll excluded settings r m m′ b b′ (stored (worldOf store g) k) r′) taken (record {
@@ -189,7 +189,7 @@ body-visited {excluded} {settings} {store} {d} {r} {r′} {m} {m′} {b} {b′} 
     down = λ room. e .down room ∙ ap (λ (k : List Id). setDown b 0 (joined k)) (sym (stored-ids (worldOf store g) (take (a .parents) (header idBytes d .ids))));
   });
   past = record { same = e .past };
-})
+}
   where
     few : a .parents ≤ length (header idBytes d .ids)
     few = omega (arith, e .parents settings o, followed-take settings (header idBytes d .ids) .1)

@@ -38,7 +38,8 @@ use Rattle.walk.proofs.Take.{followed-sub, followed-map, mem-map, with-seconds}
 use Rattle.reading.specs.Body.{refusalOf}
 use Rattle.reading.specs.declared.body.BodyEnd.{BodyEnd}
 use Rattle.reading.specs.declared.body.BodyEnd.the-variants.{Whole, Unreadable, Crowded}
-use Rattle.commit.specs.Find.{GoodCache, foundIn, FindsCommit}
+use Rattle.commit.specs.Find.{GoodCache, foundIn, FindsCommit, partInStore}
+use Rattle.commit.proofs.Parts.{found-slice}
 use Rattle.commit.specs.declared.Cache.{Cache}
 use Rattle.commit.specs.declared.Cache.the-variants.{Graph}
 use Rattle.commit.specs.declared.Either.{Either}
@@ -262,10 +263,12 @@ module _ {excluded : List ℕ} {settings : Settings} {store : List ℕ} {r : Rec
             gives-on (pop-kept (d .reads) p)
             (subst (λ (x : Id). Gives sh (mem names marks times line′) m′ b b′ a (fromBody v (withQueue l st) x (y .1) (v .world .store x))) (k .taken .id) (w g ok v sh st u y l by own k j z))
 
-    pub stored-body : {m′ : Memory} {b′ : List ℕ} {a : Taken} (y e : ℕ) → o ≡ Body y e
-        → TakesBody excluded settings store (header idBytes (partOf store (Body y e))) (n .rest) (idIn idBytes (n .id .bytes)) (n .seconds .0) (mem names marks times line′) m′ b b′ a
+    pub stored-body : {m′ : Memory} {b′ : List ℕ} {a : Taken} {d : List ℕ} (y e : ℕ) → o ≡ Body y e → d ≡ partOf store o
+        → TakesBody excluded settings store (header idBytes d) (n .rest) (idIn idBytes (n .id .bytes)) (n .seconds .0) (mem names marks times line′) m′ b b′ a
         → TakesStored excluded settings store r (mem names marks times line) m′ b b′ a
-    stored-body {m′} {b′} {a} y e i t =
+    stored-body {m′} {b′} {a} {d} y e i is whole =
+        let t = subst (λ (c : List ℕ). TakesBody excluded settings store (header idBytes c) (n .rest) (idIn idBytes (n .id .bytes)) (n .seconds .0) (mem names marks times line′) m′ b b′ a)
+        (is ∙ ap (partOf store) i) whole in
         from-store
         (λ g ok v sh st u c l by own k j z.
         let there : v .world .store (idIn idBytes (n .id .bytes)) ≡ some (header idBytes (partOf store (Body y e))) = ap (λ (q : World). q .store (idIn idBytes (n .id .bytes))) own ∙ located-body g y e at i refl ok in
@@ -397,11 +400,14 @@ module _ {excluded : List ℕ} {settings : Settings} {graph store : List ℕ} {r
       ap (v .world .graph) (sym (k .taken .id)) ∙ row-own v graph store (r .kept) (idIn idBytes (n .id .bytes)) (rowAt graph at) own kept (file .says) in
       (rowAt graph at, file .says, t .right ok (file .file) lay v sh st u y l by own k (same ∙ kept) says i j h))
 
-  pub next-body : {m′ : Memory} {b′ : List ℕ} {a : Taken} (s z : ℕ) → e ≡ CommitRefIter s z
-      → TakesBody excluded settings store (header idBytes (partOf store (Body s z))) (n .rest) (idIn idBytes (n .id .bytes)) (n .seconds .0) (mem names marks times line′) m′ b b′ a
+  pub next-body : {m′ : Memory} {b′ : List ℕ} {a : Taken} {d : List ℕ} (s z : ℕ) → e ≡ CommitRefIter s z → d ≡ partInStore e store
+      → TakesBody excluded settings store (header idBytes d) (n .rest) (idIn idBytes (n .id .bytes)) (n .seconds .0) (mem names marks times line′) m′ b b′ a
       → TakesNext excluded settings graph store r (mem names marks times line) m′ b b′ a
   unfolding takeRow takeStore
-  next-body {m′} {b′} {a} s z q t = found-next (λ v sh st u y l ok good lay told by own same k i j h.
+  next-body {m′} {b′} {a} {d} s z q is whole =
+      let t = subst (λ (c : List ℕ). TakesBody excluded settings store (header idBytes c) (n .rest) (idIn idBytes (n .id .bytes)) (n .seconds .0) (mem names marks times line′) m′ b b′ a)
+      (is ∙ ap (λ (h : Either). partInStore h store) q ∙ found-slice found s z q) whole in
+      found-next (λ v sh st u y l ok good lay told by own same k i j h.
       let x : Id = idIn idBytes (n .id .bytes) in
       let c = found-body (cacheOf graph (r .kept)) graph store x s z ok (sym told ∙ q) in
       let there : v .world .store x ≡ some (header idBytes (partOf store (Body s z))) = ap (λ (w : World). w .store x) own ∙ sym (same-store (cacheOf graph (r .kept)) graph store x) ∙ c .1 in (

@@ -3,13 +3,10 @@ use crate::link::insert_into_seen_and_queue_stored;
 use crate::link::only_first;
 use hash::Kind;
 use object::ObjectId;
-use odb::Located;
 use reading::BodyEnd;
 use state::Record;
 use walk::Settings;
 ghost use Rattle.object.specs.Header.{header};
-ghost use Rattle.odb.specs.Lookup.{partOf};
-ghost use Rattle.odb.specs.declared.Located.the-variants.{Body};
 ghost use Rattle.state.specs.Steps.{mem};
 ghost use Rattle.visit.specs.Parents.{GivesId, VisitsBodyParent, VisitsParents, VisitsBody};
 ghost use Rattle.hash.specs.Bytes.{idBytes};
@@ -101,12 +98,11 @@ fn visit_parents(
     at
 }
 
-// Sets down the parents of the body from start to end, the first alone where only that is followed, and then visits them.
+// Sets down the parents of a body in the store, the first alone where only that is followed, and then visits them.
 pub fn visit_body(
     r: Record,
     store: &[u8],
-    start: usize,
-    end: usize,
+    body: &[u8],
     names: &mut [u8],
     marks: &mut [u8],
     times: &mut [i64],
@@ -115,9 +111,8 @@ pub fn visit_body(
     excluded: &[u8],
     settings: Settings,
 ) -> BodyVisited
-    ensures { λ a. ⌜ VisitsBody (now (excluded .entry)) settings (now (store .entry)) (header idBytes (partOf (now (store .entry)) (Body start end))) r (mem (now (names .entry)) (now (marks .entry)) (now (times .entry)) (now (line .entry))) (mem (now (names .exit)) (now (marks .exit)) (now (times .exit)) (now (line .exit))) (now (parents .entry)) (now (parents .exit)) a ⌝ }
+    ensures { λ a. ⌜ VisitsBody (now (excluded .entry)) settings (now (store .entry)) (header idBytes (now (body .entry))) r (mem (now (names .entry)) (now (marks .entry)) (now (times .entry)) (now (line .entry))) (mem (now (names .exit)) (now (marks .exit)) (now (times .exit)) (now (line .exit))) (now (parents .entry)) (now (parents .exit)) a ⌝ }
 {
-    let body = odb::body(store, Located::Body { start, end });
     let read = reading::read_body(Kind::Sha1, body, only_first(settings), parents);
     let at = visit_parents(
         r,

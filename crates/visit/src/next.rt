@@ -30,8 +30,6 @@ ghost use Rattle.walk.specs.Given.{noId};
 ghost use Rattle.hash.specs.Bytes.{idBytes};
 ghost use Rattle.object.specs.Header.{header};
 ghost use Rattle.object.specs.Ids.{idIn};
-ghost use Rattle.odb.specs.Lookup.{partOf};
-ghost use Rattle.odb.specs.declared.Located.the-variants.{Body};
 ghost use Rattle.state.specs.Steps.{mem};
 ghost use Rattle.visit.specs.Taking.{gave, timeGiven, Follows, EndsBody, TakesRow, TakesBody, TakesStored, TakesCached, TakesNext};
 ghost use Rattle.visit.specs.Plain.{Plain};
@@ -184,14 +182,13 @@ fn end_body(seen: BodyVisited, id: ObjectId, time: MaybeSeconds) -> Taken
     }
 }
 
-// The commit from its body, which stands from start to end in the store.
+// The commit from its body, a part of the store.
 fn take_body(
     r: Record,
     id: ObjectId,
     s: Seconds,
     store: &[u8],
-    start: usize,
-    end: usize,
+    body: &[u8],
     names: &mut [u8],
     marks: &mut [u8],
     times: &mut [i64],
@@ -200,14 +197,13 @@ fn take_body(
     excluded: &[u8],
     settings: Settings,
 ) -> Taken
-    ensures { λ a. ⌜ TakesBody (now (excluded .entry)) settings (now (store .entry)) (header idBytes (partOf (now (store .entry)) (Body start end))) r (idIn idBytes (id .bytes)) (s .0) (mem (now (names .entry)) (now (marks .entry)) (now (times .entry)) (now (line .entry))) (mem (now (names .exit)) (now (marks .exit)) (now (times .exit)) (now (line .exit))) (now (parents .entry)) (now (parents .exit)) a ⌝ }
+    ensures { λ a. ⌜ TakesBody (now (excluded .entry)) settings (now (store .entry)) (header idBytes (now (body .entry))) r (idIn idBytes (id .bytes)) (s .0) (mem (now (names .entry)) (now (marks .entry)) (now (times .entry)) (now (line .entry))) (mem (now (names .exit)) (now (marks .exit)) (now (times .exit)) (now (line .exit))) (now (parents .entry)) (now (parents .exit)) a ⌝ }
 {
     let q = r.queue;
     let seen = visit_body(
         r,
         store,
-        start,
-        end,
+        body,
         names,
         marks,
         times,
@@ -252,14 +248,14 @@ fn take_stored(
         return end_walk(r);
     }
     let id = first.id;
-    match odb::locate(Kind::Sha1, store, object::id_slice(Kind::Sha1, &id.bytes)) {
-        Located::Body { start, end } => take_body(
+    let at = odb::locate(Kind::Sha1, store, object::id_slice(Kind::Sha1, &id.bytes));
+    match at {
+        Located::Body { .. } => take_body(
             first.rest,
             id,
             first.seconds,
             store,
-            start,
-            end,
+            odb::body(store, at),
             names,
             marks,
             times,
@@ -370,14 +366,15 @@ pub fn next_by_topology_or_commit_date(
     let cache = reading::cache_of(graph, l, r.kept);
     let id = first.id;
     let near = noted(levels, first.slot);
-    match commit::find(
+    let at = commit::find(
         Kind::Sha1,
         cache,
         graph,
         store,
         object::id_slice(Kind::Sha1, &id.bytes),
         near,
-    ) {
+    );
+    match at {
         Either::CachedCommit { position, .. } => take_cached(
             first,
             graph,
@@ -393,13 +390,12 @@ pub fn next_by_topology_or_commit_date(
             excluded,
             settings,
         ),
-        Either::CommitRefIter { start, end } => take_body(
+        Either::CommitRefIter { .. } => take_body(
             first.rest,
             id,
             first.seconds,
             store,
-            start,
-            end,
+            commit::part_of_store(at, store),
             names,
             marks,
             times,

@@ -1,13 +1,9 @@
 -- `reading::body_commit` meets its contract: what the header of the body reads as decides. Assumes nothing.
 use mathlib.Core.Path.{sym, _∙_, ap}
 use Rattle.reading.specs.Whole.{bodyCommit}
-use Rattle.reading.proofs.Whole.{body-commit}
 use borrow.Author.Needs.{needs}
 use Rattle.reading.proofs.body_commit.Statement.{statement}
 use Rattle.reading.proofs.body_commit.Tie as tie
-
-body-requires : tie.Need-body-requires
-body-requires c κs = search needs
 
 readable-requires : tie.Need-readable-requires
 readable-requires c κs = search needs
@@ -23,24 +19,23 @@ enum-told-2 c = search needs
 
 returns : tie.Need-returns
 returns c =
-    let x = c .before .before .before .before .before .before .args in
-    ap (bodyCommit (x .start) (x .end)) (sym (c .before .parents .given .1)) ∙ body-commit (x .start) (x .end) (c .before .before .before .readable .ensures) (c .before .before .before .before .body .ensures)
+    let x = c .before .before .before .before .before .args in
+    ap (bodyCommit (x .start) (x .end)) (sym (c .before .parents .given .1)) ∙ ap (bodyCommit (x .start) (x .end)) (c .before .before .before .readable .ensures)
 
 returns-2 : tie.Need-returns-2
 returns-2 c =
-    let x = c .before .before .before .before .before .args in
-    ap (bodyCommit (x .start) (x .end)) (sym (c .enum-told .given .1)) ∙ body-commit (x .start) (x .end) (c .before .before .readable .ensures) (c .before .before .before .body .ensures)
+    let x = c .before .before .before .before .args in
+    ap (bodyCommit (x .start) (x .end)) (sym (c .enum-told .given .1)) ∙ ap (bodyCommit (x .start) (x .end)) (c .before .before .readable .ensures)
 
 returns-3 : tie.Need-returns-3
 returns-3 c =
-    let x = c .before .before .before .before .before .args in
-    ap (bodyCommit (x .start) (x .end)) (sym (c .enum-told2 .given .1)) ∙ body-commit (x .start) (x .end) (c .before .before .readable .ensures) (c .before .before .before .body .ensures)
+    let x = c .before .before .before .before .args in
+    ap (bodyCommit (x .start) (x .end)) (sym (c .enum-told2 .given .1)) ∙ ap (bodyCommit (x .start) (x .end)) (c .before .before .readable .ensures)
 
 pub body-commit-spec : {M : Type 1} → statement M
 body-commit-spec =
     tie.close
     (tie.spec
-    body-requires
     readable-requires
     enum-known-parents
     enum-told

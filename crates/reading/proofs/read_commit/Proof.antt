@@ -1,21 +1,16 @@
 -- `reading::read_commit` meets its contract: what `find` finds is read, a row or a body. Assumes nothing.
-use mathlib.Core.Path.{refl, sym}
-use Rattle.reading.proofs.Whole.{reads-found}
+use mathlib.Core.Path.{refl, sym, _∙_}
+use Rattle.commit.proofs.Parts.{found-slice}
+use Rattle.reading.proofs.Whole.{reads-found, body-commit}
 use borrow.Author.Needs.{needs}
 use Rattle.reading.proofs.read_commit.Statement.{statement}
 use Rattle.reading.proofs.read_commit.Tie as tie
-use Rattle.reading.proofs.read_commit.Reads as reads
-use Rattle.reading.proofs.read_commit.Lts as lts
-use Rattle.commit.proofs.find.Reads as find-reads
-use Rattle.reading.proofs.body_commit.Reads as body-commit-reads
-use Rattle.reading.proofs.layout_of.Reads as layout-of-reads
-use Rattle.reading.proofs.row_commit.Reads as row-commit-reads
 
 find-requires : tie.Need-find-requires
 find-requires c κs = search needs
 
-enum-known-position : tie.Need-enum-known-position
-enum-known-position c = search needs
+enum-known-at : tie.Need-enum-known-at
+enum-known-at c = search needs
 
 layout-of-requires : tie.Need-layout-of-requires
 layout-of-requires c κs = search needs
@@ -23,8 +18,11 @@ layout-of-requires c κs = search needs
 row-commit-requires : tie.Need-row-commit-requires
 row-commit-requires c κs = search needs
 
-enum-known-start : tie.Need-enum-known-start
-enum-known-start c = search needs
+enum-known-at-2 : tie.Need-enum-known-at-2
+enum-known-at-2 c = search needs
+
+part-of-store-requires : tie.Need-part-of-store-requires
+part-of-store-requires c κs = search needs
 
 body-commit-requires : tie.Need-body-commit-requires
 body-commit-requires c κs = search needs
@@ -33,10 +31,10 @@ enum-told : tie.Need-enum-told
 enum-told c = search needs
 
 returns : tie.Need-returns
-returns c = reads-found _ (c .before .before .before .before .before .find .ensures) (c .before .before .before .position .given .1) (rw (sym (c .before .layout-of .ensures)) (c .row-commit .ensures))
+returns c = reads-found _ (c .before .before .before .before .before .find .ensures) (c .before .before .before .at .given .1) (rw (sym (c .before .layout-of .ensures)) (c .row-commit .ensures))
 
 returns-2 : tie.Need-returns-2
-returns-2 c = reads-found _ (c .before .before .before .before .find .ensures) (c .before .before .start .given .1) (c .body-commit .ensures)
+returns-2 c = let k = c .before .before .before .at2 .given in reads-found _ (c .before .before .before .before .before .find .ensures) (k .1) (body-commit _ _ (c .body-commit .ensures) (c .before .part-of-store .ensures ∙ found-slice (c .before .before .before .before .before .find .ensures) _ _ (k .1)))
 
 returns-3 : tie.Need-returns-3
 returns-3 c = reads-found _ (c .before .before .find .ensures) (c .enum-told .given .1) refl
@@ -46,10 +44,11 @@ read-commit-spec =
     tie.close
     (tie.spec
     find-requires
-    enum-known-position
+    enum-known-at
     layout-of-requires
     row-commit-requires
-    enum-known-start
+    enum-known-at-2
+    part-of-store-requires
     body-commit-requires
     enum-told
     returns

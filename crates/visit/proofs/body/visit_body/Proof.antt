@@ -1,14 +1,9 @@
 -- `visit::body::visit_body` meets its contract: the parents whose ids were set down are visited. Assumes nothing.
-use mathlib.Core.Path.{sym, ap}
-use Rattle.hash.specs.Bytes.{idBytes}
-use Rattle.object.specs.Header.{header}
+use mathlib.Core.Path.{sym}
 use Rattle.visit.proofs.Bodies.{body-visited}
 use borrow.Author.Needs.{needs}
 use Rattle.visit.proofs.body.visit_body.Statement.{statement}
 use Rattle.visit.proofs.body.visit_body.Tie as tie
-
-body-requires : tie.Need-body-requires
-body-requires c κs = search needs
 
 only-first-requires : tie.Need-only-first-requires
 only-first-requires c κs = search needs
@@ -35,13 +30,12 @@ same-length-5 : tie.Need-same-length-5
 same-length-5 c = search needs
 
 returns : tie.Need-returns
-returns c = body-visited (ap (header idBytes) (c .before .before .before .before .before .before .before .before .before .before .before .before .before .before .before .before .before .before .body .ensures)) (sym (c .before .before .before .before .before .before .before .before .before .before .before .before .before .before .before .before .before .only-first .ensures)) (c .before .before .before .before .before .before .before .before .before .before .before .before .before .before .before .read-body .kept .1 .1 .1 .0) (c .before .before .before .before .before .before .before .before .before .before .before .before .before .before .before .read-body .ensures) (c .before .before .before .before .before .before .before .visit-parents .ensures)
+returns c = body-visited (sym (c .before .before .before .before .before .before .before .before .before .before .before .before .before .before .before .before .before .only-first .ensures)) (c .before .before .before .before .before .before .before .before .before .before .before .before .before .before .before .read-body .kept .1 .1 .1 .0) (c .before .before .before .before .before .before .before .before .before .before .before .before .before .before .before .read-body .ensures) (c .before .before .before .before .before .before .before .visit-parents .ensures)
 
 pub visit-body-spec : {M : Type 1} → statement M
 visit-body-spec =
     tie.close
     (tie.spec
-    body-requires
     only-first-requires
     read-body-requires
     visit-parents-requires

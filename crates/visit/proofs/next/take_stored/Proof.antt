@@ -30,14 +30,17 @@ id-slice-requires c κs = search needs
 locate-requires : tie.Need-locate-requires
 locate-requires c κs = search needs
 
-enum-known-start : tie.Need-enum-known-start
-enum-known-start c = search needs
+enum-told : tie.Need-enum-told
+enum-told c = search needs
+
+body-requires : tie.Need-body-requires
+body-requires c κs = search needs
 
 take-body-requires : tie.Need-take-body-requires
 take-body-requires c κs = search needs
 
-enum-told : tie.Need-enum-told
-enum-told c = search needs
+enum-told-2 : tie.Need-enum-told-2
+enum-told-2 c = search needs
 
 refuse-requires : tie.Need-refuse-requires
 refuse-requires c κs = search needs
@@ -52,13 +55,13 @@ same-length-6 : tie.Need-same-length-6
 same-length-6 c = search needs
 
 same-length-7 : tie.Need-same-length-7
-same-length-7 c = c .before .before .before .before .before .before .before .before .before .take-body .kept .1 .1 .1 .1 .1 .1 .1 .1 .1 .0 ∙ c .before .before .before .before .before .before .before .before .before .before .before .before .before .before .before .before .before .before .before .before .before .before .before .before .before .before .before .pop .kept .1 .1 .1 .0
+same-length-7 c = c .before .before .before .before .before .before .before .before .before .take-body .kept .1 .1 .1 .1 .1 .1 .1 .1 .0 ∙ c .before .before .before .before .before .before .before .before .before .before .before .before .before .before .before .before .before .before .before .before .before .before .before .before .before .before .before .pop .kept .1 .1 .1 .0
 
 same-length-8 : tie.Need-same-length-8
 same-length-8 c = search needs
 
 returns-2 : tie.Need-returns-2
-returns-2 c = let k = c .before .before .before .before .before .before .before .before .before .before .before .before .before .before .before .before .start .given in stored-body (c .before .before .before .before .before .before .before .before .before .before .before .before .before .before .before .before .before .before .before .before .before .before .before .before .before .before .before .pop .ensures) (not-false (c .before .before .before .before .before .before .before .before .before .before .before .before .before .before .before .before .before .before .before .before .before .before .before .before .before .before .before .pop .result .found) (c .before .before .before .before .before .before .before .before .before .before .before .before .before .before .before .before .before .before .before .before .before .before .before .if1 .left)) (rw (c .before .before .before .before .before .before .before .before .before .before .before .before .before .before .before .before .before .before .before .id-slice .ensures) at (c .before .before .before .before .before .before .before .before .before .before .before .before .before .before .before .before .before .before .locate .ensures)) (k .0 .0) (k .0 .1 .0) (k .1) (c .before .before .before .before .before .before .before .before .before .take-body .ensures)
+returns-2 c = let k = c .before .before .before .before .before .before .before .before .before .before .before .before .before .before .before .before .enum-told .given in stored-body (c .before .before .before .before .before .before .before .before .before .before .before .before .before .before .before .before .before .before .before .before .before .before .before .before .before .before .before .pop .ensures) (not-false (c .before .before .before .before .before .before .before .before .before .before .before .before .before .before .before .before .before .before .before .before .before .before .before .before .before .before .before .pop .result .found) (c .before .before .before .before .before .before .before .before .before .before .before .before .before .before .before .before .before .before .before .before .before .before .before .if1 .left)) (rw (c .before .before .before .before .before .before .before .before .before .before .before .before .before .before .before .before .before .before .before .id-slice .ensures) at (c .before .before .before .before .before .before .before .before .before .before .before .before .before .before .before .before .before .before .locate .ensures)) (k .0 .0) (k .0 .1 .0) (k .1) (c .before .before .before .before .before .before .before .before .before .before .before .before .before .before .before .body .ensures) (c .before .before .before .before .before .before .before .before .before .take-body .ensures)
 
 same-length-9 : tie.Need-same-length-9
 same-length-9 c = search needs
@@ -70,7 +73,7 @@ same-length-11 : tie.Need-same-length-11
 same-length-11 c = search needs
 
 returns-3 : tie.Need-returns-3
-returns-3 c = rw (c .refuse .ensures) (stored-absent (c .before .before .before .before .before .before .before .before .before .before .before .before .pop .ensures) (not-false (c .before .before .before .before .before .before .before .before .before .before .before .before .pop .result .found) (c .before .before .before .before .before .before .before .before .if1 .left)) (rw (c .before .before .before .before .id-slice .ensures) at (c .before .before .before .locate .ensures)) (c .before .enum-told .given .1))
+returns-3 c = rw (c .refuse .ensures) (stored-absent (c .before .before .before .before .before .before .before .before .before .before .before .before .pop .ensures) (not-false (c .before .before .before .before .before .before .before .before .before .before .before .before .pop .result .found) (c .before .before .before .before .before .before .before .before .if1 .left)) (rw (c .before .before .before .before .id-slice .ensures) at (c .before .before .before .locate .ensures)) (c .before .enum-told2 .given .1))
 
 pub take-stored-spec : {M : Type 1} → statement M
 take-stored-spec =
@@ -84,9 +87,10 @@ take-stored-spec =
     returns
     id-slice-requires
     locate-requires
-    enum-known-start
-    take-body-requires
     enum-told
+    body-requires
+    take-body-requires
+    enum-told-2
     refuse-requires
     same-length-4
     same-length-5
