@@ -51,17 +51,17 @@ fn in_store(at: Located) -> Either
     }
 }
 
-// Which of the two files has a commit: the graph comes before the store. Its row may stand at position near, which is looked at first; on
-// good files any other number gives the same answer.
+// Which of the two files has a commit: the graph comes before the store. Its row may stand at position near, or its body under entry near,
+// which is looked at first in each; on good files any other number gives the same answer.
 pub fn find(kind: Kind, cache: Cache, graph: &[u8], store: &[u8], id: &[u8], near: usize) -> Either
     ensures { λ r. ⌜ FindsCommit (widthOf kind) cache (now (graph .entry)) (now (store .entry)) (now (id .entry)) r ⌝ }
 {
     match cache {
         Cache::Graph(l) => match rows::lookup_near(kind, graph, l, id, near) {
             Position::At(p) => in_graph(kind, graph, l, p),
-            Position::Absent => in_store(odb::locate(kind, store, id)),
+            Position::Absent => in_store(odb::locate_near(kind, store, id, near)),
         },
-        Cache::NoGraph => in_store(odb::locate(kind, store, id)),
+        Cache::NoGraph => in_store(odb::locate_near(kind, store, id, near)),
     }
 }
 

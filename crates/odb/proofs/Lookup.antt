@@ -16,7 +16,7 @@ use Rattle.idlist.specs.declared.Found.{Found}
 use Rattle.idlist.specs.declared.Found.the-variants.{At, Absent as Missed}
 use Rattle.idlist.proofs.Answer.{none-found, other-width, found-all}
 use Rattle.odb.specs.Store.{entrySize, start, entries, entryIds, bodyStart, bodyEnd, body, standing, standingEntries, storeOk, findEntry, storeFind}
-use Rattle.odb.specs.Lookup.{isPart, partAt, locatedOf, partOf, isBody, idsRise, lookedUp, Under, Locates, optionOf, TriesFind}
+use Rattle.odb.specs.Lookup.{isPart, partAt, locatedOf, partOf, isBody, idsRise, lookedUp, Under, FindsEntry, Stood, bodyFound, entryOr, Locates, optionOf, TriesFind, NotesEntry}
 use Rattle.odb.specs.declared.Located.{Located}
 use Rattle.odb.specs.declared.Located.the-variants.{Body, Absent}
 use Rattle.odb.proofs.Store.{good, good-count, broken-count, counted-within, standing-stand}
@@ -114,12 +114,6 @@ found-none : (o : Option ℕ) → Missed ≡ foundOf o → o ≡ none
 found-none none e = refl
 found-none (some j) e = let z : _≡_ {A = ℕ} 0 1 = cc in absurd (omega arith)
 
--- what the answer of a search among the entries says of the id x: an entry that it gives stands in the file, and its body is that of x
-pub record Says (w : ℕ) (b : List ℕ) (x : Id) (base : ℕ) (r : Found) : Type 0 where
-  pub inside : (k : ℕ) → r ≡ At k → (base ≡ start b) × (base + entrySize w * k + entrySize w ≤ length b)
-  pub found : (k : ℕ) → r ≡ At k → Locates w b x (partAt b (bodyStart w b k) (bodyEnd w b k))
-  pub missed : r ≡ Missed → Locates w b x Absent
-
 -- among the standing entries, a search of ids that rise answers with the first under x
 search-found : (w : ℕ) (b : List ℕ) (x : Id) {r : Found} → Finds (entryIds w b) 0 (standingEntries w b) x r → idsRise w b ≡ true → r ≡ foundOf (findIn (entryIds w b) x (standingEntries w b))
 unfolding findIn
@@ -129,17 +123,13 @@ search-found w b x {r} f p = byCases (standing w b) (λ t. found-all f (standing
     nothing t (At k) g = absurd (omega (arith, g .hit k refl .1, broken-count w b t))
     nothing t Missed g = rw (broken-count w b t)
 
-pub search-says : (w : ℕ) (b : List ℕ) (x : Id) (base n : ℕ) {r : Found} → base ≡ start b → n ≡ standingEntries w b → length x ≡ w
-    → Finds (record { bytes = b; width = length x; base = base; stride = entrySize w }) 0 n x r → Says w b x base r
+-- so the search finds the entry under x
+pub search-finds : (w : ℕ) (b : List ℕ) (x : Id) (base n : ℕ) {r : Found} → base ≡ start b → n ≡ standingEntries w b → length x ≡ w
+    → Finds (record { bytes = b; width = length x; base = base; stride = entrySize w }) 0 n x r → FindsEntry w b x r
 unfolding entryIds
-search-says w b x base n {r = r} eb en q f = record {
-  inside = λ k e.
-      let h : k < standingEntries w b = omega (arith, f .hit k e .1, en) in
-      (eb, omega (arith, counted-within w b k h, eb));
-  found = λ k e.
-      let t = g .hit k e in
-      locates-entry w b x k (record { stands = t .1; is = t .2 }) q (λ p. found-some (findIn (entryIds w b) x (standingEntries w b)) k (sym e ∙ search-found w b x g p));
-  missed = λ e. locates-none w b x (λ p. found-none (findIn (entryIds w b) x (standingEntries w b)) (sym e ∙ search-found w b x g p));
+search-finds w b x base n {r = r} eb en q f = record {
+  hit = λ k e. let t = g .hit k e in (record { stands = t .1; is = t .2 }, q);
+  rises = λ p. search-found w b x g p;
 }
   where
     same : _≡_ {A = IdList} (record { bytes = b; width = length x; base = base; stride = entrySize w }) (entryIds w b)
@@ -148,13 +138,41 @@ search-says w b x base n {r = r} eb en q f = record {
     g : Finds (entryIds w b) 0 (standingEntries w b) x r
     g = rw (same, en) at f
 
--- an id of another width
-pub odd-width : (w : ℕ) (b : List ℕ) (x : Id) → (length x ≡ w → ⊥) → Locates w b x Absent
+-- an id of another width stands nowhere
+pub odd-width : (w : ℕ) (b : List ℕ) (x : Id) → (length x ≡ w → ⊥) → FindsEntry w b x Missed
 unfolding entryIds
-odd-width w b x n = locates-none w b x (λ p. byCases (standing w b) there (λ t. none-found (entryIds w b) x (standingEntries w b) (λ k h q. omega (arith, broken-count w b t))))
+odd-width w b x n = record {
+  hit = λ k e. let z : _≡_ {A = ℕ} 0 1 = cc in absurd (omega arith);
+  rises = λ p. ap foundOf (sym (byCases (standing w b) there (λ t. none-found (entryIds w b) x (standingEntries w b) (λ k h q. omega (arith, broken-count w b t)))));
+}
   where
     there : standing w b ≡ true → findIn (entryIds w b) x (standingEntries w b) ≡ none
     there t = other-width (entryIds w b) x (standingEntries w b) (standing-stand w b t) n
+
+pub found-stood : {w : ℕ} {b : List ℕ} {x : Id} {r : Found} → FindsEntry w b x r → Stood w b r
+found-stood f = record { inside = λ k e. f .hit k e .0 .stands }
+
+-- an entry that stands in the file ends inside it
+pub stood-within : (w : ℕ) (b : List ℕ) (k : ℕ) → k < standingEntries w b → start b + entrySize w * k + entrySize w ≤ length b
+stood-within w b k h = omega (arith, counted-within w b k h)
+
+-- the body of the entry that was found is the answer of `locate`
+pub locates-found : {w : ℕ} {b : List ℕ} {x : Id} (r : Found) → FindsEntry w b x r → Locates w b x (bodyFound w b r)
+locates-found {w} {b} {x} (At k) f =
+    let t = f .hit k refl in
+    locates-entry w b x k (t .0) (t .1) (λ p. found-some (findIn (entryIds w b) x (standingEntries w b)) k (f .rises p))
+locates-found {w} {b} {x} Missed f = locates-none w b x (λ p. found-none (findIn (entryIds w b) x (standingEntries w b)) (f .rises p))
+
+-- and its number is noted
+pub notes-found : {w : ℕ} {b : List ℕ} {x : Id} (n : ℕ) (r : Found) → FindsEntry w b x r → NotesEntry w b x n (entryOr n r)
+notes-found {w} {b} {x} n (At k) f = record {
+  under = λ d. f .hit k refl .0;
+  rises = λ p. rw (found-some (findIn (entryIds w b) x (standingEntries w b)) k (f .rises p));
+}
+notes-found {w} {b} {x} n Missed f = record {
+  under = λ d. absurd (d refl);
+  rises = λ p. rw (found-none (findIn (entryIds w b) x (standingEntries w b)) (f .rises p));
+}
 
 -- ---- `try_find`
 

@@ -7,7 +7,9 @@ use mathlib.Core.List.{List, []}
 use lib.ListN.{length}
 use lib.Dec.{leb}
 use Rattle.hash.specs.Bytes.{Id, at, ifSome}
-use Rattle.idlist.specs.IdList.{idOf, rising, findIn}
+use Rattle.idlist.specs.IdList.{idOf, rising, findIn, foundOf}
+use Rattle.idlist.specs.declared.Found.{Found}
+use Rattle.idlist.specs.declared.Found.the-variants.{At, Absent as Missed}
 use Rattle.odb.specs.Store.{entryIds, bodyStart, bodyEnd, body, standing, standingEntries, storeOk, findEntry, storeFind}
 use Rattle.odb.specs.declared.Located.{Located}
 use Rattle.odb.specs.declared.Located.the-variants.{Body, Absent}
@@ -48,7 +50,26 @@ pub record Under (w : ℕ) (b : List ℕ) (x : Id) (k : ℕ) : Type 0 where
   pub stands : k < standingEntries w b
   pub is : idOf (entryIds w b) k ≡ x
 
--- what `locate` answers for the id x. On a good store: the body of the entry under x. Wherever the ids rise, good store or not: what is looked
+-- which entry a search finds for the id x: it stands in the file, and under x; wherever the ids rise, the first under x
+pub record FindsEntry (w : ℕ) (b : List ℕ) (x : Id) (r : Found) : Type 0 where
+  pub hit : (k : ℕ) → r ≡ At k → Under w b x k × (length x ≡ w)
+  pub rises : idsRise w b ≡ true → r ≡ foundOf (findIn (entryIds w b) x (standingEntries w b))
+
+-- an entry that is found stands in the file
+pub record Stood (w : ℕ) (b : List ℕ) (r : Found) : Type 0 where
+  pub inside : (k : ℕ) → r ≡ At k → k < standingEntries w b
+
+-- where the body of an entry that was found lies, if it is a part of the file
+abbrev pub bodyFound : ℕ → List ℕ → Found → Located
+bodyFound w b (At k) = partAt b (bodyStart w b k) (bodyEnd w b k)
+bodyFound w b Missed = Absent
+
+-- the number of an entry that was found, n where none was
+abbrev pub entryOr : ℕ → Found → ℕ
+entryOr n (At k) = k
+entryOr n Missed = n
+
+-- what `locate` and `locate_near` answer for the id x. On a good store: the body of the entry under x. Wherever the ids rise, good store or not: what is looked
 -- up. On any bytes: a part of them that is the body of an entry under x, or none; none where the entries do not stand or x has another width.
 -- (Among ids that do not rise one may be missed: which, is not said.)
 pub record Locates (w : ℕ) (b : List ℕ) (x : Id) (r : Located) : Type 0 where
@@ -73,6 +94,12 @@ pub record TriesFind (w : ℕ) (b : List ℕ) (x : Id) (found : Bool) (r : List 
   pub hit : found ≡ true → (k : ℕ) × Under w b x k × (r ≡ body w b k)
   pub torn : standing w b ≡ false → (found ≡ false) × (r ≡ [])
   pub foreign : (length x ≡ w → ⊥) → (found ≡ false) × (r ≡ [])
+
+-- the number that a lookup of the id x notes in place of n: of an entry that stands under x, or n still; wherever the ids rise, of the first
+-- under x, and n where there is none
+pub record NotesEntry (w : ℕ) (b : List ℕ) (x : Id) (n n′ : ℕ) : Type 0 where
+  pub under : (n′ ≡ n → ⊥) → Under w b x n′
+  pub rises : idsRise w b ≡ true → n′ ≡ ifSome (findIn (entryIds w b) x (standingEntries w b)) n (λ k. k)
 
 unfoldable pub lookupAll : Unit {0}
 unfolding isPart partAt partOf lookedUp

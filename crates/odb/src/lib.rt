@@ -9,7 +9,7 @@ ghost use lib.Dec.{eqb};
 ghost use lib.ListN.{length};
 ghost use Rattle.hash.specs.Bytes.{u32At, widthOf};
 ghost use Rattle.odb.specs.Store.{entrySize, start, entries, bodyEnd, bodyStart, endsRise, standing, standingEntries, storeOk};
-ghost use Rattle.odb.specs.Lookup.{partAt, partOf, isBody, Locates, TriesFind};
+ghost use Rattle.odb.specs.Lookup.{partAt, partOf, isBody, FindsEntry, Stood, bodyFound, Locates, entryOr, TriesFind, NotesEntry};
 
 // Where a body lies in the store: its first byte, and the byte after its last.
 pub enum Located {
@@ -21,6 +21,9 @@ pub enum Located {
 const END_BYTES: usize = 4;
 
 const TRAILER_BYTES: usize = 8;
+
+// No entry's number: a store has fewer entries than it says in 32 bits.
+const NO_ENTRY: usize = 4294967295;
 
 // A u32 as a place in the store.
 fn wide(x: u32) -> usize
@@ -153,21 +156,43 @@ fn entry_body(w: usize, store: &[u8], base: usize, k: usize) -> Located
     )
 }
 
-// Where the body under an id lies. What is found is the body of an entry under this id, in any bytes; where the ids do not rise it may be
-// missed.
-pub fn locate(kind: Kind, store: &[u8], id: &[u8]) -> Located
-    ensures { λ r. ⌜ Locates (widthOf kind) (now (store .entry)) (now (id .entry)) r ⌝ }
+// The number of the entry under an id, where number near is looked at first.
+fn find_entry(kind: Kind, store: &[u8], id: &[u8], near: usize) -> Found
+    ensures { λ r. ⌜ FindsEntry (widthOf kind) (now (store .entry)) (now (id .entry)) r ⌝ }
 {
     let w = hash::width(kind);
     if id.len() != w {
-        return Located::Absent;
+        return Found::Absent;
     }
     let base = entries_start(store);
     let n = count(kind, store);
-    match idlist::find(store, base, w + END_BYTES, 0, n, id) {
-        Found::At(k) => entry_body(w, store, base, k),
+    idlist::find_near(store, base, w + END_BYTES, 0, n, near, id)
+}
+
+// Where the body of an entry that was found lies, if it is a part of the store.
+fn body_found(kind: Kind, store: &[u8], at: Found) -> Located
+    requires { ⌜ Stood (widthOf kind) (now store) at ⌝ }
+    ensures { λ r. ⌜ r ≡ bodyFound (widthOf kind) (now (store .entry)) at ⌝ }
+{
+    match at {
+        Found::At(k) => entry_body(hash::width(kind), store, entries_start(store), k),
         Found::Absent => Located::Absent,
     }
+}
+
+// Where the body under an id lies. What is found is the body of an entry under this id, in any bytes; where the ids do not rise it may be
+// missed. Entry near is looked at first; where the ids rise any other number gives the same answer.
+pub fn locate_near(kind: Kind, store: &[u8], id: &[u8], near: usize) -> Located
+    ensures { λ r. ⌜ Locates (widthOf kind) (now (store .entry)) (now (id .entry)) r ⌝ }
+{
+    body_found(kind, store, find_entry(kind, store, id, near))
+}
+
+// The same, where no entry is known to be near.
+pub fn locate(kind: Kind, store: &[u8], id: &[u8]) -> Located
+    ensures { λ r. ⌜ Locates (widthOf kind) (now (store .entry)) (now (id .entry)) r ⌝ }
+{
+    locate_near(kind, store, id, NO_ENTRY)
 }
 
 // The bytes that an answer names, a part of the store itself; empty where it names none.
@@ -200,7 +225,35 @@ fn is_body(at: Located) -> bool
     }
 }
 
-// The body under an id, a part of the store itself and not a copy; found says whether there is one.
+// The number of an entry that was found, another where none was.
+fn entry_or(at: Found, other: usize) -> usize
+    ensures { λ r. ⌜ r ≡ entryOr other at ⌝ }
+{
+    match at {
+        Found::At(k) => k,
+        Found::Absent => other,
+    }
+}
+
+// The body under an id, a part of the store itself and not a copy; found says whether there is one, and entry is set to the number of its
+// entry, where the body may be looked for first another time. Where there is no entry it stays as it was.
+pub fn try_find_noting<'a>(
+    kind: Kind,
+    store: &'a [u8],
+    id: &[u8],
+    found: &mut bool,
+    entry: &mut usize,
+) -> &'a [u8]
+    ensures { λ r. ⌜ TriesFind (widthOf kind) (now (store .entry)) (now (id .entry)) (now (found .exit)) (now r) × NotesEntry (widthOf kind) (now (store .entry)) (now (id .entry)) (now (entry .entry)) (now (entry .exit)) ⌝ }
+{
+    let k = find_entry(kind, store, id, NO_ENTRY);
+    let at = body_found(kind, store, k);
+    *found = is_body(at);
+    *entry = entry_or(k, *entry);
+    body(store, at)
+}
+
+// The same without the entry.
 pub fn try_find<'a>(kind: Kind, store: &'a [u8], id: &[u8], found: &mut bool) -> &'a [u8]
     ensures { λ r. ⌜ TriesFind (widthOf kind) (now (store .entry)) (now (id .entry)) (now (found .exit)) (now r) ⌝ }
 {

@@ -36,8 +36,8 @@ tip-body {f = f} {b = b} l p e k = record { found = f; body = b; looked = l; is 
 pub tip-missing : {s : List ℕ} {x : Id} {f : Bool} {b : List ℕ} → TriesFind idBytes s x f b → f ≡ false → ReadsTip s x Missing
 tip-missing {f = f} {b = b} l p = record { found = f; body = b; looked = l; is = ap (λ (t : Bool). tipIn t b) (sym p) }
 
-pub seconds-read : {s : List ℕ} {x : Id} {r q : TipRead} {t : Seconds} → ReadsTip s x r → r ≡ q → t ≡ secondsOr0 q → GivesSeconds s x t
-seconds-read {s} {x} {r} k e f = record { read = r; as-tip = k; is = f ∙ ap secondsOr0 (sym e) }
+pub seconds-read : {s : List ℕ} {x : Id} {r : TipRead} {t : Seconds} → ReadsTip s x r → t ≡ secondsOr0 r → GivesSeconds s x t
+seconds-read {s} {x} {r} k e = record { read = r; as-tip = k; is = e }
 
 -- ---- in a good store
 

@@ -27,6 +27,7 @@ pub use row::row_parent;
 pub use tip::TipRead;
 pub use tip::read_tip;
 pub use tip::seconds_for;
+pub use tip::seconds_noting;
 use walk::GenThenTime;
 use walk::Refusal;
 ghost use mathlib.Core.Path.{_≡_};

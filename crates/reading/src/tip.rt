@@ -3,7 +3,9 @@ use date::Seconds;
 use hash::Kind;
 use object::SecondsRead;
 ghost use mathlib.Core.Path.{_≡_};
-ghost use Rattle.reading.specs.Tip.{tipSeconds, ReadsTip, GivesSeconds};
+ghost use Rattle.odb.specs.Lookup.{NotesEntry};
+ghost use Rattle.reading.specs.Tip.{tipSeconds, ReadsTip, secondsOr0, GivesSeconds};
+ghost use Rattle.hash.specs.Bytes.{idBytes};
 
 // A tip that was read at the opening: its seconds; or the store lacks it; or its header is not good through the committer line.
 pub enum TipRead {
@@ -22,12 +24,12 @@ fn tip_seconds(read: SecondsRead) -> TipRead
     }
 }
 
-// A tip, read from the store alone: its body is a part of the store itself, not a copy.
-pub fn read_tip(store: &[u8], id: &[u8]) -> TipRead
-    ensures { λ r. ⌜ ReadsTip (now (store .entry)) (now (id .entry)) r ⌝ }
+// A tip, read from the store alone: its body is a part of the store itself, not a copy. The number of its entry is noted.
+fn read_tip_noting(store: &[u8], id: &[u8], entry: &mut usize) -> TipRead
+    ensures { λ r. ⌜ ReadsTip (now (store .entry)) (now (id .entry)) r × NotesEntry idBytes (now (store .entry)) (now (id .entry)) (now (entry .entry)) (now (entry .exit)) ⌝ }
 {
     let mut found = false;
-    let body = odb::try_find(Kind::Sha1, store, id, &mut found);
+    let body = odb::try_find_noting(Kind::Sha1, store, id, &mut found, entry);
     if found {
         tip_seconds(object::seconds_only(Kind::Sha1, body))
     } else {
@@ -35,13 +37,36 @@ pub fn read_tip(store: &[u8], id: &[u8]) -> TipRead
     }
 }
 
-// The seconds of a commit in the store, 0 where the store has none.
-pub fn seconds_for(store: &[u8], id: &[u8]) -> Seconds
-    ensures { λ r. ⌜ GivesSeconds (now (store .entry)) (now (id .entry)) r ⌝ }
+// The same without the entry.
+pub fn read_tip(store: &[u8], id: &[u8]) -> TipRead
+    ensures { λ r. ⌜ ReadsTip (now (store .entry)) (now (id .entry)) r ⌝ }
 {
-    match read_tip(store, id) {
+    let mut entry = 0;
+    read_tip_noting(store, id, &mut entry)
+}
+
+// The seconds of a tip that was read, 0 where it has none.
+fn seconds_or_0(read: TipRead) -> Seconds
+    ensures { λ r. ⌜ r ≡ secondsOr0 read ⌝ }
+{
+    match read {
         TipRead::Good(s) => s,
         TipRead::Missing => Seconds(0),
         TipRead::Unreadable => Seconds(0),
     }
+}
+
+// The seconds of a commit in the store, 0 where the store has none. The number of its entry is noted, where it may be looked for first
+// another time.
+pub fn seconds_noting(store: &[u8], id: &[u8], entry: &mut usize) -> Seconds
+    ensures { λ r. ⌜ GivesSeconds (now (store .entry)) (now (id .entry)) r × NotesEntry idBytes (now (store .entry)) (now (id .entry)) (now (entry .entry)) (now (entry .exit)) ⌝ }
+{
+    seconds_or_0(read_tip_noting(store, id, entry))
+}
+
+// The same without the entry.
+pub fn seconds_for(store: &[u8], id: &[u8]) -> Seconds
+    ensures { λ r. ⌜ GivesSeconds (now (store .entry)) (now (id .entry)) r ⌝ }
+{
+    seconds_or_0(read_tip(store, id))
 }

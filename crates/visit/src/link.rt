@@ -72,12 +72,12 @@ fn new_row_seconds(graph: &[u8], l: Layout, parent: usize, timed: bool) -> Secon
     Seconds(0)
 }
 
-// Notes the position of a new parent beside its slot, where it is tried first when the parent leaves the queue. Nothing is promised of what is
-// noted: a row is looked up by its id.
-fn note(levels: &mut [u32], slot: usize, parent: usize) {
+// Notes beside its slot where a new parent stands, its position in the commit-graph file or the number of its entry in the store: that is
+// tried first when the parent leaves the queue. Nothing is promised of what is noted: a commit is looked up by its id.
+fn note(levels: &mut [u32], slot: usize, place: usize) {
     if slot < levels.len() {
-        if parent <= MOST {
-            levels[slot] = parent as u32;
+        if place <= MOST {
+            levels[slot] = place as u32;
         }
     }
 }
@@ -110,12 +110,15 @@ pub fn insert_into_seen_and_queue_cached(
     insert_into_queue(r, seen.slot, times, line, excluded, settings, id, s)
 }
 
-// The seconds of a new parent in the store, where commits wait by time; else they are not asked.
-fn new_seconds(store: &[u8], id: &[u8], timed: bool) -> Seconds
+// The seconds of a new parent in the store, where commits wait by time, and its entry is noted beside its slot; else they are not asked.
+fn new_seconds(store: &[u8], id: &[u8], timed: bool, levels: &mut [u32], slot: usize) -> Seconds
     ensures { λ r. ⌜ (timed ≡ true → GivesSeconds (now (store .entry)) (now (id .entry)) r) ⌝ }
 {
     if timed {
-        return reading::seconds_for(store, id);
+        let mut entry = 0;
+        let s = reading::seconds_noting(store, id, &mut entry);
+        note(levels, slot, entry);
+        return s;
     }
     Seconds(0)
 }
@@ -125,6 +128,7 @@ pub fn insert_into_seen_and_queue_stored(
     r: Record,
     names: &mut [u8],
     marks: &mut [u8],
+    levels: &mut [u32],
     times: &mut [i64],
     line: &mut [u32],
     excluded: &[u8],
@@ -139,6 +143,6 @@ pub fn insert_into_seen_and_queue_stored(
         return r;
     }
     let q = r.queue;
-    let s = new_seconds(store, id, q.timed);
+    let s = new_seconds(store, id, q.timed, levels, seen.slot);
     insert_into_queue(r, seen.slot, times, line, excluded, settings, id, s)
 }

@@ -191,6 +191,7 @@ fn take_body(
     body: &[u8],
     names: &mut [u8],
     marks: &mut [u8],
+    levels: &mut [u32],
     times: &mut [i64],
     line: &mut [u32],
     parents: &mut [u8],
@@ -206,6 +207,7 @@ fn take_body(
         body,
         names,
         marks,
+        levels,
         times,
         line,
         parents,
@@ -229,12 +231,27 @@ fn end_walk(r: Record) -> Taken
     )
 }
 
+fn wide(x: u32) -> usize
+    ensures { λ r. ⌜ r ≡ x ⌝ }
+{
+    x as usize
+}
+
+// Where the commit in a slot may stand, as is noted beside the slot; 0 past the end.
+fn noted(levels: &[u32], slot: u32) -> usize
+    ensures { λ r. ⌜ r ≡ getD (now (levels .entry)) slot 0 ⌝ }
+{
+    let i = wide(slot);
+    if i < levels.len() { wide(levels[i]) } else { 0 }
+}
+
 // The first commit of the queue, from the store alone.
 fn take_stored(
     r: Record,
     store: &[u8],
     names: &mut [u8],
     marks: &mut [u8],
+    levels: &mut [u32],
     times: &mut [i64],
     line: &mut [u32],
     parents: &mut [u8],
@@ -248,7 +265,13 @@ fn take_stored(
         return end_walk(r);
     }
     let id = first.id;
-    let at = odb::locate(Kind::Sha1, store, object::id_slice(Kind::Sha1, &id.bytes));
+    let near = noted(levels, first.slot);
+    let at = odb::locate_near(
+        Kind::Sha1,
+        store,
+        object::id_slice(Kind::Sha1, &id.bytes),
+        near,
+    );
     match at {
         Located::Body { .. } => take_body(
             first.rest,
@@ -258,6 +281,7 @@ fn take_stored(
             odb::body(store, at),
             names,
             marks,
+            levels,
             times,
             line,
             parents,
@@ -316,6 +340,7 @@ fn take_cached(
                 store,
                 names,
                 marks,
+                levels,
                 times,
                 line,
                 parents,
@@ -324,20 +349,6 @@ fn take_cached(
             )
         }
     }
-}
-
-fn wide(x: u32) -> usize
-    ensures { λ r. ⌜ r ≡ x ⌝ }
-{
-    x as usize
-}
-
-// The position that is noted beside a slot, 0 past the end.
-fn noted(levels: &[u32], slot: u32) -> usize
-    ensures { λ r. ⌜ r ≡ getD (now (levels .entry)) slot 0 ⌝ }
-{
-    let i = wide(slot);
-    if i < levels.len() { wide(levels[i]) } else { 0 }
 }
 
 // The next commit of the queue, looked up by `find`: its parents are visited, and it is handed out. (One queue serves both orders, so this is the
@@ -398,6 +409,7 @@ pub fn next_by_topology_or_commit_date(
             commit::part_of_store(at, store),
             names,
             marks,
+            levels,
             times,
             line,
             parents,

@@ -20,8 +20,8 @@ in-graph-requires c κs = search needs
 enum-told : tie.Need-enum-told
 enum-told c = search needs
 
-locate-requires : tie.Need-locate-requires
-locate-requires c κs = search needs
+locate-near-requires : tie.Need-locate-near-requires
+locate-near-requires c κs = search needs
 
 in-store-requires : tie.Need-in-store-requires
 in-store-requires c κs = search needs
@@ -29,8 +29,8 @@ in-store-requires c κs = search needs
 enum-told-2 : tie.Need-enum-told-2
 enum-told-2 c = search needs
 
-locate-requires-2 : tie.Need-locate-requires-2
-locate-requires-2 c κs = search needs
+locate-near-requires-2 : tie.Need-locate-near-requires-2
+locate-near-requires-2 c κs = search needs
 
 in-store-requires-2 : tie.Need-in-store-requires-2
 in-store-requires-2 c κs = search needs
@@ -39,10 +39,10 @@ returns : tie.Need-returns
 returns c = rw (c .before .before .before .before .before .before .cache .given .1, c .in-graph .ensures) (by-row (c .before .before .before .before .before .before .before .before .before .before .before .args .store .now) _ (c .before .before .before .before .lookup-near .ensures) (c .before .before .p .given .1))
 
 returns-2 : tie.Need-returns-2
-returns-2 c = rw (c .before .before .before .before .before .before .cache .given .1, c .in-store .ensures) (past-graph (c .before .before .before .before .before .before .before .before .before .before .before .args .store .now) _ (c .before .before .before .before .lookup-near .ensures) (c .before .before .enum-told .given .1) (c .before .locate .ensures))
+returns-2 c = rw (c .before .before .before .before .before .before .cache .given .1, c .in-store .ensures) (past-graph (c .before .before .before .before .before .before .before .before .before .before .before .args .store .now) _ (c .before .before .before .before .lookup-near .ensures) (c .before .before .enum-told .given .1) (c .before .locate-near .ensures))
 
 returns-3 : tie.Need-returns-3
-returns-3 c = rw (c .before .before .enum-told2 .given .1, c .in-store2 .ensures) (without-graph (c .before .before .before .before .before .before .before .args .graph .now) (c .before .before .before .before .before .before .before .args .store .now) _ (c .before .locate2 .ensures))
+returns-3 c = rw (c .before .before .enum-told2 .given .1, c .in-store2 .ensures) (without-graph (c .before .before .before .before .before .before .before .args .graph .now) (c .before .before .before .before .before .before .before .args .store .now) _ (c .before .locate-near2 .ensures))
 
 pub find-spec : {M : Type 1} → statement M
 find-spec =
@@ -53,10 +53,10 @@ find-spec =
     enum-known-p
     in-graph-requires
     enum-told
-    locate-requires
+    locate-near-requires
     in-store-requires
     enum-told-2
-    locate-requires-2
+    locate-near-requires-2
     in-store-requires-2
     returns
     returns-2

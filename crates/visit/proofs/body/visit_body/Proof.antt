@@ -29,8 +29,11 @@ same-length-4 c = search needs
 same-length-5 : tie.Need-same-length-5
 same-length-5 c = search needs
 
+same-length-6 : tie.Need-same-length-6
+same-length-6 c = search needs
+
 returns : tie.Need-returns
-returns c = body-visited (sym (c .before .before .before .before .before .before .before .before .before .before .before .before .before .before .before .before .before .only-first .ensures)) (c .before .before .before .before .before .before .before .before .before .before .before .before .before .before .before .read-body .kept .1 .1 .1 .0) (c .before .before .before .before .before .before .before .before .before .before .before .before .before .before .before .read-body .ensures) (c .before .before .before .before .before .before .before .visit-parents .ensures)
+returns c = body-visited (sym (c .before .before .before .before .before .before .before .before .before .before .before .before .before .before .before .before .before .before .before .before .only-first .ensures)) (c .before .before .before .before .before .before .before .before .before .before .before .before .before .before .before .before .before .before .read-body .kept .1 .1 .1 .0) (c .before .before .before .before .before .before .before .before .before .before .before .before .before .before .before .before .before .before .read-body .ensures) (c .before .before .before .before .before .before .before .before .before .visit-parents .ensures)
 
 pub visit-body-spec : {M : Type 1} → statement M
 visit-body-spec =
@@ -44,4 +47,5 @@ visit-body-spec =
     same-length-3
     same-length-4
     same-length-5
+    same-length-6
     returns)

@@ -25,8 +25,11 @@ same-length-3 c = search needs
 same-length-4 : tie.Need-same-length-4
 same-length-4 c = search needs
 
+same-length-5 : tie.Need-same-length-5
+same-length-5 c = search needs
+
 returns : tie.Need-returns
-returns c = body-parent (c .before .before .before .before .before .before .before .before .before .before .before .before .before .before .before .parent-id .ensures) (c .before .before .before .before .before .before .before .before .id-slice .ensures) (c .before .before .before .before .before .before .before .insert-into-seen-and-queue-stored .ensures)
+returns c = body-parent (c .before .before .before .before .before .before .before .before .before .before .before .before .before .before .before .before .before .before .parent-id .ensures) (c .before .before .before .before .before .before .before .before .before .before .id-slice .ensures) (c .before .before .before .before .before .before .before .before .before .insert-into-seen-and-queue-stored .ensures)
 
 pub visit-body-parent-spec : {M : Type 1} → statement M
 visit-body-parent-spec =
@@ -39,4 +42,5 @@ visit-body-parent-spec =
     same-length-2
     same-length-3
     same-length-4
+    same-length-5
     returns)

@@ -17,7 +17,7 @@ same-length-2 : tie.Need-same-length-2
 same-length-2 c = search needs
 
 returns : tie.Need-returns
-returns c = let x = c .before .before .before .before .before .before .before .before .before .before .before .before .before .before .before .args in record { right = λ ok g. visits-known (c .before .before .before .before .before .before .see .ensures) (not-true (c .before .before .before .before .before .before .see .result .fresh) (c .if1 .taken)) (secondsFor (worldOf (x .store .now) g) (x .id .now)) }
+returns c = let x = c .before .before .before .before .before .before .before .before .before .before .before .before .before .before .before .before .args in record { right = λ ok g. visits-known (c .before .before .before .before .before .before .see .ensures) (not-true (c .before .before .before .before .before .before .see .result .fresh) (c .if1 .taken)) (secondsFor (worldOf (x .store .now) g) (x .id .now)) }
 
 new-seconds-requires : tie.Need-new-seconds-requires
 new-seconds-requires c κs = search needs
@@ -37,9 +37,12 @@ same-length-5 c = search needs
 same-length-6 : tie.Need-same-length-6
 same-length-6 c = search needs
 
+same-length-7 : tie.Need-same-length-7
+same-length-7 c = search needs
+
 returns-2 : tie.Need-returns-2
-returns-2 c = let x = c .before .before .before .before .before .before .before .before .before .before .before .before .before .before .before .before .before .before .before .before .before .before .before .args in
-    record { right = λ ok g. visits (c .before .before .before .before .before .before .before .before .before .before .before .before .before .before .see .ensures) (not-false (c .before .before .before .before .before .before .before .before .before .before .before .before .before .before .see .result .fresh) (c .before .before .before .before .before .before .before .before .if1 .left)) (c .before .before .before .before .before .before .new-seconds .result .0) (secondsFor (worldOf (x .store .now) g) (x .id .now)) (λ j. seconds-right (c .before .before .before .before .before .before .new-seconds .ensures j) ok g) (c .before .before .before .insert-into-queue .ensures) }
+returns-2 c = let x = c .before .before .before .before .before .before .before .before .before .before .before .before .before .before .before .before .before .before .before .before .before .before .before .before .before .before .before .args in
+    record { right = λ ok g. visits (c .before .before .before .before .before .before .before .before .before .before .before .before .before .before .before .before .before .see .ensures) (not-false (c .before .before .before .before .before .before .before .before .before .before .before .before .before .before .before .before .before .see .result .fresh) (c .before .before .before .before .before .before .before .before .before .before .before .if1 .left)) (c .before .before .before .before .before .before .before .before .new-seconds .result .0) (secondsFor (worldOf (x .store .now) g) (x .id .now)) (λ j. seconds-right (c .before .before .before .before .before .before .before .before .new-seconds .ensures j) ok g) (c .before .before .before .insert-into-queue .ensures) }
 
 pub insert-into-seen-and-queue-stored-spec : {M : Type 1} → statement M
 insert-into-seen-and-queue-stored-spec =
@@ -55,4 +58,5 @@ insert-into-seen-and-queue-stored-spec =
     same-length-4
     same-length-5
     same-length-6
+    same-length-7
     returns-2)

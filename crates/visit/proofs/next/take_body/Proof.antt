@@ -28,8 +28,11 @@ same-length-4 c = search needs
 same-length-5 : tie.Need-same-length-5
 same-length-5 c = search needs
 
+same-length-6 : tie.Need-same-length-6
+same-length-6 c = search needs
+
 returns : tie.Need-returns
-returns c = takes-body _ (c .before .before .before .before .before .before .before .before .before .before .before .visit-body .ensures) (rw (c .before .time-given .ensures) at (c .end-body .ensures))
+returns c = takes-body _ (c .before .before .before .before .before .before .before .before .before .before .before .before .before .visit-body .ensures) (rw (c .before .time-given .ensures) at (c .end-body .ensures))
 
 pub take-body-spec : {M : Type 1} → statement M
 take-body-spec =
@@ -43,4 +46,5 @@ take-body-spec =
     same-length-3
     same-length-4
     same-length-5
+    same-length-6
     returns)
