@@ -144,7 +144,7 @@ fn is_lacking(names: &[u8], marks: &[u8], cap: usize, id: &[u8], bits: u8) -> bo
     }
 }
 
-// Passes marks to a parent: it gets them and is queued, if it lacks one.
+// Passes marks to a parent, which may stand at near: it gets them and is queued, if it lacks one.
 fn pass_one(
     names: &mut [u8],
     marks: &mut [u8],
@@ -157,6 +157,7 @@ fn pass_one(
     store: &[u8],
     p: Pending,
     id: &[u8],
+    near: usize,
     bits: u8,
 ) -> Marked
     ensures { λ r. ⌜ Takes passTo cache (now (graph .entry)) (now (store .entry)) cap (lent (now (names .entry)) (now (marks .entry)) (now (levels .entry)) (now (times .entry)) (now (line .entry))) (lent (now (names .exit)) (now (marks .exit)) (now (levels .exit)) (now (times .exit)) (now (line .exit))) p (now (id .entry)) bits r ⌝ }
@@ -174,6 +175,7 @@ fn pass_one(
             store,
             p,
             id,
+            near,
             bits,
         )
     } else {
@@ -194,6 +196,7 @@ fn pass_next(
     store: &[u8],
     past: Marked,
     id: &[u8],
+    near: usize,
     bits: u8,
 ) -> Marked
     ensures { λ r. ⌜ TakesAfter passTo cache (now (graph .entry)) (now (store .entry)) cap (lent (now (names .entry)) (now (marks .entry)) (now (levels .entry)) (now (times .entry)) (now (line .entry))) (lent (now (names .exit)) (now (marks .exit)) (now (levels .exit)) (now (times .exit)) (now (line .exit))) past (now (id .entry)) bits r ⌝ }
@@ -211,6 +214,7 @@ fn pass_next(
             store,
             p,
             id,
+            near,
             bits,
         ),
         Marked::Stop(n) => Marked::Stop(n),
@@ -250,6 +254,7 @@ pub fn pass_to_parents(
     let mut r = Marked::Going(p);
     let mut i = 0;
     while i < n {
+        let near = reading::parent_near(commit, i, cache, graph);
         let id = reading::parent_of(commit, i, cache, graph, store);
         r = pass_next(
             names,
@@ -263,6 +268,7 @@ pub fn pass_to_parents(
             store,
             r,
             object::id_slice(Kind::Sha1, &id.bytes),
+            near,
             bits,
         );
         i += 1;

@@ -4,6 +4,7 @@ use crate::slots::Added;
 use commit::Cache;
 use pending::Pending;
 use reading::Commit;
+use reading::NOWHERE;
 use walk::Refusal;
 ghost use mathlib.Core.Path.{_≡_};
 ghost use Rattle.frontier.specs.Paint.{lent};
@@ -24,7 +25,7 @@ pub enum Spot {
     NoSlot,
 }
 
-// Reads a commit and sets down its generation and seconds in a slot.
+// Reads a commit, which may stand at near, and sets down its generation and seconds in a slot.
 fn learn(
     levels: &mut [u32],
     times: &mut [i64],
@@ -32,11 +33,12 @@ fn learn(
     graph: &[u8],
     store: &[u8],
     id: &[u8],
+    near: usize,
     slot: u32,
 ) -> Spot
     ensures { λ r. ⌜ Learns cache (now (graph .entry)) (now (store .entry)) (now (levels .entry)) (now (times .entry)) (now (levels .exit)) (now (times .exit)) (now (id .entry)) slot r ⌝ }
 {
-    let c = reading::read_commit(cache, graph, store, id);
+    let c = reading::read_commit(cache, graph, store, id, near);
     match c {
         Commit::Row { pair, .. } => {
             slots::set_pair(levels, times, slot, pair);
@@ -50,7 +52,7 @@ fn learn(
     }
 }
 
-// Gives marks to an id, and reads its commit where these are the first.
+// Gives marks to an id, and reads its commit where these are the first. No promise speaks of near, where the commit may stand.
 fn place(
     names: &mut [u8],
     marks: &mut [u8],
@@ -61,13 +63,14 @@ fn place(
     graph: &[u8],
     store: &[u8],
     id: &[u8],
+    near: usize,
     bits: u8,
 ) -> Spot
     ensures { λ r. ⌜ Places cache (now (graph .entry)) (now (store .entry)) (now (names .entry)) (now (marks .entry)) (now (levels .entry)) (now (times .entry)) (now (names .exit)) (now (marks .exit)) (now (levels .exit)) (now (times .exit)) cap (now (id .entry)) bits r ⌝ }
 {
     let a = slots::add_mark(names, marks, cap, id, bits);
     match a {
-        Added::New(k) => learn(levels, times, cache, graph, store, id, k),
+        Added::New(k) => learn(levels, times, cache, graph, store, id, near, k),
         Added::Known(k) => Spot::At(k),
         Added::Full => Spot::NoSlot,
     }
@@ -99,6 +102,7 @@ pub fn mark_one(
     store: &[u8],
     p: Pending,
     id: &[u8],
+    near: usize,
     bits: u8,
 ) -> Marked
     ensures { λ r. ⌜ Takes mark cache (now (graph .entry)) (now (store .entry)) cap (lent (now (names .entry)) (now (marks .entry)) (now (levels .entry)) (now (times .entry)) (now (line .entry))) (lent (now (names .exit)) (now (marks .exit)) (now (levels .exit)) (now (times .exit)) (now (line .exit))) p (now (id .entry)) bits r ⌝ }
@@ -113,6 +117,7 @@ pub fn mark_one(
         graph,
         store,
         id,
+        near,
         bits,
     );
     match s {
@@ -122,7 +127,7 @@ pub fn mark_one(
     }
 }
 
-// The same after an answer: where painting does not go on, nothing is done.
+// The same after an answer, of a commit of which no place is known: where painting does not go on, nothing is done.
 pub fn mark_next(
     names: &mut [u8],
     marks: &mut [u8],
@@ -152,6 +157,7 @@ pub fn mark_next(
             store,
             p,
             id,
+            NOWHERE,
             bits,
         ),
         Marked::Stop(n) => Marked::Stop(n),

@@ -6,6 +6,7 @@ use commit::Cache;
 use hash::Kind;
 use hashtable::table;
 use pending::Pending;
+use reading::NOWHERE;
 ghost use mathlib.Core.Path.{_≡_};
 ghost use Rattle.frontier.specs.Paint.{lent};
 ghost use Rattle.frontier.specs.Turns.{TakesTurn, TakesTurnAfter, dueAfter, TakesTurnsAfter};
@@ -36,6 +37,7 @@ pub fn turn(
             graph,
             store,
             object::id_slice(Kind::Sha1, &id.bytes),
+            NOWHERE,
         );
         lists::pass_to_parents(
             names,

@@ -13,7 +13,7 @@ use Rattle.object.specs.declared.Reading.{Reading}
 use Rattle.object.specs.declared.Reading.the-variants.{Readable, Bad, Crowded}
 use Rattle.odb.specs.Lookup.{partOf}
 use Rattle.odb.specs.declared.Located.the-variants.{Body as BodyAt}
-use Rattle.commitgraph.specs.Graph.{levelIn, secondsIn, parentsIn}
+use Rattle.commitgraph.specs.Graph.{levelIn, secondsIn, parentsIn, parentIn}
 use Rattle.commitgraph.specs.declared.Layout.{Layout}
 use Rattle.commit.specs.Find.{foundIn, FindsCommit}
 use Rattle.commit.specs.declared.Cache.{Cache}
@@ -85,6 +85,16 @@ pub record ReadsCommit (c : Cache) (g s : List ℕ) (x : Id) (r : Commit) : Type
   pub found : Either
   pub finds : FindsCommit idBytes c g s x found
   pub is : r ≡ commitAt c g s found
+
+-- no position in the graph file and no number of an entry
+abbrev pub nowhere : ℕ
+nowhere = 4294967295
+
+-- where parent k of a commit that was read is looked at first: a row names its parents by their positions
+abbrev pub placeOf : Cache → List ℕ → Commit → ℕ → ℕ
+placeOf c g (Row p n q) k = parentIn idBytes g (layoutUnder c) p k
+placeOf c g (Body a e n q) k = nowhere
+placeOf c g (Failed r) k = nowhere
 
 -- parent k of a commit that was read, on any bytes: of its row, of its body, or zeros where it could not be read
 abbrev pub ParentAt : Cache → List ℕ → List ℕ → Commit → ℕ → Id → Type 0

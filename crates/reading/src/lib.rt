@@ -35,7 +35,7 @@ ghost use Rattle.object.specs.Header.{header};
 ghost use Rattle.object.specs.Read.{readingOf};
 ghost use Rattle.commitgraph.specs.Graph.{parentsIn};
 ghost use Rattle.reading.specs.Files.{cacheWith, layoutUnder};
-ghost use Rattle.reading.specs.Whole.{pairIn, rowCommit, bodyCommit, ReadsCommit, GivesParent};
+ghost use Rattle.reading.specs.Whole.{pairIn, rowCommit, bodyCommit, ReadsCommit, placeOf, GivesParent};
 ghost use Rattle.hash.specs.Bytes.{idBytes};
 
 // A commit that was read whole, as painting does: where it stands, how many parents it has, and its place in the painting's order; or why
@@ -54,6 +54,9 @@ pub enum Commit {
     },
     Failed(Refusal),
 }
+
+// No position in the commit-graph file and no number of an entry in the store: where no place of a commit is known.
+pub const NOWHERE: usize = 4294967295;
 
 // The generation of a commit without a graph row.
 const NO_GENERATION: u32 = 0xFFFFFFFF;
@@ -124,12 +127,12 @@ fn body_commit(body: &[u8], start: usize, end: usize) -> Commit
     }
 }
 
-// One commit, read whole: its graph row, else its body. No position is known where its row may stand, so that any will do to be looked at
-// first.
-pub fn read_commit(cache: Cache, graph: &[u8], store: &[u8], id: &[u8]) -> Commit
+// One commit, read whole: its graph row, else its body. It may stand at near, as `find` has it: a position in the commit-graph file or the
+// number of an entry in the store, which is looked at first; on good files any other number gives the same answer.
+pub fn read_commit(cache: Cache, graph: &[u8], store: &[u8], id: &[u8], near: usize) -> Commit
     ensures { λ r. ⌜ ReadsCommit cache (now (graph .entry)) (now (store .entry)) (now (id .entry)) r ⌝ }
 {
-    let at = commit::find(Kind::Sha1, cache, graph, store, id, 0);
+    let at = commit::find(Kind::Sha1, cache, graph, store, id, near);
     match at {
         Either::CachedCommit { position, .. } => row_commit(graph, layout_of(cache), position),
         Either::CommitRefIter { start, end } => body_commit(
@@ -138,6 +141,24 @@ pub fn read_commit(cache: Cache, graph: &[u8], store: &[u8], id: &[u8]) -> Commi
             end,
         ),
         Either::Absent => Commit::Failed(Refusal::CommitNotFound),
+    }
+}
+
+// Where parent k of a commit that `read_commit` gave may be looked at first: a row names its parents by their positions in the commit-graph
+// file; of a body's parents no place is known.
+pub fn parent_near(commit: Commit, k: usize, cache: Cache, graph: &[u8]) -> usize
+    ensures { λ r. ⌜ r ≡ placeOf cache (now (graph .entry)) commit k ⌝ }
+{
+    match commit {
+        Commit::Row { position, .. } => parents::parent(
+            Kind::Sha1,
+            graph,
+            layout_of(cache),
+            position,
+            k,
+        ),
+        Commit::Body { .. } => NOWHERE,
+        Commit::Failed(_) => NOWHERE,
     }
 }
 

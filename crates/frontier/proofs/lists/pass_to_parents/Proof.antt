@@ -22,6 +22,9 @@ parent-count-requires c κs = search needs
 loop-holds : tie.Need-loop-holds Inv-loop μ-loop
 loop-holds c = let x = c .before .before .before .before .before .before .before .args in passing-first (x .cache) (x .graph .now) (x .store .now) (x .cap) _ _ (x .commit) (x .bits)
 
+parent-near-requires : tie.Need-parent-near-requires Inv-loop μ-loop
+parent-near-requires c κs = search needs
+
 parent-of-requires : tie.Need-parent-of-requires Inv-loop μ-loop
 parent-of-requires c κs = search needs
 
@@ -38,9 +41,9 @@ loop-less : tie.Need-loop-less Inv-loop μ-loop
 loop-less c = search needs
 
 loop-again : tie.Need-loop-again Inv-loop μ-loop
-loop-again c = let l = c .before .before .before .before .before .before .before .before .before .before .before .before .before .before .before .before .before .before .before .before in
-    let n = c .before .before .before .before .before .before .before .before .before .before .before .before .before .before .before .before .before .before .before .before .before .parent-count .ensures in
-    passing-next (l .loop .inv) (omega (arith, n, c .before .before .before .before .before .before .before .before .before .before .before .before .before .before .before .before .before .before .before .loop-test .taken)) (c .before .before .before .before .before .before .before .before .before .before .id-slice .ensures) (ap length (c .before .before .before .before .before .before .before .before .before .before .id-slice .ensures) ∙ id-in-width _ (gives-length _ (c .before .before .before .before .before .before .before .before .before .before .before .before .before .before .before .before .before .before .parent-of .ensures))) (c .before .before .before .before .before .before .before .before .before .before .before .before .before .before .before .before .before .before .parent-of .ensures) (record { names = c .before .before .before .before .before .before .before .before .before .pass-next .kept .0; marks = c .before .before .before .before .before .before .before .before .before .pass-next .kept .1 .0; levels = c .before .before .before .before .before .before .before .before .before .pass-next .kept .1 .1 .0; times = c .before .before .before .before .before .before .before .before .before .pass-next .kept .1 .1 .1 .0; line = c .before .before .before .before .before .before .before .before .before .pass-next .kept .1 .1 .1 .1 .0 }) (c .before .before .before .before .before .before .before .before .before .pass-next .ensures)
+loop-again c =
+    let n = c .before .before .before .before .before .before .before .before .before .before .before .before .before .before .before .before .before .before .before .before .before .before .parent-count .ensures in
+    passing-next (c .before .before .before .before .before .before .before .before .before .before .before .before .before .before .before .before .before .before .before .before .before .loop .inv) (omega (arith, n, c .before .before .before .before .before .before .before .before .before .before .before .before .before .before .before .before .before .before .before .before .loop-test .taken)) (c .before .before .before .before .before .before .before .before .before .before .id-slice .ensures) (ap length (c .before .before .before .before .before .before .before .before .before .before .id-slice .ensures) ∙ id-in-width _ (gives-length _ (c .before .before .before .before .before .before .before .before .before .before .before .before .before .before .before .before .before .before .parent-of .ensures))) (c .before .before .before .before .before .before .before .before .before .before .before .before .before .before .before .before .before .before .parent-of .ensures) (record { names = c .before .before .before .before .before .before .before .before .before .pass-next .kept .0; marks = c .before .before .before .before .before .before .before .before .before .pass-next .kept .1 .0; levels = c .before .before .before .before .before .before .before .before .before .pass-next .kept .1 .1 .0; times = c .before .before .before .before .before .before .before .before .before .pass-next .kept .1 .1 .1 .0; line = c .before .before .before .before .before .before .before .before .before .pass-next .kept .1 .1 .1 .1 .0 }) (c .before .before .before .before .before .before .before .before .before .pass-next .ensures)
 
 same-length : tie.Need-same-length Inv-loop μ-loop
 same-length c = c .before .loop .inv .long .names
@@ -68,6 +71,7 @@ pass-to-parents-spec =
     μ-loop
     parent-count-requires
     loop-holds
+    parent-near-requires
     parent-of-requires
     id-slice-requires
     pass-next-requires
