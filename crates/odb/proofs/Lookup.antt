@@ -1,6 +1,6 @@
 -- What `locate` and `try_find` answer. A search among the standing entries finds one under the id, and where their ids rise it misses none; in a
 -- good store these are all entries, and the body of each is a part of the file. An answer is kept only where it is such a part. Assumes nothing.
-use mathlib.Core.Path.{_≡_, refl, sym, _∙_, ap}
+use mathlib.Core.Path.{_≡_, refl, sym, _∙_, ap, subst}
 use Prim.Native.Nat.{ℕ, _+_, _-_, _*_, _≤_, _<_}
 use mathlib.Core.Bool.{true, false}
 use mathlib.Core.Option.{Option, none, some}
@@ -11,12 +11,12 @@ use lib.Dec.{leb}
 use borrow.Author.Tests.{leb-true, le-leb, lt-leb}
 use Rattle.hash.specs.Bytes.{Id, at, ifSome}
 use Rattle.hash.proofs.Tests.{byCases, clash, and-both, and-of}
-use Rattle.idlist.specs.IdList.{IdList, findIn, Finds, foundOf}
+use Rattle.idlist.specs.IdList.{IdList, idOf, findIn, Finds, foundOf}
 use Rattle.idlist.specs.declared.Found.{Found}
 use Rattle.idlist.specs.declared.Found.the-variants.{At, Absent as Missed}
-use Rattle.idlist.proofs.Answer.{none-found, other-width, found-all}
+use Rattle.idlist.proofs.Answer.{none-found, other-width, found-all, find-at}
 use Rattle.odb.specs.Store.{entrySize, start, entries, entryIds, bodyStart, bodyEnd, body, standing, standingEntries, storeOk, findEntry, storeFind}
-use Rattle.odb.specs.Lookup.{isPart, partAt, locatedOf, partOf, isBody, idsRise, lookedUp, Under, FindsEntry, Stood, bodyFound, entryOr, Locates, optionOf, TriesFind, NotesEntry}
+use Rattle.odb.specs.Lookup.{isPart, partAt, locatedOf, partOf, isBody, idsRise, lookedUp, Under, FindsEntry, Locates, optionOf, TriesFind, NotesEntry}
 use Rattle.odb.specs.declared.Located.{Located}
 use Rattle.odb.specs.declared.Located.the-variants.{Body, Absent}
 use Rattle.odb.proofs.Store.{good, good-count, broken-count, counted-within, standing-stand}
@@ -138,6 +138,16 @@ search-finds w b x base n {r = r} eb en q f = record {
     g : Finds (entryIds w b) 0 (standingEntries w b) x r
     g = rw (same, en) at f
 
+-- an entry that stands under x is the one that a search finds: ids that rise stand once
+pub near-finds : (w : ℕ) (b : List ℕ) (x : Id) (k : ℕ) → length x ≡ w → k < standingEntries w b → idOf (entryIds w b) k ≡ x → FindsEntry w b x (At k)
+near-finds w b x k q h is = record {
+  hit = λ j e. subst (λ (i : ℕ). Under w b x i × (length x ≡ w)) (one e) (record { stands = h; is = is }, q);
+  rises = λ p. ap foundOf (sym (find-at (entryIds w b) x (standingEntries w b) k p h is));
+}
+  where
+    one : {j : ℕ} → At k ≡ At j → k ≡ j
+    one e = cc
+
 -- an id of another width stands nowhere
 pub odd-width : (w : ℕ) (b : List ℕ) (x : Id) → (length x ≡ w → ⊥) → FindsEntry w b x Missed
 unfolding entryIds
@@ -149,30 +159,22 @@ odd-width w b x n = record {
     there : standing w b ≡ true → findIn (entryIds w b) x (standingEntries w b) ≡ none
     there t = other-width (entryIds w b) x (standingEntries w b) (standing-stand w b t) n
 
-pub found-stood : {w : ℕ} {b : List ℕ} {x : Id} {r : Found} → FindsEntry w b x r → Stood w b r
-found-stood f = record { inside = λ k e. f .hit k e .0 .stands }
-
 -- an entry that stands in the file ends inside it
 pub stood-within : (w : ℕ) (b : List ℕ) (k : ℕ) → k < standingEntries w b → start b + entrySize w * k + entrySize w ≤ length b
 stood-within w b k h = omega (arith, counted-within w b k h)
 
--- the body of the entry that was found is the answer of `locate`
-pub locates-found : {w : ℕ} {b : List ℕ} {x : Id} (r : Found) → FindsEntry w b x r → Locates w b x (bodyFound w b r)
-locates-found {w} {b} {x} (At k) f =
-    let t = f .hit k refl in
-    locates-entry w b x k (t .0) (t .1) (λ p. found-some (findIn (entryIds w b) x (standingEntries w b)) k (f .rises p))
-locates-found {w} {b} {x} Missed f = locates-none w b x (λ p. found-none (findIn (entryIds w b) x (standingEntries w b)) (f .rises p))
+-- the body of the entry that was found is the answer of `locate`, and its number is noted
+pub located-at : {w : ℕ} {b : List ℕ} {x : Id} {n : ℕ} {r : Found} (k : ℕ) → FindsEntry w b x r → r ≡ At k → Locates w b x (partAt b (bodyStart w b k) (bodyEnd w b k)) × NotesEntry w b x n k
+located-at {w} {b} {x} {n} {r} k f e =
+    let t = f .hit k e in
+    let first : idsRise w b ≡ true → findIn (entryIds w b) x (standingEntries w b) ≡ some k = λ p. found-some (findIn (entryIds w b) x (standingEntries w b)) k (sym e ∙ f .rises p) in
+    (locates-entry w b x k (t .0) (t .1) first, record { under = λ d. t .0; rises = λ p. rw (first p) })
 
--- and its number is noted
-pub notes-found : {w : ℕ} {b : List ℕ} {x : Id} (n : ℕ) (r : Found) → FindsEntry w b x r → NotesEntry w b x n (entryOr n r)
-notes-found {w} {b} {x} n (At k) f = record {
-  under = λ d. f .hit k refl .0;
-  rises = λ p. rw (found-some (findIn (entryIds w b) x (standingEntries w b)) k (f .rises p));
-}
-notes-found {w} {b} {x} n Missed f = record {
-  under = λ d. absurd (d refl);
-  rises = λ p. rw (found-none (findIn (entryIds w b) x (standingEntries w b)) (f .rises p));
-}
+-- where none was found nothing is
+pub located-none : {w : ℕ} {b : List ℕ} {x : Id} {n : ℕ} {r : Found} → FindsEntry w b x r → r ≡ Missed → Locates w b x Absent × NotesEntry w b x n n
+located-none {w} {b} {x} {n} {r} f e =
+    let gone : idsRise w b ≡ true → findIn (entryIds w b) x (standingEntries w b) ≡ none = λ p. found-none (findIn (entryIds w b) x (standingEntries w b)) (sym e ∙ f .rises p) in
+    (locates-none w b x gone, record { under = λ d. absurd (d refl); rises = λ p. rw (gone p) })
 
 -- ---- `try_find`
 

@@ -55,20 +55,6 @@ pub record FindsEntry (w : ℕ) (b : List ℕ) (x : Id) (r : Found) : Type 0 whe
   pub hit : (k : ℕ) → r ≡ At k → Under w b x k × (length x ≡ w)
   pub rises : idsRise w b ≡ true → r ≡ foundOf (findIn (entryIds w b) x (standingEntries w b))
 
--- an entry that is found stands in the file
-pub record Stood (w : ℕ) (b : List ℕ) (r : Found) : Type 0 where
-  pub inside : (k : ℕ) → r ≡ At k → k < standingEntries w b
-
--- where the body of an entry that was found lies, if it is a part of the file
-abbrev pub bodyFound : ℕ → List ℕ → Found → Located
-bodyFound w b (At k) = partAt b (bodyStart w b k) (bodyEnd w b k)
-bodyFound w b Missed = Absent
-
--- the number of an entry that was found, n where none was
-abbrev pub entryOr : ℕ → Found → ℕ
-entryOr n (At k) = k
-entryOr n Missed = n
-
 -- what `locate` and `locate_near` answer for the id x. On a good store: the body of the entry under x. Wherever the ids rise, good store or not: what is looked
 -- up. On any bytes: a part of them that is the body of an entry under x, or none; none where the entries do not stand or x has another width.
 -- (Among ids that do not rise one may be missed: which, is not said.)

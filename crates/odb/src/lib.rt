@@ -8,8 +8,9 @@ ghost use Prim.Native.Nat.{_+_, _*_, _-_, _<_, _≤_};
 ghost use lib.Dec.{eqb};
 ghost use lib.ListN.{length};
 ghost use Rattle.hash.specs.Bytes.{u32At, widthOf};
-ghost use Rattle.odb.specs.Store.{entrySize, start, entries, bodyEnd, bodyStart, endsRise, standing, standingEntries, storeOk};
-ghost use Rattle.odb.specs.Lookup.{partAt, partOf, isBody, FindsEntry, Stood, bodyFound, Locates, entryOr, TriesFind, NotesEntry};
+ghost use Rattle.idlist.specs.IdList.{idOf};
+ghost use Rattle.odb.specs.Store.{entrySize, start, entries, entryIds, bodyEnd, bodyStart, endsRise, standing, standingEntries, storeOk};
+ghost use Rattle.odb.specs.Lookup.{partAt, partOf, isBody, FindsEntry, Locates, TriesFind, NotesEntry};
 
 // Where a body lies in the store: its first byte, and the byte after its last.
 pub enum Located {
@@ -156,36 +157,55 @@ fn entry_body(w: usize, store: &[u8], base: usize, k: usize) -> Located
     )
 }
 
-// The number of the entry under an id, where number near is looked at first.
-fn find_entry(kind: Kind, store: &[u8], id: &[u8], near: usize) -> Found
+// The id of entry k, a part of the store.
+fn id_of_entry(w: usize, store: &[u8], base: usize, k: usize) -> &[u8]
+    requires { ⌜ (base ≡ start (now store)) × (base + entrySize w * k + entrySize w ≤ length (now store)) ⌝ }
+    ensures { λ r. ⌜ now r ≡ idOf (entryIds w (now (store .entry))) k ⌝ }
+{
+    hash::part(store, base + (w + END_BYTES) * k, w)
+}
+
+// The number of the entry under an id among the n that stand. Entry near is looked at first: where it is the one, nothing is searched.
+fn find_entry(kind: Kind, store: &[u8], base: usize, n: usize, id: &[u8], near: usize) -> Found
+    requires { ⌜ (base ≡ start (now store)) × (n ≡ standingEntries (widthOf kind) (now store)) × (length (now id) ≡ widthOf kind) ⌝ }
     ensures { λ r. ⌜ FindsEntry (widthOf kind) (now (store .entry)) (now (id .entry)) r ⌝ }
 {
     let w = hash::width(kind);
+    if near < n {
+        if hash::same_id(kind, id_of_entry(w, store, base, near), id) {
+            return Found::At(near);
+        }
+    }
+    idlist::find(store, base, w + END_BYTES, 0, n, id)
+}
+
+// Where the body under an id lies, and the number of its entry, which is noted: there the body may be looked for first another time. What
+// is found is the body of an entry under this id, in any bytes; where the ids do not rise it may be missed. Entry near is looked at first;
+// where the ids rise any other number gives the same answer. Where no entry is found the number stays as it was.
+fn locate_noting(kind: Kind, store: &[u8], id: &[u8], near: usize, entry: &mut usize) -> Located
+    ensures { λ r. ⌜ Locates (widthOf kind) (now (store .entry)) (now (id .entry)) r × NotesEntry (widthOf kind) (now (store .entry)) (now (id .entry)) (now (entry .entry)) (now (entry .exit)) ⌝ }
+{
+    let w = hash::width(kind);
     if id.len() != w {
-        return Found::Absent;
+        return Located::Absent;
     }
     let base = entries_start(store);
     let n = count(kind, store);
-    idlist::find_near(store, base, w + END_BYTES, 0, n, near, id)
-}
-
-// Where the body of an entry that was found lies, if it is a part of the store.
-fn body_found(kind: Kind, store: &[u8], at: Found) -> Located
-    requires { ⌜ Stood (widthOf kind) (now store) at ⌝ }
-    ensures { λ r. ⌜ r ≡ bodyFound (widthOf kind) (now (store .entry)) at ⌝ }
-{
-    match at {
-        Found::At(k) => entry_body(hash::width(kind), store, entries_start(store), k),
+    match find_entry(kind, store, base, n, id, near) {
+        Found::At(k) => {
+            *entry = k;
+            entry_body(w, store, base, k)
+        }
         Found::Absent => Located::Absent,
     }
 }
 
-// Where the body under an id lies. What is found is the body of an entry under this id, in any bytes; where the ids do not rise it may be
-// missed. Entry near is looked at first; where the ids rise any other number gives the same answer.
+// The same without the number of the entry.
 pub fn locate_near(kind: Kind, store: &[u8], id: &[u8], near: usize) -> Located
     ensures { λ r. ⌜ Locates (widthOf kind) (now (store .entry)) (now (id .entry)) r ⌝ }
 {
-    body_found(kind, store, find_entry(kind, store, id, near))
+    let mut entry = 0;
+    locate_noting(kind, store, id, near, &mut entry)
 }
 
 // The same, where no entry is known to be near.
@@ -225,16 +245,6 @@ fn is_body(at: Located) -> bool
     }
 }
 
-// The number of an entry that was found, another where none was.
-fn entry_or(at: Found, other: usize) -> usize
-    ensures { λ r. ⌜ r ≡ entryOr other at ⌝ }
-{
-    match at {
-        Found::At(k) => k,
-        Found::Absent => other,
-    }
-}
-
 // The body under an id, a part of the store itself and not a copy; found says whether there is one, and entry is set to the number of its
 // entry, where the body may be looked for first another time. Where there is no entry it stays as it was.
 pub fn try_find_noting<'a>(
@@ -246,10 +256,8 @@ pub fn try_find_noting<'a>(
 ) -> &'a [u8]
     ensures { λ r. ⌜ TriesFind (widthOf kind) (now (store .entry)) (now (id .entry)) (now (found .exit)) (now r) × NotesEntry (widthOf kind) (now (store .entry)) (now (id .entry)) (now (entry .entry)) (now (entry .exit)) ⌝ }
 {
-    let k = find_entry(kind, store, id, NO_ENTRY);
-    let at = body_found(kind, store, k);
+    let at = locate_noting(kind, store, id, NO_ENTRY, entry);
     *found = is_body(at);
-    *entry = entry_or(k, *entry);
     body(store, at)
 }
 

@@ -15,7 +15,7 @@ ghost use Rattle.state.specs.Steps.{mem};
 ghost use Rattle.visit.specs.Link.{Admits, Enters, Visits, VisitsStored};
 ghost use Rattle.hash.specs.Bytes.{idBytes};
 
-// The largest number that is noted beside a slot.
+// No place is noted from here on.
 const MOST: usize = 4294967295;
 
 // Whether a walk follows first parents alone.
@@ -73,11 +73,12 @@ fn new_row_seconds(graph: &[u8], l: Layout, parent: usize, timed: bool) -> Secon
 }
 
 // Notes beside its slot where a new parent stands, its position in the commit-graph file or the number of its entry in the store: that is
-// tried first when the parent leaves the queue. Nothing is promised of what is noted: a commit is looked up by its id.
+// tried first when the parent leaves the queue. One more is set down, as an opening leaves 0 where nothing is noted. Nothing is promised of
+// what is noted: a commit is looked up by its id.
 fn note(levels: &mut [u32], slot: usize, place: usize) {
     if slot < levels.len() {
-        if place <= MOST {
-            levels[slot] = place as u32;
+        if place < MOST {
+            levels[slot] = (place + 1) as u32;
         }
     }
 }

@@ -22,6 +22,7 @@ use walk::Outcome;
 use walk::Refusal;
 use walk::Settings;
 ghost use mathlib.Core.Path.{_≡_};
+ghost use Prim.Native.Nat.{_+_, _%_};
 ghost use lib.ListN.{getD};
 ghost use Rattle.walk.specs.declared.Outcome.the-variants.{Refused};
 ghost use Rattle.walk.specs.declared.MaybeLevel.the-variants.{NoGeneration};
@@ -237,12 +238,23 @@ fn wide(x: u32) -> usize
     x as usize
 }
 
-// Where the commit in a slot may stand, as is noted beside the slot; 0 past the end.
+// The place that a number beside a slot notes, one less than it: 0 notes none, and gives a number that is no place in either file.
+fn place_noted(n: u32) -> usize
+    ensures { λ r. ⌜ r ≡ (n + 4294967295) % 4294967296 ⌝ }
+{
+    (wide(n) + 4294967295) % 4294967296
+}
+
+// Where the commit in a slot may stand, as is noted beside the slot; nothing is noted past the end.
 fn noted(levels: &[u32], slot: u32) -> usize
-    ensures { λ r. ⌜ r ≡ getD (now (levels .entry)) slot 0 ⌝ }
+    ensures { λ r. ⌜ r ≡ (getD (now (levels .entry)) slot 0 + 4294967295) % 4294967296 ⌝ }
 {
     let i = wide(slot);
-    if i < levels.len() { wide(levels[i]) } else { 0 }
+    if i < levels.len() {
+        place_noted(levels[i])
+    } else {
+        place_noted(0)
+    }
 }
 
 // The first commit of the queue, from the store alone.
