@@ -4,6 +4,7 @@ README.md; ends with status 1 if the driver and the model differ anywhere, or a 
 --seed N      other random cases
 --scale N     N percent of the random cases
 --random      without the exhaustive families
+--ours        the driver is our library, not the crate: also files with a level 0, which the crate takes as the lowest (card 6)
 --keep FILE   also writes a tenth of the cases to FILE, as the driver reads them
 """
 import argparse
@@ -183,12 +184,13 @@ def third_demand(case, answers):
 
 class Tally:
     def __init__(self):
+        self.zero = 0
         self.cases = self.calls = self.inside = self.outside = self.layout = self.differ = self.heap_inside = self.heap_outside = 0
 
 
 class Run:
-    def __init__(self, driver, seed, scale, small):
-        self.driver, self.seed, self.scale, self.small = driver, seed, scale, small
+    def __init__(self, driver, seed, scale, small, ours=False):
+        self.driver, self.seed, self.scale, self.small, self.ours = driver, seed, scale, small, ours
         self.tallies = {}
         self.clauses = collections.Counter()
         self.clause_differs = collections.Counter()
@@ -219,6 +221,11 @@ class Run:
             tally.layout += layout
             tally.outside += bool(broken)
             tally.inside += not layout and not broken
+            # "Runs beside the crate keep to files without a zero": there only model and definitions are held against each other
+            zero = not self.ours and not case.pair.files.levelled
+            tally.zero += zero
+            if zero:
+                got = other = lines
             if got != lines:
                 tally.differ += 1
                 self.found.append((name, case, sorted(broken)))
@@ -285,12 +292,12 @@ class Run:
 
     def report(self):
         print("seed %d, scale %d\n" % (self.seed, self.scale))
-        print("| family | cases | calls | inside | outside | layout refused | differ | plain heap differs, inside | plain heap differs, outside |")
-        print("|---|---|---|---|---|---|---|---|---|")
+        print("| family | cases | calls | inside | outside | layout refused | level 0, not beside the crate | differ | plain heap differs, inside | plain heap differs, outside |")
+        print("|---|---|---|---|---|---|---|---|---|---|")
         total = Tally()
         for name, t in list(self.tallies.items()) + [("all", total)]:
-            print("| %s | %d | %d | %d | %d | %d | %d | %d | %d |" % (
-                name, t.cases, t.calls, t.inside, t.outside, t.layout, t.differ, t.heap_inside, t.heap_outside))
+            print("| %s | %d | %d | %d | %d | %d | %d | %d | %d | %d |" % (
+                name, t.cases, t.calls, t.inside, t.outside, t.layout, t.zero, t.differ, t.heap_inside, t.heap_outside))
             for field in vars(total) if t is not total else ():
                 setattr(total, field, getattr(total, field) + getattr(t, field))
         print("\n| outside by (a case may break several) | cases | plain heap differs |\n|---|---|---|")
@@ -329,9 +336,10 @@ def main():
     parser.add_argument("--seed", type=int, default=1)
     parser.add_argument("--scale", type=int, default=100)
     parser.add_argument("--random", action="store_true")
+    parser.add_argument("--ours", action="store_true")
     parser.add_argument("--keep", metavar="FILE")
     given = parser.parse_args()
-    run = Run(given.driver, given.seed, given.scale, not given.random)
+    run = Run(given.driver, given.seed, given.scale, not given.random, given.ours)
     run.all()
     if given.keep:
         with open(given.keep, "wb") as file:

@@ -290,9 +290,13 @@ def queued_seconds(w, t):
     return t if by_time(w.settings) else None
 
 
+def level_shown(level):
+    return None if level == NO_GENERATION else level
+
+
 def from_row(w, st, x, t, ps, level):
     f = followed(w.settings, ps)
-    return step(("commit", x, level, queued_seconds(w, t)), [p for p, _ in f], visit_all(w, st, f))
+    return step(("commit", x, level_shown(level), queued_seconds(w, t)), [p for p, _ in f], visit_all(w, st, f))
 
 
 def ending(settings, h):

@@ -15,7 +15,7 @@ import generate
 from compare import expected
 
 ENDED, NO_ROOM, CLOSED = 100, 101, 12
-RECORD = 18  # words
+RECORD = 19  # words
 GUARD = 0x5C
 
 

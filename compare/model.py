@@ -1,6 +1,6 @@
-"""Document 01's walk, from its words alone; the readers of the two files are tools/formats.py, from the same words.
+"""Document 01's walk, from its words alone, and document 02's cards; the readers of the two files are tools/formats.py, from the same words.
 
-`Files` is what the two files say of an id. `Walk` is an opening and its next calls. Sentences in quotation marks are document 01's.
+`Files` is what the two files say of an id. `Walk` is an opening and its next calls. Sentences in quotation marks are the documents'.
 """
 import os
 import sys
@@ -46,11 +46,11 @@ class Header:
 
 
 class Files:
-    """Book and graph. `fault` is the first of 4 to 6 that applies."""
+    """Book and graph. `fault` is the first of 4 to 6 that applies. `levelled`: card 6, "If any row has level 0, no level of that file is used"."""
 
     def __init__(self, store, graph):
         self.store, self.graph_bytes = store, graph
-        self.headers, self.rows, self.count, self.graph = {}, {}, 0, None
+        self.headers, self.rows, self.count, self.graph, self.levelled = {}, {}, 0, None, True
         entries = formats.store_entries(store)
         self.fault = None
         if entries is None:
@@ -67,6 +67,7 @@ class Files:
                 return
             self.count = self.graph.n
             self.places = {name: place for place, name in enumerate(self.graph.names)}
+            self.levelled = self.graph.levelled
 
     def header(self, name):
         """None where the book has no such id."""
@@ -75,15 +76,19 @@ class Files:
         return self.headers[name]
 
     def row(self, name):
-        """None where the graph has no such id; CORRUPT; or the parents with their own rows' seconds, the level, the seconds."""
+        """None where the graph has no such id; CORRUPT; or the parents with their own rows' seconds, the level of the pair, the seconds."""
         if self.graph is None or name not in self.places:
             return None
         if name not in self.rows:
             place = self.places[name]
             parents = self.graph.parents(place)
             self.rows[name] = CORRUPT if parents is None else (
-                [(self.graph.names[p], self.graph.seconds(p)) for p in parents], self.graph.level(place), self.graph.seconds(place))
+                [(self.graph.names[p], self.graph.seconds(p)) for p in parents], self.level(place), self.graph.seconds(place))
         return self.rows[name]
+
+    def level(self, place):
+        """Card 6: "pairs take 0xFFFFFFFF" """
+        return self.graph.pair_level(place)
 
     def whole(self, name):
         """A commit read for painting: its parents and its pair (level, seconds). "The graph comes before the book"."""
@@ -264,6 +269,8 @@ class Walk:
             row = None
         if row is not None:
             parents, level, _ = row
+            # card 6: "listings show none"
+            level = None if level == NO_ROW_LEVEL else level
             if self.first:
                 parents = parents[:1]
             for parent, its in parents:

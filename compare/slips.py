@@ -1,5 +1,7 @@
 """Walks with one fault each, to see that the cases tell them from the right one. The first four are document 01's slips."""
-from model import CORRUPT, HIDDEN, STALE, VISIBLE, Walk
+import copy
+
+from model import CORRUPT, HIDDEN, NO_ROW_LEVEL, STALE, VISIBLE, Walk
 
 
 class PoppedStale(Walk):
@@ -47,6 +49,26 @@ class Shifted:
         parents, pair = self.files.whole(name)
         row = self.row(name)
         return (parents if row is None else [p for p, _ in row[0]]), pair
+
+
+class ZeroLowest(Walk):
+    """takes level 0 as the lowest level"""
+
+    def __init__(self, files, *rest):
+        super().__init__(levels_by(files, lambda level: level), *rest)
+
+
+class ZeroRowAlone(Walk):
+    """leaves out the level of a row with level 0 and uses the others"""
+
+    def __init__(self, files, *rest):
+        super().__init__(levels_by(files, lambda level: level or NO_ROW_LEVEL), *rest)
+
+
+def levels_by(files, taken):
+    other = copy.copy(files)
+    other.rows, other.level = {}, lambda place: taken(files.graph.level(place))
+    return other
 
 
 class LastQueued(Walk):
@@ -136,4 +158,4 @@ def painting(walk, popped_stale=False, first_hides=False, unsorted=False, turned
 
 
 ALL = [PoppedStale, FirstHides, GraphSeconds, EdgeFromThird, LastQueued, HiddenOnce, TurnedTipAdmitted, CutoffUnderFirst, UnsortedWaiting,
-       SecondsBeforeLevels, GraphKept]
+       SecondsBeforeLevels, GraphKept, ZeroLowest, ZeroRowAlone]

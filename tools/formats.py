@@ -219,6 +219,7 @@ class Graph:
         if any(not self.names[k] < self.names[k + 1] for k in range(n - 1)):
             return False
         self.n = n
+        self.levelled = all(self.level(p) != 0 for p in range(n))
         return True
 
     def find(self, name):
@@ -229,6 +230,10 @@ class Graph:
 
     def level(self, p):
         return be32(self.row(p), 28) >> 2
+
+    def pair_level(self, p):
+        """Card 6: "If any row has level 0, no level of that file is used: pairs take 0xFFFFFFFF". """
+        return self.level(p) if self.levelled else 0xFFFFFFFF
 
     def seconds(self, p):
         return (be32(self.row(p), 28) & 3) << 32 | be32(self.row(p), 32)

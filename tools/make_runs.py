@@ -357,6 +357,14 @@ def graphs(_):
     zero.run("generations 0, hide 5", [8], [5], sorting=NEWEST)
     part = History(**SOURCE, graph=range(1, 9), levels={5: 0, 3: 0, 8: 2 ** 30 - 1})
     part.run("generations 0 of some, the greatest of one, hide 3", [8], [3])
+    # card 6: 0 as the lowest level, 1, or no level for that row alone would hand out 5 (4 in the second history) as well
+    rising = dict(seconds={1: 20, 2: 17, 3: 19, 4: 8, 5: 3}, links={1: [2, 5], 2: [4], 4: [5]}, graph=[3, 4, 5])
+    History(**rising, levels={3: 0, 4: 2, 5: 3}).run("a generation 0 that no tip reaches, hide 2", [1], [2])
+    History(**rising, levels={3: 0, 4: 2, 5: 3}).run("a generation 0 that no tip reaches, hide 2, newest", [1], [2], sorting=NEWEST)
+    History(**rising, levels={3: 1, 4: 2, 5: 3}).run("the same with a generation 1, hide 2", [1], [2])
+    within = dict(seconds={1: 17, 2: 14, 3: 13, 4: 11, 5: 4}, links={1: [2, 4], 2: [3, 5], 3: [4], 4: [5]}, graph=range(1, 6))
+    History(**within, levels={1: 3, 2: 3, 3: 2, 4: 3, 5: 0}).run("a generation 0 of a root, hide 2", [1], [2])
+    History(**within, levels={1: 3, 2: 3, 3: 2, 4: 3, 5: 1}).run("the same with a generation 1 of the root, hide 2", [1], [2])
     # the graph says other parents and other seconds than the store: for a commit from the graph it decides
     rows = {"a": ("cd", 9, 40), "b": ("", 7, 99), "c": ("db", 6, 2), "d": ("", 5, 77)}
     other = History(**CHAIN, graph="abcd", rows=rows)

@@ -62,7 +62,7 @@ def graph_case(g, ids=()):
             continue
         ps = r.parents(p)
         told = "corrupt" if ps is None else " ".join(map(str, [len(ps)] + ps))
-        lines.append(f"at {p} level {r.level(p)} seconds {r.seconds(p)} parents {told}")
+        lines.append(f"at {p} level {r.pair_level(p)} seconds {r.seconds(p)} parents {told}")
 
 
 def find_case(g, s, ids):

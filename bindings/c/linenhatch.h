@@ -33,7 +33,7 @@ extern "C" {
 #define LINENHATCH_TIMES(places) ((size_t)(places))                       /* int64_t */
 #define LINENHATCH_LINE(places) (5u * (size_t)(places))                   /* uint32_t */
 #define LINENHATCH_PARENTS 5120u                                          /* uint8_t: 256 ids */
-#define LINENHATCH_RECORD 18u                                             /* uint64_t */
+#define LINENHATCH_RECORD 19u                                             /* uint64_t */
 #define LINENHATCH_OPEN_NUMBERS 3u                                        /* uint64_t, of an opening */
 #define LINENHATCH_NUMBERS 7u                                             /* uint64_t, of a call */
 #define LINENHATCH_SECONDS 1u                                             /* int64_t */
@@ -45,7 +45,7 @@ extern "C" {
 #define LINENHATCH_WAITING 2  /* of those, not handed out yet */
 /* of a call alone: */
 #define LINENHATCH_PARENT_IDS 3     /* how many ids of parents stand at the start of parents */
-#define LINENHATCH_HAS_GENERATION 4 /* 1 where the commit came from the graph file, else 0 */
+#define LINENHATCH_HAS_GENERATION 4 /* 1 where the commit came from a graph file in which no generation is 0, else 0 */
 #define LINENHATCH_GENERATION 5     /* its generation there, else 0 */
 #define LINENHATCH_HAS_TIME 6       /* 1 where the walk goes by time, so that seconds holds the commit's time, else 0 */
 

@@ -7,7 +7,7 @@
 #![allow(unsafe_code)]
 
 /// How many words a walk's record has.
-pub(crate) const RECORD: usize = 18;
+pub(crate) const RECORD: usize = 19;
 /// How many numbers an opening sets down.
 pub(crate) const OPEN_NUMBERS: usize = 3;
 /// How many numbers a next call sets down.

@@ -67,7 +67,7 @@ impl<'a> Lister<'a> {
     /// Adds hidden tips: they and all that they reach are left out.
     ///
     /// This holds where the pair of generation and committer time falls from each commit to its parents: always for commits that git's
-    /// commit-graph file has, and for others where clocks do not run backwards. Elsewhere some of what they reach may still be listed.
+    /// commit-graph file has with generations, and for others where clocks do not run backwards. Elsewhere some of what they reach may still be listed.
     pub fn hide(mut self, ids: &[ObjectId]) -> Lister<'a> {
         self.hidden.extend_from_slice(ids);
         self
@@ -254,7 +254,8 @@ pub struct Commit {
     pub id: ObjectId,
     /// Its parents in order; with [`first_parent`](Lister::first_parent) the first alone.
     pub parents: Vec<ObjectId>,
-    /// Its generation, if it came from the commit-graph file.
+    /// Its generation, if it came from the commit-graph file and no generation of that file is 0 (by which older programs said that they had
+    /// computed none; then none is used).
     pub generation: Option<u32>,
     /// The committer time that it was queued with, in seconds since 1970: in the orders by time, but not with
     /// [`first_parent`](Lister::first_parent).

@@ -220,6 +220,32 @@ fn parents_up_to_256() {
     assert_eq!(walk.filter(|answer| *answer == Err(Refusal::CommitNotFound)).count(), 256);
 }
 
+/// A commit-graph file in which one generation is 0: none is used and none is shown; parents and times stay, and the list too.
+#[test]
+fn a_graph_file_with_a_generation_0() {
+    let (store, graph) = (include_bytes!("../../../crates/readers/data/store"), include_bytes!("../../../crates/readers/data/graph"));
+    let tip: ObjectId = TIP.parse().unwrap();
+    let list = |graph: &[u8]| -> Vec<Commit> { Lister::new(store).graph(graph).tips(&[tip]).order(Order::Newest).open().unwrap().map(Result::unwrap).collect() };
+    let with = list(graph);
+    let rows = chunk_at(graph, b"CDAT");
+    let count = u32::from_be_bytes(graph[chunk_at(graph, b"OIDF") + 1020..][..4].try_into().unwrap()) as usize;
+    for row in [0, count / 2, count - 1] {
+        let mut zeroed = graph.to_vec();
+        let word = &mut zeroed[rows + 36 * row + 28..][..4];
+        word[..3].fill(0);
+        word[3] &= 3;
+        let without: Vec<Commit> = with.iter().cloned().map(|commit| Commit { generation: None, ..commit }).collect();
+        assert!(with.iter().any(|commit| commit.generation.is_some()));
+        assert_eq!(list(&zeroed), without);
+    }
+}
+
+/// Where a chunk of a commit-graph file starts.
+fn chunk_at(graph: &[u8], name: &[u8; 4]) -> usize {
+    let row = graph[8..].chunks(12).find(|row| row[..4] == name[..]).unwrap();
+    u64::from_be_bytes(row[4..].try_into().unwrap()) as usize
+}
+
 /// The history that git itself wrote for the readers: a store, and a commit-graph file with all its chunks.
 #[test]
 fn a_graph_file_of_git() {

@@ -20,7 +20,7 @@ use Rattle.commit.specs.declared.Either.the-variants.{CachedCommit, Comm
 
 -- a commit-graph file that is used is a good one, and its chunks stand where the layout says
 unfoldable pub GoodCache : ℕ → Cache → List ℕ → Type 0
-GoodCache w (Graph l) g = (graphOk w g ≡ true) × (l ≡ layoutOf g)
+GoodCache w (Graph l) g = (graphOk w g ≡ true) × (l ≡ layoutOf w g)
 GoodCache w NoGraph g = Unit {0}
 
 -- no id stands in the commit-graph file, or none is used
@@ -44,11 +44,11 @@ inStore Nowhere = Absent
 
 -- "the graph comes before the book"
 unfoldable pub foundIn : ℕ → Cache → List ℕ → List ℕ → Id → Either
-foundIn w c g s x = ifSome (rowOf w c g x) (inStore (locatedOf w s (findEntry w s x))) (inGraph w g (layoutOf g))
+foundIn w c g s x = ifSome (rowOf w c g x) (inStore (locatedOf w s (findEntry w s x))) (inGraph w g (layoutOf w g))
 
 -- the same in a store of which only the ids are known to rise
 unfoldable pub foundAmong : ℕ → Cache → List ℕ → List ℕ → Id → Either
-foundAmong w c g s x = ifSome (rowOf w c g x) (inStore (lookedUp w s x)) (inGraph w g (layoutOf g))
+foundAmong w c g s x = ifSome (rowOf w c g x) (inStore (lookedUp w s x)) (inGraph w g (layoutOf w g))
 
 -- what `find` answers for the id x. On good files what they have. On any bytes a row that is found is one of the cache's layout, with the id
 -- x, and its place is the row's; a body that is found is that of an entry under x, and a part of the store; and nothing is found where

@@ -328,12 +328,12 @@ module _ (w : ℕ) (g : List ℕ) (p : ℕ) (ps : List ℕ) (e : graphParents w 
   -- a good list has at most 256 parents
   pub parents-few : length ps ≤ mostParents
   unfolding graphParents
-  parents-few = good-list w g (layoutOf g) p ps e .few
+  parents-few = good-list w g (layoutOf w g) p ps e .few
 
   -- every position of a good list is below N
   pub parents-at-below : (k : ℕ) → k < length ps → getD ps k 0 < graphCount g
   unfolding graphParents layoutOf
-  parents-at-below = good-list w g (layoutOf g) p ps e .below
+  parents-at-below = good-list w g (layoutOf w g) p ps e .below
 
   pub parents-below : (q : ℕ) → List·Memᴰ q ps → q < graphCount g
   parents-below = members ps (λ q. q < graphCount g) parents-at-below

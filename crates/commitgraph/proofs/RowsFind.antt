@@ -33,9 +33,9 @@ pub below-entry : (g : List ℕ) (l : Layout) (i : ℕ) → (i ≡ 0 → ⊥) �
 unfolding idsBelow
 below-entry g l i h = rw (ne-eqb i 0 h)
 
-below-own : (g : List ℕ) (i : ℕ) → idsBelow g (layoutOf g) (i + 1) ≡ fanAt g i
+below-own : (w : ℕ) (g : List ℕ) (i : ℕ) → idsBelow g (layoutOf w g) (i + 1) ≡ fanAt g i
 unfolding layoutOf fanAt
-below-own g i = let n : i + 1 - 1 ≡ i = omega arith in below-entry g (layoutOf g) (i + 1) (λ e. omega arith) ∙ rw n
+below-own w g i = let n : i + 1 - 1 ≡ i = omega arith in below-entry g (layoutOf w g) (i + 1) (λ e. omega arith) ∙ rw n
 
 -- the ids of a right file stand in it
 ids-stand : (w : ℕ) (g : List ℕ) (n : ℕ) → 0 < w → graphOk w g ≡ true → n ≤ graphCount g → Stands (graphIds w g) n
@@ -54,23 +54,23 @@ pub search-of : (w : ℕ) (g : List ℕ) (l : Layout) (b : ℕ) (x : Id) {lo hi 
 search-of w g l b x f p q e = rw (p, q, e) at f
 
 module _ (w : ℕ) (g : List ℕ) (x : Id) (b : ℕ) (some-bytes : 0 < w) (first : b ≡ getD x 0 0) (small : b < 256) (ok : graphOk w g ≡ true) where
-  inside : (k : ℕ) → k < graphCount g → idOf (graphIds w g) k ≡ x → (idsBelow g (layoutOf g) b ≤ k) × (k < idsBelow g (layoutOf g) (b + 1))
+  inside : (k : ℕ) → k < graphCount g → idOf (graphIds w g) k ≡ x → (idsBelow g (layoutOf w g) b ≤ k) × (k < idsBelow g (layoutOf w g) (b + 1))
   inside k h q =
       let f = in-fan w g x k some-bytes ok h q (rw (sym first) small) in
       let s : k < fanAt g b = rw (sym first) at (f .before) in
-      (⊎-elim (λ z. rw (below-zero g (layoutOf g) b z) (omega arith)) (λ z. low z (f .past (b - 1))) (eq-zero-or-pos b), rw (below-own g b) s)
+      (⊎-elim (λ z. rw (below-zero g (layoutOf w g) b z) (omega arith)) (λ z. low z (f .past (b - 1))) (eq-zero-or-pos b), rw (below-own w g b) s)
     where
-      low : 0 < b → (suc (b - 1) ≡ getD x 0 0 → fanAt g (b - 1) ≤ k) → idsBelow g (layoutOf g) b ≤ k
+      low : 0 < b → (suc (b - 1) ≡ getD x 0 0 → fanAt g (b - 1) ≤ k) → idsBelow g (layoutOf w g) b ≤ k
       low z f =
           let n : b ≡ b - 1 + 1 = omega arith in
-          let e : idsBelow g (layoutOf g) b ≡ fanAt g (b - 1) = ap (idsBelow g (layoutOf g)) n ∙ below-own g (b - 1) in
+          let e : idsBelow g (layoutOf w g) b ≡ fanAt g (b - 1) = ap (idsBelow g (layoutOf w g)) n ∙ below-own w g (b - 1) in
           rw e (f (omega arith))
 
-  searched : {r : Found} → length x ≡ w → Search w g (layoutOf g) b x r → r ≡ foundOf (graphFind w g x)
+  searched : {r : Found} → length x ≡ w → Search w g (layoutOf w g) b x r → r ≡ foundOf (graphFind w g x)
   unfolding graphFind graphIds layoutOf
   searched size f =
-      let h : idsBelow g (layoutOf g) (b + 1) ≤ graphCount g = rw (below-own g b) (fan-within w g b ok small) in
-      found-in (graphCount g) (at-width w size f) (ids-stand w g (idsBelow g (layoutOf g) (b + 1)) some-bytes ok h) h (right w g ok .idsRise) inside
+      let h : idsBelow g (layoutOf w g) (b + 1) ≤ graphCount g = rw (below-own w g b) (fan-within w g b ok small) in
+      found-in (graphCount g) (at-width w size f) (ids-stand w g (idsBelow g (layoutOf w g) (b + 1)) some-bytes ok h) h (right w g ok .idsRise) inside
 
 -- ---- positions and ids
 
@@ -111,7 +111,7 @@ no-hit : {X : Type 0} (p : ℕ) → Absent ≡ At p → X
 no-hit p e = let z : _≡_ {A = ℕ} 0 1 = cc in absurd (omega arith)
 
 -- where nothing is found only the first clause says something
-looks-absent : (w : ℕ) (g : List ℕ) (l : Layout) (x : Id) → (graphOk w g ≡ true → l ≡ layoutOf g → Absent ≡ positionOf (graphFind w g x)) → Looks w g l x Absent
+looks-absent : (w : ℕ) (g : List ℕ) (l : Layout) (x : Id) → (graphOk w g ≡ true → l ≡ layoutOf w g → Absent ≡ positionOf (graphFind w g x)) → Looks w g l x Absent
 looks-absent w g l x f = record { right = f; hit = λ p e. no-hit p e; inside = λ p e. no-hit p e; foreign = λ n. refl }
 
 miss-position : (o : Option ℕ) → Miss ≡ foundOf o → Absent ≡ positionOf o
@@ -131,8 +131,8 @@ module _ (w : ℕ) (g : List ℕ) (l : Layout) (x : Id) (b : ℕ) (some-bytes : 
   looks-over h =
       looks-absent w g l x
       (λ ok e.
-      let m : layoutOf g .count < idsBelow g (layoutOf g) (b + 1) = subst (λ (l′ : Layout). l′ .count < idsBelow g l′ (b + 1)) e h in
-      absurd (omega (arith, below-own g b, fan-within w g b ok small)))
+      let m : layoutOf w g .count < idsBelow g (layoutOf w g) (b + 1) = subst (λ (l′ : Layout). l′ .count < idsBelow g l′ (b + 1)) e h in
+      absurd (omega (arith, below-own w g b, fan-within w g b ok small)))
 
   module _ (size : length x ≡ w) where
     pub looks-hit : (p : ℕ) → idsBelow g l (b + 1) ≤ l .count → Search w g l b x (Hit p) → Looks w g l x (At p)

@@ -89,7 +89,7 @@ edge-cut g e from i = omega arith
 
 -- ---- what stands at position p, of the file's own layout
 
-module _ (w : ℕ) (g : List ℕ) (l : Layout) (p : ℕ) (own : l ≡ layoutOf g) where
+module _ (w : ℕ) (g : List ℕ) (l : Layout) (p : ℕ) (own : l ≡ layoutOf w g) where
   pub id-own : idIn w g l p ≡ graphId w g p
   unfolding idIn layoutOf graphId graphIds idOf
   id-own = ap (λ (m : Layout). idIn w g m p) own

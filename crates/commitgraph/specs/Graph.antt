@@ -2,7 +2,7 @@
 -- All numbers are big-endian. Document 02, card 13: ids are w bytes wide; rows and the checksum follow them. Assumes nothing.
 use mathlib.Core.Path.{_≡_}
 use Prim.Native.Nat.{ℕ, zero, suc, _+_, _*_, _-_, _/_, _%_, _≤_, _<_, min}
-use mathlib.Core.Bool.{Bool, true, false, cond, _&&_}
+use mathlib.Core.Bool.{Bool, true, false, cond, not, _&&_}
 use mathlib.Core.Option.{Option, none, some}
 use mathlib.Core.List.{List, [], _∷_}
 use lib.ListN.{length, take, drop, getD}
@@ -139,15 +139,42 @@ chunksOk w g =
 unfoldable pub graphOk : ℕ → List ℕ → Bool
 graphOk w g = let r : Bool = chunksOk w g in cond (tableOk w g) r false
 
--- where the chunks stand, found by one reading of the table
-unfoldable pub layoutOf : List ℕ → Layout
-layoutOf g = record {
+-- where the chunks stand, found by one reading of the table, before any row is looked at
+unfoldable pub placesOf : List ℕ → Layout
+placesOf g = record {
   fan = chunkStart g OIDF;
   ids = chunkStart g OIDL;
   rows = chunkStart g CDAT;
   edge = chunkStart g EDGE;
   edges = chunkSize g EDGE / 4;
   count = graphCount g;
+  levels = false;
+}
+
+-- row p where a layout has it. "CDAT: N rows of 36 bytes: tree id, two u32 parents, then a u32 whose high 30 bits are the level and
+-- whose low 2 bits are the high bits of the 34-bit seconds, then their low 32": the numbers stand at w, w + 4, w + 8 and w + 12
+unfoldable pub rowIn : ℕ → List ℕ → Layout → ℕ → List ℕ
+rowIn w g l p = at g (l .rows + rowSize w * p) (rowSize w)
+
+-- the level that row p states
+unfoldable pub statedLevel : ℕ → List ℕ → Layout → ℕ → ℕ
+statedLevel w g l p = u32At (rowIn w g l p) (w + 8) / 4
+
+-- card 6: "If any row has level 0, no level of that file is used": none of the first n rows states it
+unfoldable pub levelled : ℕ → List ℕ → Layout → ℕ → Bool
+levelled w g l zero = true
+levelled w g l (suc n) = let r = not (eqb (statedLevel w g l n) 0) in cond (levelled w g l n) r false
+
+-- what is found of a file once, for all that is read in it: where its chunks stand, and whether its levels are used
+unfoldable pub layoutOf : ℕ → List ℕ → Layout
+layoutOf w g = record {
+  fan = chunkStart g OIDF;
+  ids = chunkStart g OIDL;
+  rows = chunkStart g CDAT;
+  edge = chunkStart g EDGE;
+  edges = chunkSize g EDGE / 4;
+  count = graphCount g;
+  levels = levelled w g (placesOf g) (graphCount g);
 }
 
 -- ---- lookup and rows
@@ -172,38 +199,38 @@ idsBelow g l i = cond (eqb i 0) 0 (u32At g (l .fan + 4 * (i - 1)))
 -- what is found is x, below N and whole in the file. The premise of `right` stays: among ids that do not rise a search may miss one that
 -- stands there, and which ones it misses only the search itself would tell.
 pub record Looks (w : ℕ) (g : List ℕ) (l : Layout) (x : Id) (r : Position) : Type 0 where
-  pub right : graphOk w g ≡ true → l ≡ layoutOf g → r ≡ positionOf (graphFind w g x)
+  pub right : graphOk w g ≡ true → l ≡ layoutOf w g → r ≡ positionOf (graphFind w g x)
   pub hit : (p : ℕ) → r ≡ At p → (p < l .count) × (idIn w g l p ≡ x)
   pub inside : (p : ℕ) → r ≡ At p → l .ids + w * p + w ≤ length g
   pub foreign : (length x ≡ w → ⊥) → r ≡ Absent
 
--- row p where a layout has it. "CDAT: N rows of 36 bytes: tree id, two u32 parents, then a u32 whose high 30 bits are the level and
--- whose low 2 bits are the high bits of the 34-bit seconds, then their low 32": the numbers stand at w, w + 4, w + 8 and w + 12
-unfoldable pub rowIn : ℕ → List ℕ → Layout → ℕ → List ℕ
-rowIn w g l p = at g (l .rows + rowSize w * p) (rowSize w)
-
--- its first byte, and the byte after its last; the end of the file where they are past it
+-- the first byte of row p, and the byte after its last; the end of the file where they are past it
 unfoldable pub rowStart : ℕ → List ℕ → Layout → ℕ → ℕ
 rowStart w g l p = min (l .rows + rowSize w * p) (length g)
 
 unfoldable pub rowEnd : ℕ → List ℕ → Layout → ℕ → ℕ
 rowEnd w g l p = min (l .rows + rowSize w * p + rowSize w) (length g)
 
+-- "Without a graph row the level is 0xFFFFFFFF": the level of a commit that has none
+abbrev pub noGeneration : ℕ
+noGeneration = 0xFFFFFFFF
+
+-- the level of row p in its pair. Card 6: where no level of the file is used, "pairs take 0xFFFFFFFF" (document 01 took level 0 as one below 1)
 unfoldable pub levelIn : ℕ → List ℕ → Layout → ℕ → ℕ
-levelIn w g l p = u32At (rowIn w g l p) (w + 8) / 4
+levelIn w g l p = cond (l .levels) (statedLevel w g l p) noGeneration
 
 unfoldable pub secondsIn : ℕ → List ℕ → Layout → ℕ → ℤ
 secondsIn w g l p = pos (u32At (rowIn w g l p) (w + 8) % 4 * 0x100000000 + u32At (rowIn w g l p) (w + 12))
 
 unfoldable pub graphRow : ℕ → List ℕ → ℕ → List ℕ
-graphRow w g p = rowIn w g (layoutOf g) p
+graphRow w g p = rowIn w g (layoutOf w g) p
 
 -- generation (document 01: level)
 unfoldable pub generation : ℕ → List ℕ → ℕ → ℕ
-generation w g p = levelIn w g (layoutOf g) p
+generation w g p = levelIn w g (layoutOf w g) p
 
 unfoldable pub graphSeconds : ℕ → List ℕ → ℕ → ℤ
-graphSeconds w g p = secondsIn w g (layoutOf g) p
+graphSeconds w g p = secondsIn w g (layoutOf w g) p
 
 -- ---- parent lists
 
@@ -261,7 +288,7 @@ parentIn w g l p zero = u32At (rowIn w g l p) w
 parentIn w g l p (suc k) = let b = u32At (rowIn w g l p) (w + 4) in cond (leb topBit b) (edgeIn g l (b % topBit + k) % topBit) b
 
 unfoldable pub graphParents : ℕ → List ℕ → ℕ → Option (List ℕ)
-graphParents w g p = parentsIn w g (layoutOf g) p
+graphParents w g p = parentsIn w g (layoutOf w g) p
 
 -- what reading a parent list answers: how many parents it has
 abbrev pub parentListOf : Option (List ℕ) → ParentList
@@ -274,5 +301,5 @@ countedFrom c none = Corrupt
 countedFrom c (some ps) = Good (c + length ps)
 
 unfoldable pub graphAll : Unit {0}
-unfolding graphHead chunkCount chunkId chunkOffset offsetsRise chunksOf chunkIn chunkStart chunkSize tableOk fanAt graphCount graphIds graphId firstByte atMost fanOk chunksOk graphOk layoutOf graphFind idIn idsBelow rowIn rowStart rowEnd levelIn secondsIn graphRow generation graphSeconds edgeIn edgesFrom afterFirst parentsIn parentIn graphParents
+unfolding graphHead chunkCount chunkId chunkOffset offsetsRise chunksOf chunkIn chunkStart chunkSize tableOk fanAt graphCount graphIds graphId firstByte atMost fanOk chunksOk graphOk placesOf statedLevel levelled layoutOf graphFind idIn idsBelow rowIn rowStart rowEnd levelIn secondsIn graphRow generation graphSeconds edgeIn edgesFrom afterFirst parentsIn parentIn graphParents
 graphAll = tt

@@ -10,7 +10,7 @@ ghost use lib.ListN.{length};
 ghost use lib.Dec.{eqb, ltb, leb};
 ghost use Rattle.hash.specs.Bytes.{u32At, widthOf};
 ghost use Rattle.idlist.specs.IdList.{rising};
-ghost use Rattle.commitgraph.specs.Graph.{hashVersion, graphHead, chunkCount, chunkId, chunkOffset, offsetsRise, chunksOf, chunkIn, chunkStart, chunkSize, OIDF, OIDL, CDAT, EDGE, tableOk, rowSize, fanAt, graphCount, graphIds, firstByte, fanOk, Parts, graphOk, layoutOf};
+ghost use Rattle.commitgraph.specs.Graph.{hashVersion, graphHead, chunkCount, chunkId, chunkOffset, offsetsRise, chunksOf, chunkIn, chunkStart, chunkSize, OIDF, OIDL, CDAT, EDGE, tableOk, rowSize, fanAt, graphCount, graphIds, firstByte, fanOk, Parts, graphOk, placesOf, layoutOf};
 
 // The ids of the chunks that are read.
 const FAN_OUT: u32 = 0x4f494446;
@@ -160,9 +160,9 @@ fn last_entry(graph: &[u8], fan: usize) -> usize
     wide(hash::be32(graph, fan + 1020))
 }
 
-// Where the chunks of a file stand.
-pub fn parse(graph: &[u8]) -> Layout
-    ensures { λ r. ⌜ r ≡ layoutOf (now (graph .entry)) ⌝ }
+// Where the chunks of a file stand. No row is looked at, so no level is used.
+fn places(graph: &[u8]) -> Layout
+    ensures { λ r. ⌜ r ≡ placesOf (now (graph .entry)) ⌝ }
 {
     let chunks = chunk_count(graph);
     let fan = find_start(graph, FAN_OUT, chunks);
@@ -177,6 +177,31 @@ pub fn parse(graph: &[u8]) -> Layout
         edge: edge.start,
         edges: edge.size / 4,
         count: count,
+        levels: false,
+    }
+}
+
+// N, the number of commits in a file.
+pub fn count(graph: &[u8]) -> usize
+    ensures { λ r. ⌜ (r ≡ graphCount (now (graph .entry))) × (r < 4294967296) ⌝ }
+{
+    last_entry(graph, find_start(graph, FAN_OUT, chunk_count(graph)))
+}
+
+// What is found of a file once: where its chunks stand, and whether its levels are used.
+pub fn parse(kind: Kind, graph: &[u8]) -> Layout
+    ensures { λ r. ⌜ r ≡ layoutOf (widthOf kind) (now (graph .entry)) ⌝ }
+{
+    let l = places(graph);
+    let levels = rows::has_levels(kind, graph, l);
+    Layout {
+        fan: l.fan,
+        ids: l.ids,
+        rows: l.rows,
+        edge: l.edge,
+        edges: l.edges,
+        count: l.count,
+        levels: levels,
     }
 }
 
@@ -370,7 +395,7 @@ pub fn is_good(kind: Kind, graph: &[u8]) -> bool
     if !has_sizes(w, graph) {
         return false;
     }
-    let l = parse(graph);
+    let l = places(graph);
     if !fan_rises(w, graph, l.fan) {
         return false;
     }

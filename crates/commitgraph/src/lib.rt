@@ -3,11 +3,12 @@ mod chunks;
 pub mod parents;
 pub mod rows;
 
+pub use chunks::count;
 pub use chunks::has_header;
 pub use chunks::is_good;
 pub use chunks::parse;
 
-// Where the chunks of a file stand: the starts of OIDF, OIDL, CDAT and EDGE, the number of u32s in EDGE, and N.
+// What is found of a file once: the starts of OIDF, OIDL, CDAT and EDGE, the number of u32s in EDGE, N, and whether its levels are used.
 pub struct Layout {
     pub fan: usize,
     pub ids: usize,
@@ -15,6 +16,7 @@ pub struct Layout {
     pub edge: usize,
     pub edges: usize,
     pub count: usize,
+    pub levels: bool,
 }
 
 // Document 01's level. Compared only with levels, never with seconds.

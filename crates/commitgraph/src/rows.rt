@@ -9,13 +9,16 @@ ghost use mathlib.Core.Path.{_≡_};
 ghost use Prim.Native.Nat.{_+_, _*_, _<_, _≤_, min};
 ghost use lib.ListN.{getD};
 ghost use Rattle.hash.specs.Bytes.{at, widthOf};
-ghost use Rattle.commitgraph.specs.Graph.{idIn, idsBelow, Looks, rowSize, rowIn, rowStart, rowEnd, levelIn, secondsIn};
+ghost use Rattle.commitgraph.specs.Graph.{idIn, idsBelow, Looks, rowSize, rowIn, rowStart, rowEnd, statedLevel, levelled, levelIn, secondsIn};
 
 // Where an id stands among those of the file.
 pub enum Position {
     At(usize),
     Absent,
 }
+
+// The level of a commit that has none.
+pub const NO_GENERATION: u32 = 0xFFFFFFFF;
 
 // The size of a row: the tree's id and four u32.
 pub(crate) fn size(w: usize) -> usize
@@ -122,11 +125,37 @@ pub(crate) fn numbers(kind: Kind, graph: &[u8], l: Layout, p: usize) -> &[u8]
     }
 }
 
-// The level at position p: the high 30 bits of a row's third number.
+// The level that the row at position p states: the high 30 bits of its third number.
+fn stated_level(kind: Kind, graph: &[u8], l: Layout, p: usize) -> u32
+    ensures { λ r. ⌜ r ≡ statedLevel (widthOf kind) (now (graph .entry)) l p ⌝ }
+{
+    hash::be32(numbers(kind, graph, l, p), 8) / 4
+}
+
+// Whether no row states level 0, by which older programs said that they had not computed it. What stands past the end of the file reads as 0, so
+// that no more rows are looked at than stand in it.
+pub(crate) fn has_levels(kind: Kind, graph: &[u8], l: Layout) -> bool
+    ensures { λ r. ⌜ r ≡ levelled (widthOf kind) (now (graph .entry)) l (l .count) ⌝ }
+{
+    let n = l.count;
+    let mut i = 0;
+    while i < n {
+        if stated_level(kind, graph, l, i) == 0 {
+            return false;
+        }
+        i += 1;
+    }
+    true
+}
+
+// The level of the row at position p in its pair: that of a commit without a row, where the file's levels are not used.
 pub fn level(kind: Kind, graph: &[u8], l: Layout, p: usize) -> Level
     ensures { λ r. ⌜ r .0 ≡ levelIn (widthOf kind) (now (graph .entry)) l p ⌝ }
 {
-    Level(hash::be32(numbers(kind, graph, l, p), 8) / 4)
+    if l.levels {
+        return Level(stated_level(kind, graph, l, p));
+    }
+    Level(NO_GENERATION)
 }
 
 pub(crate) fn wide(x: u32) -> usize

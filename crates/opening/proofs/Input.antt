@@ -8,16 +8,14 @@ use mathlib.Core.Bool.{Bool, true, false, cond, _&&_, _||_}
 use mathlib.Core.Option.{Option, none, some}
 use mathlib.Core.List.{List, [], _∷_}
 use native.Mathlib.Omega.{arith}
-use lib.ListN.{length, getD}
+use lib.ListN.{length}
 use lib.Dec.{leb, eqb}
 use borrow.Author.Tests.{leb-true, eqb-true}
-use Rattle.hash.specs.Bytes.{idBytes, u32At}
+use Rattle.hash.specs.Bytes.{idBytes}
 use Rattle.hash.proofs.Tests.{clash, and-both, or-cases, no-some}
 use Rattle.odb.specs.Store.{storeOk}
 use Rattle.hash.specs.declared.Kind.the-variants.{Sha1}
-use Rattle.commitgraph.specs.Graph.{hashVersion, graphHead, graphOk, graphCount, fanAt, chunkStart, OIDF, rowSize, layoutOf}
-use Rattle.commitgraph.specs.declared.Layout.{Layout}
-use Rattle.commitgraph.proofs.Table.{graph-count}
+use Rattle.commitgraph.specs.Graph.{hashVersion, graphHead, graphOk, graphCount, rowSize}
 use Rattle.commitgraph.proofs.LayoutRight.{right}
 use Rattle.walk.specs.declared.Refusal.{Refusal}
 use Rattle.walk.specs.declared.Refusal.the-variants.{InputTooLarge, PartialId, CorruptStore, UnknownGraph, CorruptGraph}
@@ -124,19 +122,6 @@ passes i z =
     }
 
 -- ---- how few the places are
-
-u32-fits : (b : List ℕ) (i : ℕ) → ((k : ℕ) → getD b k 0 < 256) → u32At b i < 4294967296
-unfolding u32At
-u32-fits b i s = omega (arith, s i, s (i + 1), s (i + 2), s (i + 3))
-
--- N, of any bytes
-pub count-fits : (g : List ℕ) → ((k : ℕ) → getD g k 0 < 256) → graphCount g < 4294967296
-unfolding fanAt
-count-fits g b = rw (graph-count g) (u32-fits g (chunkStart g OIDF + 4 * 255) b)
-
-pub count-of : (g : List ℕ) {l : Layout} → l ≡ layoutOf g → l .count ≡ graphCount g
-unfolding layoutOf
-count-of g e = ap (λ (l : Layout). l .count) e
 
 -- N, of a good layout
 no-count : (g : List ℕ) → isEmpty g ≡ true → graphCount g ≡ 0

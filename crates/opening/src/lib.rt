@@ -118,11 +118,10 @@ fn lines_in(n: usize) -> usize
 pub fn capacity(store: &[u8], graph: &[u8], tips: &[u8], hidden: &[u8]) -> usize
     ensures { λ r. ⌜ ((excluded : List ℕ) (s : Settings) → r ≡ P (inputOf (now (store .entry)) (now (graph .entry)) (now (tips .entry)) (now (hidden .entry)) excluded s)) ⌝ }
 {
-    let l = commitgraph::parse(graph);
     hash::ids_in(Kind::Sha1, tips.len())
         + hash::ids_in(Kind::Sha1, hidden.len())
         + lines_in(store.len())
-        + l.count
+        + commitgraph::count(graph)
 }
 
 // Refusal 1: whether every lent buffer has its size, for this many places. The lengths are in the buffers' own elements.

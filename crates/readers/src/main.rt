@@ -102,7 +102,7 @@ fn report(graph: &[u8], store: &[u8]) {
         text(b"the commit-graph file's layout is broken\n");
         return;
     }
-    let l = commitgraph::parse(graph);
+    let l = commitgraph::parse(Kind::Sha1, graph);
     text(b"commit-graph file: ");
     number(l.count);
     text(b" commits\n");

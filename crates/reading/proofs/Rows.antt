@@ -73,7 +73,7 @@ module _ (g : List ℕ) (p : ℕ) (ps : List (Id × ℤ)) (v : ℕ) (t : ℤ) (e
       ap (λ (q : Id × ℤ). length (q .0)) (row-parent k h) ∙ length-at g (chunkStart g OIDL + idBytes * getD (parts .places) k 0) idBytes (omega (arith, right idBytes g ok .places .ids))
 
   -- a position that was read as parent k is its
-  module _ {l : Layout} {k q : ℕ} (own : l ≡ layoutOf g) (read : q ≡ parentIn idBytes g l p k) where
+  module _ {l : Layout} {k q : ℕ} (own : l ≡ layoutOf idBytes g) (read : q ≡ parentIn idBytes g l p k) where
     pub parent-there : k < length ps → (idIn idBytes g l q, secondsIn idBytes g l q) ≡ getD ps k ([], pos 0)
     unfolding graphParents graphId graphIds idOf graphSeconds idIn layoutOf
     parent-there h =
@@ -91,7 +91,7 @@ module _ (g : List ℕ) (l : Layout) (p k : ℕ) where
   row-parent-listed ps e h = ap (idIn idBytes g l) (parent-listed idBytes g l p k refl ps e h)
 
 -- of a row of the walk's world
-pub row-parent-right : (g : List ℕ) {l : Layout} (p k : ℕ) → l ≡ layoutOf g → (ps : List (Id × ℤ)) (v : ℕ) (t : ℤ) → rowAt g p ≡ row ps v t → k < length ps
+pub row-parent-right : (g : List ℕ) {l : Layout} (p k : ℕ) → l ≡ layoutOf idBytes g → (ps : List (Id × ℤ)) (v : ℕ) (t : ℤ) → rowAt g p ≡ row ps v t → k < length ps
     → rowParent g l p k ≡ getD ps k ([], pos 0) .0
 unfolding rowParent
 row-parent-right g p k own ps v t f h = ap (λ (a : Id × ℤ). a .0) (parent-there g p ps v t f own refl h)
@@ -135,15 +135,15 @@ pub record RowIs (g : List ℕ) (p n : ℕ) (v : Level) : Type 0 where
 
 module _ (g : List ℕ) (l : Layout) (p : ℕ) where
   -- a row that was read by the file's own layout is the walk's
-  pub row-is : {n : ℕ} {v : Level} {r : RowRead} → l ≡ layoutOf g → r ≡ rowReadOf (levelOf g l p) (parentsIn idBytes g l p) → r ≡ RowAt n v → RowIs g p n v
+  pub row-is : {n : ℕ} {v : Level} {r : RowRead} → l ≡ layoutOf idBytes g → r ≡ rowReadOf (levelOf g l p) (parentsIn idBytes g l p) → r ≡ RowAt n v → RowIs g p n v
   unfolding rowAt generation graphParents
   row-is {n} {v} {r} own e f =
       go (graphParents idBytes g p) refl (sym f ∙ e ∙ ap (λ (m : Layout). rowReadOf (levelOf g m p) (parentsIn idBytes g m p)) own)
     where
-      go : (o : Option (List ℕ)) → graphParents idBytes g p ≡ o → RowAt n v ≡ rowReadOf (levelOf g (layoutOf g) p) o → RowIs g p n v
+      go : (o : Option (List ℕ)) → graphParents idBytes g p ≡ o → RowAt n v ≡ rowReadOf (levelOf g (layoutOf idBytes g) p) o → RowIs g p n v
       go none k h = let z : _≡_ {A = ℕ} 0 1 = cc in absurd (omega arith)
       go (some qs) k h =
-          let same : v ≡ levelOf g (layoutOf g) p = cc in
+          let same : v ≡ levelOf g (layoutOf idBytes g) p = cc in
           record {
             parents = map (parentAt g) qs;
             seconds = graphSeconds idBytes g p;
@@ -151,11 +151,11 @@ module _ (g : List ℕ) (l : Layout) (p : ℕ) where
             count = let m : n ≡ length qs = cc in m ∙ sym (length-map qs (parentAt g));
           }
 
-  pub row-torn : {r : RowRead} → l ≡ layoutOf g → r ≡ rowReadOf (levelOf g l p) (parentsIn idBytes g l p) → r ≡ Corrupt → rowAt g p ≡ corrupt
+  pub row-torn : {r : RowRead} → l ≡ layoutOf idBytes g → r ≡ rowReadOf (levelOf g l p) (parentsIn idBytes g l p) → r ≡ Corrupt → rowAt g p ≡ corrupt
   unfolding rowAt graphParents
   row-torn {r} own e f = go (graphParents idBytes g p) refl (sym f ∙ e ∙ ap (λ (m : Layout). rowReadOf (levelOf g m p) (parentsIn idBytes g m p)) own)
     where
-      go : (o : Option (List ℕ)) → graphParents idBytes g p ≡ o → Corrupt ≡ rowReadOf (levelOf g (layoutOf g) p) o → rowAt g p ≡ corrupt
+      go : (o : Option (List ℕ)) → graphParents idBytes g p ≡ o → Corrupt ≡ rowReadOf (levelOf g (layoutOf idBytes g) p) o → rowAt g p ≡ corrupt
       go none k h = rw k
       go (some qs) k h = let z : _≡_ {A = ℕ} 0 1 = cc in absurd (omega arith)
 

@@ -59,11 +59,11 @@ row-good p {n} {v} {t} w o e f k =
 pub row-bad : (p : ℕ) (w : GenThenTime) (o : Option (List ℕ)) → Corrupt ≡ parentListOf o → Failed CommitUnreadable ≡ rowCommit p w o
 row-bad p w o e = ap (rowCommit p w) (sym (list-broken o e))
 
-tells-row : (w : World) (x : Id) (g : List ℕ) (p : ℕ) → Tells (rowCommit p (pairIn g (layoutOf g) p) (graphParents idBytes g p)) (readRow w x (rowAt g p))
+tells-row : (w : World) (x : Id) (g : List ℕ) (p : ℕ) → Tells (rowCommit p (pairIn g (layoutOf idBytes g) p) (graphParents idBytes g p)) (readRow w x (rowAt g p))
 unfolding rowAt readRow generation graphSeconds
 tells-row w x g p = go (graphParents idBytes g p) refl
   where
-    go : (o : Option (List ℕ)) → graphParents idBytes g p ≡ o → Tells (rowCommit p (pairIn g (layoutOf g) p) o) (readRow w x (rowAt g p))
+    go : (o : Option (List ℕ)) → graphParents idBytes g p ≡ o → Tells (rowCommit p (pairIn g (layoutOf idBytes g) p) o) (readRow w x (rowAt g p))
     go none k = rw k
     go (some qs) k = record {
       parents = map (λ q. q .0) (map (parentAt g) qs);
@@ -82,8 +82,8 @@ row-is-read {c} {g} {s} {x} p a b t f =
     let r : RowFound c g s x p = found-row c g s x p a b t f in
     subst (λ (l : Layout). IsRead c g s x (rowCommit p (pairIn g l p) (parentsIn idBytes g l p))) (sym (r .layout))
     (record {
-      tells = subst (λ (d : ModelRow). Tells (rowCommit p (pairIn g (layoutOf g) p) (graphParents idBytes g p)) (readRow (worldUnder c g s) x d)) (sym (r .says)) (tells-row (worldUnder c g s) x g p);
-      names = names-row p a b (pairIn g (layoutOf g) p) (graphParents idBytes g p) f;
+      tells = subst (λ (d : ModelRow). Tells (rowCommit p (pairIn g (layoutOf idBytes g) p) (graphParents idBytes g p)) (readRow (worldUnder c g s) x d)) (sym (r .says)) (tells-row (worldUnder c g s) x g p);
+      names = names-row p a b (pairIn g (layoutOf idBytes g) p) (graphParents idBytes g p) f;
     })
 
 -- ---- a body

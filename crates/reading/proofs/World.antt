@@ -138,10 +138,10 @@ in-store-row Nowhere p a b f = let z : _≡_ {A = ℕ} 0 1 = cc in absurd (omega
 -- a row that was found: the file is a good one, read by its own layout
 pub record RowFound (c : Cache) (g s : List ℕ) (x : Id) (p : ℕ) : Type 0 where
   pub file : graphOk idBytes g ≡ true
-  pub layout : layoutUnder c ≡ layoutOf g
+  pub layout : layoutUnder c ≡ layoutOf idBytes g
   pub says : worldUnder c g s .graph x ≡ rowAt g p
 
-listed : (c : Cache) (g : List ℕ) (x : Id) (p : ℕ) → GoodCache idBytes c g → rowOf idBytes c g x ≡ some p → (graphOk idBytes g ≡ true) × (layoutUnder c ≡ layoutOf g)
+listed : (c : Cache) (g : List ℕ) (x : Id) (p : ℕ) → GoodCache idBytes c g → rowOf idBytes c g x ≡ some p → (graphOk idBytes g ≡ true) × (layoutUnder c ≡ layoutOf idBytes g)
 unfolding GoodCache rowOf
 listed (Graph l) g x p t e = t
 listed NoGraph g x p t e = let z : _≡_ {A = ℕ} 0 1 = cc in absurd (omega arith)
@@ -156,7 +156,7 @@ module _ (c : Cache) (g s : List ℕ) (x : Id) where
   unfolding foundIn
   found-row p a b t f = row-found c g s x p t (go (rowOf idBytes c g x) f)
     where
-      go : (o : Option ℕ) → ifSome o (inStore (locatedOf idBytes s (findEntry idBytes s x))) (inGraph idBytes g (layoutOf g)) ≡ CachedCommit p a b → o ≡ some p
+      go : (o : Option ℕ) → ifSome o (inStore (locatedOf idBytes s (findEntry idBytes s x))) (inGraph idBytes g (layoutOf idBytes g)) ≡ CachedCommit p a b → o ≡ some p
       go none f′ = absurd (in-store-row (locatedOf idBytes s (findEntry idBytes s x)) p a b f′)
       go (some q) f′ = let i : q ≡ p = cc in ap some i
 
@@ -165,10 +165,10 @@ module _ (c : Cache) (g s : List ℕ) (x : Id) where
   unfolding foundIn
   past-row e n f = go (rowOf idBytes c g x) refl f
     where
-      go : (o : Option ℕ) → rowOf idBytes c g x ≡ o → ifSome o (inStore (locatedOf idBytes s (findEntry idBytes s x))) (inGraph idBytes g (layoutOf g)) ≡ e
+      go : (o : Option ℕ) → rowOf idBytes c g x ≡ o → ifSome o (inStore (locatedOf idBytes s (findEntry idBytes s x))) (inGraph idBytes g (layoutOf idBytes g)) ≡ e
           → (worldUnder c g s .graph x ≡ no-row) × (inStore (locatedOf idBytes s (findEntry idBytes s x)) ≡ e)
       go none k f′ = (graph-under c g s x ∙ ap (λ (o : Option ℕ). ifSome o no-row (λ q. rowAt g q)) k, f′)
-      go (some p) k f′ = absurd (n p (rowStart idBytes g (layoutOf g) p) (rowEnd idBytes g (layoutOf g) p) f′)
+      go (some p) k f′ = absurd (n p (rowStart idBytes g (layoutOf idBytes g) p) (rowEnd idBytes g (layoutOf idBytes g) p) f′)
 
   pub found-body : (a e : ℕ) → storeOk idBytes s ≡ true → foundIn idBytes c g s x ≡ CommitRefIter a e
       → (worldUnder c g s .graph x ≡ no-row) × (worldUnder c g s .store x ≡ some (header idBytes (partOf s (Body a e))))

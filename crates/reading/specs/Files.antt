@@ -1,7 +1,8 @@
 -- The commit-graph file as it is used, and what the two files say of an id through it. Assumes nothing.
 use Prim.Native.Nat.{ℕ}
-use mathlib.Core.Bool.{Bool, cond}
+use mathlib.Core.Bool.{Bool, false, cond}
 use mathlib.Core.List.{List}
+use Rattle.hash.specs.Bytes.{idBytes}
 use Rattle.commitgraph.specs.Graph.{layoutOf}
 use Rattle.commitgraph.specs.declared.Layout.{Layout}
 use Rattle.commit.specs.declared.Cache.{Cache}
@@ -17,12 +18,12 @@ cacheWith g l kept =
 
 -- the same by the file's own layout
 abbrev pub cacheOf : List ℕ → Bool → Cache
-cacheOf g kept = cacheWith g (layoutOf g) kept
+cacheOf g kept = cacheWith g (layoutOf idBytes g) kept
 
 -- where the chunks stand; without a file all is 0
 abbrev pub layoutUnder : Cache → Layout
 layoutUnder (Graph l) = l
-layoutUnder NoGraph = record { fan = 0; ids = 0; rows = 0; edge = 0; edges = 0; count = 0 }
+layoutUnder NoGraph = record { fan = 0; ids = 0; rows = 0; edge = 0; edges = 0; count = 0; levels = false }
 
 -- what the two files say of an id: where no graph is used, no id has a row
 unfoldable pub worldUnder : Cache → List ℕ → List ℕ → World

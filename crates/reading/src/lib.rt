@@ -23,6 +23,7 @@ use object::Reading;
 use odb::Located;
 pub use row::RowRead;
 pub use row::collect_parents;
+pub use row::level_shown;
 pub use row::row_parent;
 pub use tip::TipRead;
 pub use tip::read_tip;
@@ -58,9 +59,6 @@ pub enum Commit {
 // No position in the commit-graph file and no number of an entry in the store: where no place of a commit is known.
 pub const NOWHERE: usize = 4294967295;
 
-// The generation of a commit without a graph row.
-const NO_GENERATION: u32 = 0xFFFFFFFF;
-
 // The commit-graph file as it is used, by the layout that its opening found: not at all where it is empty or was dropped.
 pub fn cache_of(graph: &[u8], layout: Layout, kept: bool) -> Cache
     ensures { λ r. ⌜ r ≡ cacheWith (now (graph .entry)) layout kept ⌝ }
@@ -87,6 +85,7 @@ pub fn layout_of(cache: Cache) -> Layout
             edge: 0,
             edges: 0,
             count: 0,
+            levels: false,
         },
     }
 }
@@ -118,7 +117,7 @@ fn body_commit(body: &[u8], start: usize, end: usize) -> Commit
             end,
             parents,
             pair: GenThenTime {
-                generation: Level(NO_GENERATION),
+                generation: Level(rows::NO_GENERATION),
                 time: seconds,
             },
         },

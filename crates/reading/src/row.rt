@@ -5,15 +5,28 @@ use commitgraph::parents;
 use commitgraph::parents::ParentList;
 use commitgraph::rows;
 use hash::Kind;
+use walk::MaybeLevel;
 ghost use mathlib.Core.Path.{_≡_};
 ghost use Rattle.commitgraph.specs.Graph.{parentsIn};
 ghost use Rattle.reading.specs.Row.{rowReadOf, levelOf, rowParent};
 ghost use Rattle.hash.specs.Bytes.{idBytes};
+ghost use Rattle.walk.specs.Next.{levelShown};
+ghost use Rattle.walk.specs.Given.{levelGiven};
 
 // What a row says of a commit: how many parents it has, and its level; or its parent list is corrupt.
 pub enum RowRead {
     Corrupt,
     Row { parents: usize, level: Level },
+}
+
+// A row's level as an answer shows it: none, where it is that of a commit without one, since the file's levels are not used.
+pub fn level_shown(level: Level) -> MaybeLevel
+    ensures { λ r. ⌜ r ≡ levelGiven (levelShown (level .0)) ⌝ }
+{
+    if level.0 == rows::NO_GENERATION {
+        return MaybeLevel::NoGeneration;
+    }
+    MaybeLevel::Generation(level)
 }
 
 // The parents of the row at a position (`collect_parents` in the Rust): the whole list is judged here, before any of them is set down.

@@ -79,7 +79,7 @@ closedRecord = record {
   painted = false;
   failed = false;
   kept = false;
-  fixed = record { layout = record { fan = 0; ids = 0; rows = 0; edge = 0; edges = 0; count = 0 } };
+  fixed = record { layout = record { fan = 0; ids = 0; rows = 0; edge = 0; edges = 0; count = 0; levels = false } };
   queue = record { timed = false; newest = false; cap = 0; head = 0; count = 0; next = 0 };
   admitted = 0;
   struck = 0;

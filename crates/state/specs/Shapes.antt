@@ -3,7 +3,7 @@ use Prim.Native.Nat.{ℕ, suc}
 use mathlib.Core.Bool.{Bool, true, false, cond, _&&_, _||_}
 use mathlib.Core.List.{List, _∷_}
 use lib.IntN.{ℤ, pos}
-use Rattle.hash.specs.Bytes.{Id}
+use Rattle.hash.specs.Bytes.{Id, idBytes}
 use Rattle.commitgraph.specs.Graph.{layoutOf}
 use Rattle.revwalk.specs.Order.{sooner}
 use Rattle.revwalk.specs.declared.queue.Queue.{Queue}
@@ -23,7 +23,7 @@ beforeOf sh a b = cond (sh .timed) (sooner (sh .newest) a b) false
 
 -- what an opening finds in the graph file g
 abbrev pub fixedOf : List ℕ → Fixed
-fixedOf g = record { layout = layoutOf g }
+fixedOf g = record { layout = layoutOf idBytes g }
 
 abbrev pub shapeFor : Settings → ℕ → Fixed → Shape
 shapeFor s n f = record { timed = byTime s; newest = byTime s && newestFirst (s .sorting); cap = n; fixed = f }

@@ -177,7 +177,7 @@ fn fixed_for(graph: &[u8]) -> Fixed
     ensures { λ f. ⌜ f ≡ fixedOf (now (graph .entry)) ⌝ }
 {
     Fixed {
-        layout: commitgraph::parse(graph),
+        layout: commitgraph::parse(Kind::Sha1, graph),
     }
 }
 
@@ -220,6 +220,7 @@ fn closed_record() -> Record
                 edge: 0,
                 edges: 0,
                 count: 0,
+                levels: false,
             },
         },
         queue: Queue {

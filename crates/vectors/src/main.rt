@@ -189,7 +189,7 @@ fn graph_case(graph: &[u8], ids: &[u8]) {
         text(b"graph torn\n");
         return;
     }
-    let l = commitgraph::parse(graph);
+    let l = commitgraph::parse(Kind::Sha1, graph);
     text(b"graph good");
     spaced(l.count);
     text(b"\n");
@@ -229,7 +229,7 @@ fn find_ids<'a>(cache: Cache, graph: &'a [u8], store: &'a [u8], ids: &[u8]) {
 }
 
 fn find_case<'a>(graph: &'a [u8], store: &'a [u8], ids: &[u8]) {
-    let l = commitgraph::parse(graph);
+    let l = commitgraph::parse(Kind::Sha1, graph);
     if graph.len() == 0 {
         find_ids(Cache::NoGraph, graph, store, ids);
     } else {

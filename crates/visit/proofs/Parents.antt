@@ -107,7 +107,7 @@ row-parent {excluded} {settings} {g} {l} {p} {k} {q} {r} {r′} {m} {m′} {b} {
 
 -- after k parents of the row at position p
 pub record RowRun (excluded : List ℕ) (settings : Settings) (g : List ℕ) (l : Layout) (p k : ℕ) (r : Record) (m m′ : Memory) (b b′ : List ℕ) (r′ : Record) : Type 0 where
-  pub right : graphOk idBytes g ≡ true → l ≡ layoutOf g → (ps : List (Id × ℤ)) (v : ℕ) (t : ℤ) → rowAt g p ≡ row ps v t → k ≤ length ps → Run excluded settings r m m′ b b′ (take k ps) r′
+  pub right : graphOk idBytes g ≡ true → l ≡ layoutOf idBytes g → (ps : List (Id × ℤ)) (v : ℕ) (t : ℤ) → rowAt g p ≡ row ps v t → k ≤ length ps → Run excluded settings r m m′ b b′ (take k ps) r′
   pub past : Past k b b′
 
 module _ {excluded : List ℕ} {settings : Settings} {g : List ℕ} {l : Layout} {p : ℕ} {r : Record} {m : Memory} {b : List ℕ} where

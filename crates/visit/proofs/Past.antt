@@ -50,9 +50,9 @@ parent-left f = record { down = λ i n. absurd (f i n); past = past-none }
 pub row-narrow : (g : List ℕ) (p : ℕ) (ps : List (Id × ℤ)) (v : ℕ) (t : ℤ) → rowAt g p ≡ row ps v t → (k : ℕ) → k < length ps → length (getD ps k ([], pos 0) .0) ≤ idBytes
 unfolding idIn at graphParents
 row-narrow g p ps v t e k h =
-    let q : ℕ = parentIn idBytes g (layoutOf g) p k in
-    let there = parent-there g p ps v t e {l = layoutOf g} {k = k} {q = parentIn idBytes g (layoutOf g) p k} refl refl h in
-    omega (arith, ap (λ (a : Id × ℤ). length (a .0)) there, length-take idBytes (drop (layoutOf g .ids + idBytes * q) g))
+    let q : ℕ = parentIn idBytes g (layoutOf idBytes g) p k in
+    let there = parent-there g p ps v t e {l = layoutOf idBytes g} {k = k} {q = parentIn idBytes g (layoutOf idBytes g) p k} refl refl h in
+    omega (arith, ap (λ (a : Id × ℤ). length (a .0)) there, length-take idBytes (drop (layoutOf idBytes g .ids + idBytes * q) g))
 
 -- ---- the shape of an answer
 

@@ -26,14 +26,14 @@ use Rattle.walk.specs.declared.Outcome.the-variants.{Commit, End, Refused}
 use Rattle.walk.specs.declared.Refusal.{Refusal}
 use Rattle.walk.specs.declared.Refusal.the-variants.{CommitNotFound, CommitUnreadable, TooManyParents}
 use Rattle.walk.specs.declared.MaybeLevel.{MaybeLevel}
-use Rattle.walk.specs.declared.MaybeLevel.the-variants.{Generation, NoGeneration}
+use Rattle.walk.specs.declared.MaybeLevel.the-variants.{NoGeneration}
 use Rattle.walk.specs.declared.MaybeSeconds.{MaybeSeconds}
 use Rattle.walk.specs.declared.MaybeSeconds.the-variants.{Time, NoTime}
 use Rattle.walk.specs.Settings.{followed, byTime, onlyFirst}
 use Rattle.walk.specs.Lookup.{secondsFor, World, Row, row, no-row, rowAt, worldOf}
 use Rattle.walk.specs.State.{Walk, State, withQueue, isEmpty}
-use Rattle.walk.specs.Next.{Kind, end, refused, handed, Step, step, visitAll, withSeconds, queuedSeconds, ending, kindOf, fromRow, fromBody, takeStore, dropped, back, takeRow, takeQueue, takeNext}
-use Rattle.walk.specs.Given.{noId, outcomeOf, idOfKind, levelOfKind, secondsOfKind, secondsGiven, joined, given, parentsGiven}
+use Rattle.walk.specs.Next.{Kind, end, refused, handed, levelShown, Step, step, visitAll, withSeconds, queuedSeconds, ending, kindOf, fromRow, fromBody, takeStore, dropped, back, takeRow, takeQueue, takeNext}
+use Rattle.walk.specs.Given.{noId, outcomeOf, idOfKind, levelGiven, levelOfKind, secondsOfKind, secondsGiven, joined, given, parentsGiven}
 use Rattle.walk.proofs.Take.{followed-sub, followed-map, mem-map, with-seconds}
 use Rattle.reading.specs.Body.{refusalOf}
 use Rattle.reading.specs.declared.body.BodyEnd.{BodyEnd}
@@ -136,7 +136,7 @@ module _ {sh : Shape} {r : Record} {m : Memory} {st : State} {u : List Id} where
 
 pub takes-row : {excluded : List ℕ} {settings : Settings} {g : List ℕ} {l : Layout} {p n k : ℕ} {c : Level} {r r′ : Record} {x : Id} {s : Seconds} {m m′ : Memory} {b b′ : List ℕ}
     → Follows settings n k → VisitsRow excluded settings g l p k r m m′ b b′ r′
-    → TakesRow excluded settings g l p n c r x (s .0) m m′ b b′ (gave Commit x k (Generation c) (timeGiven (r .queue .timed) s) r′)
+    → TakesRow excluded settings g l p n c r x (s .0) m m′ b b′ (gave Commit x k (levelGiven (levelShown (c .0))) (timeGiven (r .queue .timed) s) r′)
 unfolding fromRow
 takes-row {excluded} {settings} {g} {l} {p} {n} {k} {c} {r} {r′} {x} {s} {m} {m′} {b} {b′} f w = record {
   right = λ ok own ps q e i v sh st u t′ by d j t z.
@@ -151,7 +151,7 @@ takes-row {excluded} {settings} {g} {l} {p} {n} {k} {c} {r} {r′} {x} {s} {m} {
       let went = all .went v sh st u (256 - length fs) by (part-ready (length fs) short d)
       (λ a y. j (a .0) (followed-sub (v .settings) (a .0) (map (λ (q : Id × ℤ). q .0) ps)
       (rw (followed-map (v .settings) (λ (q : Id × ℤ). q .0) ps) at (mem-map (λ (q : Id × ℤ). q .0) a fs y)))) in
-      gives-step (handed x (some (c .0)) (queuedSeconds v t′)) (map (λ a. a .0) fs) (went .ready .reads) refl refl (many ∙ sym (length-map fs (λ (a : Id × ℤ). a .0))) refl
+      gives-step (handed x (levelShown (c .0)) (queuedSeconds v t′)) (map (λ a. a .0) fs) (went .ready .reads) refl refl (many ∙ sym (length-map fs (λ (a : Id × ℤ). a .0))) refl
       (time-right by (d .reads) s t′ t) (all .down z) (went .line-kept);
   plain = λ h. record { shape = tt; few = omega (arith, h, f .few); past = w .past .same };
 }
@@ -369,7 +369,7 @@ module _ {excluded : List ℕ} {settings : Settings} {graph store : List ℕ} {r
     (p : Pops r names times line line′ n) (f : n .found ≡ true) (found : FindsCommit idBytes (cacheWith graph (r .fixed .layout) (r .kept)) graph store (idIn idBytes (n .id .bytes)) e) where
   -- the popped commit, whose row in use is d, is taken as the walk takes it
   found-next : {m′ : Memory} {b′ : List ℕ} {a : Taken} → ((v : Walk) (sh : Shape) (st : State) (u : List Id) (y : Id × ℤ) (l : List (Id × ℤ)) → storeOk idBytes store ≡ true → GoodCache idBytes (cacheOf graph (r .kept)) graph
-      → r .fixed .layout ≡ layoutOf graph → e ≡ foundIn idBytes (cacheOf graph (r .kept)) graph store (idIn idBytes (n .id .bytes)) → GoesBy v sh excluded settings → v .world ≡ worldOf store graph → st .kept ≡ r .kept
+      → r .fixed .layout ≡ layoutOf idBytes graph → e ≡ foundIn idBytes (cacheOf graph (r .kept)) graph store (idIn idBytes (n .id .bytes)) → GoesBy v sh excluded settings → v .world ≡ worldOf store graph → st .kept ≡ r .kept
       → Popped sh (mem names marks times line′) st u y l n → InRows v u → InStore v u → 5120 ≤ length b
       → (d : Row) × (worldUnder (cacheOf graph (r .kept)) graph store .graph (idIn idBytes (n .id .bytes)) ≡ d) × Gives sh (mem names marks times line′) m′ b b′ a (takeRow v st y l d))
       → TakesNext excluded settings graph store r (mem names marks times line) m′ b b′ a
@@ -381,7 +381,7 @@ module _ {excluded : List ℕ} {settings : Settings} {graph store : List ℕ} {r
       go ok good v sh st u by fixed own d i j z [] o = clash f (p .none marks sh st (d .reads) o)
       go ok good v sh st u by fixed own d i j z (y ∷ l) o =
           let k = popped y l d p o in
-          let lay : r .fixed .layout ≡ layoutOf graph = ap (λ (q : Fixed). q .layout) (d .reads .fixed ∙ fixed) in
+          let lay : r .fixed .layout ≡ layoutOf idBytes graph = ap (λ (q : Fixed). q .layout) (d .reads .fixed ∙ fixed) in
           let used : cacheWith graph (r .fixed .layout) (r .kept) ≡ cacheOf graph (r .kept) = ap (λ (q : Layout). cacheWith graph q (r .kept)) lay in
           let right = subst (λ (q : Cache). GoodCache idBytes q graph) (sym used) (good-cache graph (r .kept) good) in
           let told : e ≡ foundIn idBytes (cacheOf graph (r .kept)) graph store (idIn idBytes (n .id .bytes)) =

@@ -41,13 +41,13 @@ pub record VisitsAll (excluded : List ℕ) (settings : Settings) (r : Record) (m
 
 -- parent k of the row at position p is set down and visited
 pub record VisitsRowParent (excluded : List ℕ) (settings : Settings) (g : List ℕ) (l : Layout) (p k : ℕ) (r : Record) (m m′ : Memory) (b b′ : List ℕ) (r′ : Record) : Type 0 where
-  pub right : l ≡ layoutOf g → (ps : List (Id × ℤ)) (v : ℕ) (t : ℤ) → rowAt g p ≡ row ps v t → k < length ps
+  pub right : l ≡ layoutOf idBytes g → (ps : List (Id × ℤ)) (v : ℕ) (t : ℤ) → rowAt g p ≡ row ps v t → k < length ps
       → Visits excluded settings r m m′ (getD ps k ([], pos 0) .0) (getD ps k ([], pos 0) .1) r′ × (b′ ≡ setDown b (idBytes * k) (getD ps k ([], pos 0) .0))
   pub past : Past (k + 1) b b′
 
 -- the first n parents of the row at position p
 pub record VisitsRow (excluded : List ℕ) (settings : Settings) (g : List ℕ) (l : Layout) (p n : ℕ) (r : Record) (m m′ : Memory) (b b′ : List ℕ) (r′ : Record) : Type 0 where
-  pub right : graphOk idBytes g ≡ true → l ≡ layoutOf g → (ps : List (Id × ℤ)) (v : ℕ) (t : ℤ) → rowAt g p ≡ row ps v t → n ≤ length ps → VisitsAll excluded settings r m m′ b b′ (take n ps) r′
+  pub right : graphOk idBytes g ≡ true → l ≡ layoutOf idBytes g → (ps : List (Id × ℤ)) (v : ℕ) (t : ℤ) → rowAt g p ≡ row ps v t → n ≤ length ps → VisitsAll excluded settings r m m′ b b′ (take n ps) r′
   pub past : Past n b b′
 
 -- ---- of a body

@@ -93,7 +93,7 @@ pub record InStore (v : Walk) (u : List Id) : Type 0 where
 
 -- the commit x, queued with t seconds and out of the queue already, from its row
 pub record TakesRow (excluded : List ℕ) (settings : Settings) (g : List ℕ) (l : Layout) (p n : ℕ) (c : Level) (r : Record) (x : Id) (t : ℤ) (m m′ : Memory) (b b′ : List ℕ) (a : Taken) : Type 0 where
-  pub right : graphOk idBytes g ≡ true → l ≡ layoutOf g → (ps : List (Id × ℤ)) (s : ℤ) → rowAt g p ≡ row ps (c .0) s → n ≡ length ps → (v : Walk) (sh : Shape) (st : State) (u : List Id) (t′ : ℤ)
+  pub right : graphOk idBytes g ≡ true → l ≡ layoutOf idBytes g → (ps : List (Id × ℤ)) (s : ℤ) → rowAt g p ≡ row ps (c .0) s → n ≡ length ps → (v : Walk) (sh : Shape) (st : State) (u : List Id) (t′ : ℤ)
       → GoesBy v sh excluded settings → Ready sh r m st u 256 → ((q : Id) → List·Memᴰ q (map (λ q. q .0) ps) → List·Memᴰ q u) → (sh .timed ≡ true → t ≡ t′) → 5120 ≤ length b
       → Gives sh m m′ b b′ a (fromRow v st x t′ ps (c .0))
   pub plain : n ≤ most → Plain b b′ (a .answer)
@@ -119,7 +119,7 @@ pub record Popped (sh : Shape) (m : Memory) (st : State) (u : List Id) (y : Id �
 
 -- the popped commit from its row at position p, or, where that is corrupt, the first of the queue from the store alone
 pub record TakesCached (excluded : List ℕ) (settings : Settings) (graph : List ℕ) (l : Layout) (p : ℕ) (store : List ℕ) (n : Next) (m m′ : Memory) (b b′ : List ℕ) (a : Taken) : Type 0 where
-  pub right : storeOk idBytes store ≡ true → graphOk idBytes graph ≡ true → l ≡ layoutOf graph → (v : Walk) (sh : Shape) (st : State) (u : List Id) (y : Id × ℤ) (ys : List (Id × ℤ))
+  pub right : storeOk idBytes store ≡ true → graphOk idBytes graph ≡ true → l ≡ layoutOf idBytes graph → (v : Walk) (sh : Shape) (st : State) (u : List Id) (y : Id × ℤ) (ys : List (Id × ℤ))
       → GoesBy v sh excluded settings → v .world ≡ worldOf store graph → Popped sh m st u y ys n → st .kept ≡ true → v .world .graph (y .0) ≡ rowAt graph p → InRows v u → InStore v u → 5120 ≤ length b
       → Gives sh m m′ b b′ a (takeRow v st y ys (rowAt graph p))
   pub plain : Plain b b′ (a .answer)

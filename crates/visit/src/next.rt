@@ -158,7 +158,7 @@ fn take_row(
         Outcome::Commit,
         id,
         n,
-        MaybeLevel::Generation(level),
+        reading::level_shown(level),
         time,
         at,
     )

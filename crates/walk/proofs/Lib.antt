@@ -7,6 +7,7 @@ pub mod Queue
 pub mod Outside
 pub mod Moves
 pub mod Visits
+pub mod Levels
 pub mod Stays
 pub mod FirstCall
 pub mod Take

@@ -15,7 +15,7 @@ use Rattle.walk.specs.Lookup.{Row, no-row, row, corrupt}
 use Rattle.walk.specs.State.{Walk, State, ids, withQueue, isEmpty, nobody}
 use Rattle.walk.specs.Painting.{Paint, Painting, stop, going, paint, bothMarks}
 use Rattle.walk.specs.Calls.{calls}
-use Rattle.walk.specs.Next.{end, refused, handed, Step, step, visitAll, dropped, back, withSeconds, queuedSeconds, fromRow, fromBody, ending, kindOf, takeStore, takeRow, takeQueue, takeNext, outside, paintedWith, afterPaint, firstCall, next}
+use Rattle.walk.specs.Next.{end, refused, handed, Step, step, levelShown, visitAll, dropped, back, withSeconds, queuedSeconds, fromRow, fromBody, ending, kindOf, takeStore, takeRow, takeQueue, takeNext, outside, paintedWith, afterPaint, firstCall, next}
 use Rattle.walk.proofs.Laws.{cond-both}
 
 -- the front of the queue is taken
@@ -30,7 +30,7 @@ pub data Takes (v : Walk) : State → Step → Type 0 where
       (visitAll v (withQueue q st) (withSeconds v (followed (v .settings) (h .ids)))))
   -- x is read from its row
   from-row : {st : State} (x : Id × ℤ) (q ps : List (Id × ℤ)) (l : ℕ) (s : ℤ) → st .queue ≡ x ∷ q → v .world .graph (x .0) ≡ row ps l s
-      → Takes v st (step (handed (x .0) (some l) (queuedSeconds v (x .1))) (map (λ p. p .0) (followed (v .settings) ps)) (visitAll v (withQueue q st) (followed (v .settings) ps)))
+      → Takes v st (step (handed (x .0) (levelShown l) (queuedSeconds v (x .1))) (map (λ p. p .0) (followed (v .settings) ps)) (visitAll v (withQueue q st) (followed (v .settings) ps)))
   -- its list is corrupt: the graph is dropped, x goes back, and the call goes on
   drops : {st : State} (x : Id × ℤ) (q : List (Id × ℤ)) {r : Step} → st .queue ≡ x ∷ q → Takes v (dropped (back v x q) st) r → Takes v st r
 

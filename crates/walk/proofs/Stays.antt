@@ -14,7 +14,7 @@ use Rattle.walk.specs.declared.Refusal.{Refusal}
 use Rattle.walk.specs.declared.Refusal.the-variants.{CommitNotFound, Closed}
 use Rattle.walk.specs.State.{Walk, State}
 use Rattle.walk.specs.Opening.{Input, walkOf, Opening, closed, opened, openWalk}
-use Rattle.walk.specs.Next.{end, refused, handed, Step, step, dropped, queuedSeconds, ending, kindOf, takeQueue, takeNext, paintedWith, firstCall, next}
+use Rattle.walk.specs.Next.{levelShown, end, refused, handed, Step, step, dropped, queuedSeconds, ending, kindOf, takeQueue, takeNext, paintedWith, firstCall, next}
 use Rattle.walk.specs.Calls.{calls, shutCalls, answersFrom, answers, stateAfter, answerOn, answerAt}
 use Rattle.walk.specs.Sums.{EndsBy, over}
 use Rattle.walk.specs.AnyInput.{Lasts, EndStays}
@@ -48,7 +48,7 @@ unfolding step dropped
 takes-end v (nothing e) k = (e, refl)
 takes-end v (absent x q e b) k = not-refused CommitNotFound k
 takes-end v (from-store x q h e b) k = not-kind (ending (v .settings) h) (x .0) none (queuedSeconds v (x .1)) k
-takes-end v (from-row x q ps l s e b) k = not-handed (x .0) (some l) (queuedSeconds v (x .1)) k
+takes-end v (from-row x q ps l s e b) k = not-handed (x .0) (levelShown l) (queuedSeconds v (x .1)) k
 takes-end v (drops x q e t) k = takes-end v t k
 
 moves-end : (v : Walk) {st : State} {r : Step} → Moves v st r → r .answer .kind ≡ end → Ended (r .state)

@@ -19,7 +19,7 @@ use Rattle.walk.specs.declared.Refusal.the-variants.{CommitUnreadable, T
 use Rattle.walk.specs.Settings.{followed, onlyFirst}
 use Rattle.walk.specs.Lookup.{World, Row, no-row, row, corrupt, fail, good, fromStore, parentsOf, Pair, storeSeconds, secondsFor, noGeneration}
 use Rattle.walk.specs.State.{Walk, State, ids, withQueue, isEmpty}
-use Rattle.walk.specs.Next.{handed, Step, step, visitAll, withSeconds, queuedSeconds, fromRow, fromBody, ending, kindOf, takeStore, takeRow, takeQueue, takeNext}
+use Rattle.walk.specs.Next.{handed, Step, step, levelShown, visitAll, withSeconds, queuedSeconds, fromRow, fromBody, ending, kindOf, takeStore, takeRow, takeQueue, takeNext}
 use Rattle.walk.specs.Reach.{Mem, NoDup, links, Reaches, itself, through}
 use Rattle.walk.specs.Demand.{Readable, Region, Premises}
 use Rattle.walk.proofs.Queue.{Away, tip, link, Walked, Due, visitAll-went, nodup-tail, nodup-first}
@@ -170,7 +170,7 @@ module _ (v : Walk) (tips : List Id) (pre : Premises v tips) (coherent : Coheren
   from-row st x t ps l s r e =
       let f = followed (v .settings) ps in
       let same = pre .agrees x r .same-parents ps l s e in (
-        some l,
+        levelShown l,
         queuedSeconds v t,
         map (λ p. p .0) f,
         f,

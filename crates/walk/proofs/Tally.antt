@@ -21,7 +21,7 @@ use Rattle.walk.specs.Settings.{goesBefore, byTime, followed}
 use Rattle.walk.specs.Lookup.{row}
 use Rattle.walk.specs.State.{Walk, State, withQueue, nobody}
 use Rattle.walk.specs.Painting.{bothMarks}
-use Rattle.walk.specs.Next.{Kind, end, refused, handed, Answer, Step, step, visitAll, dropped, back, withSeconds, queuedSeconds, ending, kindOf, paintedWith, next}
+use Rattle.walk.specs.Next.{levelShown, Kind, end, refused, handed, Answer, Step, step, visitAll, dropped, back, withSeconds, queuedSeconds, ending, kindOf, paintedWith, next}
 use Rattle.walk.specs.Calls.{calls}
 use Rattle.walk.specs.Reach.{Mem}
 use Rattle.walk.specs.Sums.{usesKind, uses, Sums, EndsBy, before, over}
@@ -108,7 +108,7 @@ module _ (v : Walk) where
       used-adds n (kindOf (ending (v .settings) h) (handed (x .0) none (queuedSeconds v (x .1)))) (used-kind (ending (v .settings) h) (x .0) none (queuedSeconds v (x .1)))
       (followed (v .settings) (h .ids)) (withSeconds v (followed (v .settings) (h .ids))) (withQueue q st) (omega (arith, ap length e))
   takes-adds n {st} (from-row x q ps l s e k) t =
-      used-adds n (handed (x .0) (some l) (queuedSeconds v (x .1))) tt (map (λ p. p .0) (followed (v .settings) ps)) (followed (v .settings) ps) (withQueue q st) (omega (arith, ap length e))
+      used-adds n (handed (x .0) (levelShown l) (queuedSeconds v (x .1))) tt (map (λ p. p .0) (followed (v .settings) ps)) (followed (v .settings) ps) (withQueue q st) (omega (arith, ap length e))
   takes-adds n {st} (drops x q e t) s = takes-adds n t (omega (arith, ap length e, length-back v x q))
 
   -- whatever is taken and refused counts
@@ -120,7 +120,7 @@ module _ (v : Walk) where
       used-one n (kindOf (ending (v .settings) h) (handed (x .0) none (queuedSeconds v (x .1)))) (used-kind (ending (v .settings) h) (x .0) none (queuedSeconds v (x .1)))
       (followed (v .settings) (h .ids)) (withSeconds v (followed (v .settings) (h .ids))) (withQueue q st) (omega (arith, ap length e))
   takes-uses n {st} (from-row x q ps l s e b) t m k =
-      used-one n (handed (x .0) (some l) (queuedSeconds v (x .1))) tt (map (λ p. p .0) (followed (v .settings) ps)) (followed (v .settings) ps) (withQueue q st) (omega (arith, ap length e))
+      used-one n (handed (x .0) (levelShown l) (queuedSeconds v (x .1))) tt (map (λ p. p .0) (followed (v .settings) ps)) (followed (v .settings) ps) (withQueue q st) (omega (arith, ap length e))
   takes-uses n {st} (drops x q e d) t m k = takes-uses n d (omega (arith, ap length e, length-back v x q)) m k
 
   pub moves-adds : (n : ℕ) {st : State} {r : Step} → (st .painted ≡ false → n ≡ 0) → Moves v st r → Tally n st → Adds n r

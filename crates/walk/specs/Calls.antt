@@ -9,7 +9,7 @@ use Rattle.walk.specs.Lookup.{rowAt, worldOf, storeSeconds, secondsFor, 
 use Rattle.walk.specs.State.{Walk, State, add, queued, enter, ids, isEmpty, emptyState, sees, waits, withQueue}
 use Rattle.walk.specs.Opening.{Input, listIds, P, walkOf, sizesOk, wholeIds, refusal, roomFor, Opening, closed, opened, distinct, tipsIn, openTips, openOr, openWalk}
 use Rattle.walk.specs.Painting.{then, addPending, also, markRead, mark, markAll, lacks, pass, passed, fresh, withPending, turn, turns, insertId, sorted, paint}
-use Rattle.walk.specs.Next.{refused, Answer, step, admits, visit, visitAll, withSeconds, queuedSeconds, fromRow, ending, kindOf, fromBody, dropped, back, takeStore, takeRow, takeQueue, takeNext, outside, paintedWith, afterPaint, firstCall, next}
+use Rattle.walk.specs.Next.{refused, Answer, step, admits, visit, visitAll, withSeconds, queuedSeconds, levelShown, fromRow, ending, kindOf, fromBody, dropped, back, takeStore, takeRow, takeQueue, takeNext, outside, paintedWith, afterPaint, firstCall, next}
 
 -- ---- call by call
 
@@ -61,5 +61,5 @@ upTo f (suc k) = f zero ∷ upTo (λ n. f (suc n)) k
 
 -- opens every definition of the walk, for theorems that compute
 unfoldable pub walkAll : Unit {0}
-unfolding timed cutoffOf notBefore onlyFirst byTime takenBefore sooner goesBefore followed rowAt worldOf storeSeconds secondsFor ltPair fromStore readRow read parentsOf add queued enter ids isEmpty sees waits withQueue listIds P walkOf sizesOk wholeIds refusal roomFor distinct tipsIn openTips openOr openWalk then addPending also markRead mark markAll lacks pass passed fresh withPending turn turns insertId sorted paint step admits visit visitAll withSeconds queuedSeconds fromRow ending kindOf fromBody dropped back takeStore takeRow takeQueue takeNext outside paintedWith afterPaint firstCall next stateOf stateAfter answerOn answerAt calls shutCalls answersFrom answers
+unfolding timed cutoffOf notBefore onlyFirst byTime takenBefore sooner goesBefore followed rowAt worldOf storeSeconds secondsFor ltPair fromStore readRow read parentsOf add queued enter ids isEmpty sees waits withQueue listIds P walkOf sizesOk wholeIds refusal roomFor distinct tipsIn openTips openOr openWalk then addPending also markRead mark markAll lacks pass passed fresh withPending turn turns insertId sorted paint step admits visit visitAll withSeconds queuedSeconds levelShown fromRow ending kindOf fromBody dropped back takeStore takeRow takeQueue takeNext outside paintedWith afterPaint firstCall next stateOf stateAfter answerOn answerAt calls shutCalls answersFrom answers
 walkAll = tt

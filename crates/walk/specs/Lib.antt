@@ -16,3 +16,4 @@ pub mod Runs
 pub mod Slips
 pub mod Openings
 pub mod Instances
+pub mod Levels

@@ -11,13 +11,14 @@ use Rattle.hash.specs.Bytes.{Id, ifSome}
 use Rattle.object.specs.Header.{Header, header}
 use Rattle.odb.specs.Store.{storeFind}
 use Rattle.commitgraph.specs.Graph.{graphFind, graphId, graphParents, graphSeconds, generation}
+pub use Rattle.commitgraph.specs.Graph.{noGeneration}
 use Rattle.walk.specs.declared.GenThenTime.{GenThenTime}
 use Rattle.walk.specs.declared.Refusal.{Refusal}
 use Rattle.walk.specs.declared.Refusal.the-variants.{CommitNotFound, CommitUnreadable, TooManyParents}
 use Rattle.hash.specs.Bytes.{idBytes}
 
 -- what the commit-graph file says of an id: it does not list it; it lists it with a corrupt parent list; or with a good one, and then
--- come the parents in order, each with the seconds of its own row, the generation (level) and the seconds
+-- come the parents in order, each with the seconds of its own row, the generation (the level of its pair) and the seconds
 pub data Row : Type 0 where
   no-row : Row
   corrupt : Row
@@ -61,10 +62,6 @@ ltPair a b =
     let r : Bool = cond (eqb (a .generation) (b .generation)) (ltZ (a .time) (b .time)) false in
     cond (ltb (a .generation) (b .generation)) true r
 
--- "Without a graph row the level is 0xFFFFFFFF."
-abbrev pub noGeneration : ℕ
-noGeneration = 0xFFFFFFFF
-
 abbrev pub pairOf : GenThenTime → Pair
 pairOf g = record { generation = g .generation .0; time = g .time .0 }
 
@@ -76,7 +73,7 @@ pub data Read : Type 0 where
   good : List Id → Pair → Read
 
 -- "A commit is readable if all four parts hold and it has at most 256 parents"; "absent (9), unreadable (10) or crowded (11)"; "of 10
--- and 11 the earlier line decides"
+-- and 11 the earlier line decides"; "Without a graph row the level is 0xFFFFFFFF"
 unfoldable pub fromStore : Option Header → Read
 fromStore none = fail CommitNotFound
 fromStore (some h) =

@@ -5,6 +5,7 @@ use mathlib.Core.Bool.{Bool, true, false, cond, not, _&&_, _||_}
 use mathlib.Core.Option.{Option, none, some}
 use mathlib.Core.List.{List, [], _∷_, map}
 use lib.ListN.{length}
+use lib.Dec.{eqb}
 use lib.IntN.{ℤ}
 use Rattle.hash.specs.Bytes.{Id, among}
 use Rattle.object.specs.Header.{Header}
@@ -12,14 +13,14 @@ use Rattle.walk.specs.declared.Settings.{Settings}
 use Rattle.walk.specs.declared.Refusal.{Refusal}
 use Rattle.walk.specs.declared.Refusal.the-variants.{CommitNotFound, CommitUnreadable, TooManyParents}
 use Rattle.walk.specs.Settings.{byTime, cutoffOf, notBefore, onlyFirst, goesBefore, followed}
-use Rattle.walk.specs.Lookup.{Row, no-row, corrupt, row, secondsFor}
+use Rattle.walk.specs.Lookup.{Row, no-row, corrupt, row, noGeneration, secondsFor}
 use Rattle.walk.specs.State.{Walk, State, nobody, queued, ids, isEmpty, sees, waits, withQueue}
 use Rattle.walk.specs.Painting.{Painting, stop, going, paint, bothMarks}
 
 -- ---- answers
 
 -- end; a refusal; or a commit is handed out: its id, "level if from the graph, and, under a time order that isn't overridden by First,
--- the seconds it was queued with"
+-- the seconds it was queued with"; card 6: no level where those of the file are not used
 pub data Kind : Type 0 where
   end : Kind
   refused : Refusal → Kind
@@ -74,11 +75,15 @@ queuedSeconds w t = cond (byTime (w .settings)) (some t) none
 
 -- ---- one commit x, queued with t seconds and out of the queue already
 
+-- the level that an answer shows of a commit from its graph row. Card 6: where no level of the file is used, "listings show none"
+unfoldable pub levelShown : ℕ → Option ℕ
+levelShown l = cond (eqb l noGeneration) none (some l)
+
 -- from its graph row: "Each parent enters the answer's list … Under First only one parent"
 unfoldable pub fromRow : Walk → State → Id → ℤ → List (Id × ℤ) → ℕ → Step
 fromRow w st x t ps l =
     let f = followed (w .settings) ps in
-    step (handed x (some l) (queuedSeconds w t)) (map (λ p. p .0) f) (visitAll w st f)
+    step (handed x (levelShown l) (queuedSeconds w t)) (map (λ p. p .0) f) (visitAll w st f)
 
 -- "After the parents of a commit from the book the author line must be good, save where First has stopped"; 11: "a good 257th parent
 -- line; of 10 and 11 the earlier line decides": why a header is refused, none where it is not

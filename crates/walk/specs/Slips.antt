@@ -150,6 +150,28 @@ earlier = graphOf (
     record { name = 1; first = 1; second = 3; level = 0x3FFFFFFF; time = 9 } ∷ record { name = 3; first = 2; second = noneThere; level = 0x3FFFFFFE; time = 3 }
     ∷ record { name = 4; first = 3; second = noneThere; level = 0x3FFFFFFD; time = 2 } ∷ record { name = 5; first = noneThere; second = noneThere; level = 0x3FFFFFFC; time = 1 } ∷ []) []
 
+-- 1 at 20 from 2 and 5; 2 at 17 from 4; 3 at 19; 4 at 8 from 5; 5 at 3
+unfoldable pub onward : List ℕ
+unfolding storeOf
+onward = storeOf (
+    record { name = 1; time = 20; from = 2 ∷ 5 ∷ [] } ∷ record { name = 2; time = 17; from = 4 ∷ [] } ∷ record { name = 3; time = 19; from = [] }
+    ∷ record { name = 4; time = 8; from = 5 ∷ [] } ∷ record { name = 5; time = 3; from = [] } ∷ [])
+
+-- a graph file of 3, 4 and 5, where 5 has a greater level than its child 4, and 3, which no commit has as a parent, the level l
+unfoldable pub rising : ℕ → List ℕ
+unfolding graphOf
+rising l = graphOf (
+    record { name = 3; first = noneThere; second = noneThere; level = l; time = 19 } ∷ record { name = 4; first = 2; second = noneThere; level = 2; time = 8 }
+    ∷ record { name = 5; first = noneThere; second = noneThere; level = 3; time = 3 } ∷ []) []
+
+-- the listing of the fork, but 2 has other seconds, and 4 the level 0
+unfoldable pub unlevelled : List ℕ
+unfolding graphOf
+unlevelled = graphOf (
+    record { name = 1; first = 1; second = lastOf 0; level = 2; time = 9 } ∷ record { name = 2; first = noneThere; second = noneThere; level = 1; time = 8 }
+    ∷ record { name = 3; first = noneThere; second = noneThere; level = 1; time = 6 } ∷ record { name = 4; first = noneThere; second = noneThere; level = 0; time = 6 } ∷ [])
+    (2 ∷ lastOf 3 ∷ [])
+
 -- ---- what tells them apart
 
 pub record Slips : Type 0 where
@@ -170,9 +192,13 @@ pub record Slips : Type 0 where
   -- a commit without a row comes before all that have one: 2 is taken first and hides 3, so 4 and 5 are met with both marks. Were it taken
   -- last, 5 would have passed as visible only, and would be handed out
   pub no-row-first : saysWith grown earlier (1 ∷ []) (2 ∷ []) (all BreadthFirst) 3 ≡ handed (idFor 1) (some 0x3FFFFFFF) none ∷ end ∷ end ∷ []
+  -- card 6: 3 has level 0, though neither tip reaches it, so no level is used: 4 is taken before 5 and hides it. Were 0 the lowest level, or 3
+  -- alone without one, 5 would go before 4 as visible only, and would be handed out, as with any other level
+  pub never-computed : saysWith onward (rising 0) (1 ∷ []) (2 ∷ []) (all BreadthFirst) 3 ≡ out 1 ∷ end ∷ end ∷ []
+  pub computed : saysWith onward (rising 1) (1 ∷ []) (2 ∷ []) (all BreadthFirst) 3 ≡ out 1 ∷ handed (idFor 5) (some 3) none ∷ end ∷ []
 
 pub slips : Slips
-unfolding says saysWith all firstOnly sample twoTurns lentTwice fork stale grown earlier bytesAll idListAll headerAll storeAll graphAll walkAll
+unfolding says saysWith all firstOnly sample twoTurns lentTwice fork stale grown earlier onward rising bytesAll idListAll headerAll storeAll graphAll walkAll
 slips = record {
   not-itself = refl;
   hides-all = refl;
@@ -182,6 +208,8 @@ slips = record {
   turned-away = refl;
   store-child = refl;
   no-row-first = refl;
+  never-computed = refl;
+  computed = refl;
 }
 
 -- ---- answers in all their fields
@@ -202,6 +230,9 @@ pub record Fields : Type 0 where
   -- from a graph row come the level and the parents, in EDGE from the second on; under a time order the seconds that a commit was queued with
   pub graph-row : answers (inputWith fork listing (1 ∷ []) [] (all newest)) 2
       ≡ whole (handed (idFor 1) (some 2) (some (pos 9))) (2 ∷ 3 ∷ 4 ∷ []) 4 0 3 ∷ whole (handed (idFor 3) (some 1) (some (pos 6))) [] 4 0 2 ∷ []
+  -- card 6: where a row has level 0 no answer shows a level; parents and seconds are the rows' still
+  pub no-levels : answers (inputWith fork unlevelled (1 ∷ []) [] (all newest)) 2
+      ≡ whole (handed (idFor 1) none (some (pos 9))) (2 ∷ 3 ∷ 4 ∷ []) 4 0 3 ∷ whole (handed (idFor 2) none (some (pos 8))) [] 4 0 2 ∷ []
   -- a corrupt list drops the graph for good
   pub no-graph : answers (inputWith fork cut (1 ∷ []) [] (all newest)) 2
       ≡ whole (handed (idFor 1) none (some (pos 9))) (2 ∷ 3 ∷ 4 ∷ []) 4 0 3 ∷ whole (handed (idFor 3) none (some (pos 6))) [] 4 0 2 ∷ []
@@ -216,10 +247,11 @@ pub record Fields : Type 0 where
   pub closed-record : answers (inputWith lost [] (9 ∷ []) [] (all newest)) 1 ≡ whole (refused Closed) [] 0 0 0 ∷ []
 
 pub fields : Fields
-unfolding inputWith idsFor all firstOnly sample fork lost listing cut bytesAll idListAll headerAll storeAll graphAll walkAll
+unfolding inputWith idsFor all firstOnly sample fork lost listing unlevelled cut bytesAll idListAll headerAll storeAll graphAll walkAll
 fields = record {
   struck = refl;
   graph-row = refl;
+  no-levels = refl;
   no-graph = refl;
   first-parent = refl;
   not-found = refl;

@@ -26,7 +26,17 @@ words-back r rest h =
       painted = bit-back (r .painted) k;
       failed = bit-back (r .failed) k;
       kept = bit-back (r .kept) k;
-      fixed = r .fixed;
+      fixed = record {
+        layout = record {
+          fan = r .fixed .layout .fan;
+          ids = r .fixed .layout .ids;
+          rows = r .fixed .layout .rows;
+          edge = r .fixed .layout .edge;
+          edges = r .fixed .layout .edges;
+          count = r .fixed .layout .count;
+          levels = bit-back (r .fixed .layout .levels) k;
+        };
+      };
       queue = record {
         timed = bit-back (r .queue .timed) k;
         newest = bit-back (r .queue .newest) k;

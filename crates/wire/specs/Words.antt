@@ -26,15 +26,17 @@ bitOf false = 0
 -- ---- a record (document 01: one small record of counters)
 
 abbrev pub recordWords : ℕ
-recordWords = 18
+recordWords = 19
 
--- its words: whether it is open and what has happened, the queue, the two counts, and where the graph file's chunks stand
+-- its words: whether it is open and what has happened, the queue, the two counts, where the graph file's chunks stand, and whether its levels are
+-- used
 unfoldable pub wordsOf : Record → List ℕ
 wordsOf r =
     bitOf (r .live) ∷ bitOf (r .painted) ∷ bitOf (r .failed) ∷ bitOf (r .kept)
     ∷ bitOf (r .queue .timed) ∷ bitOf (r .queue .newest) ∷ r .queue .cap ∷ r .queue .head ∷ r .queue .count ∷ r .queue .next
     ∷ r .admitted ∷ r .struck
-    ∷ r .fixed .layout .fan ∷ r .fixed .layout .ids ∷ r .fixed .layout .rows ∷ r .fixed .layout .edge ∷ r .fixed .layout .edges ∷ r .fixed .layout .count ∷ []
+    ∷ r .fixed .layout .fan ∷ r .fixed .layout .ids ∷ r .fixed .layout .rows ∷ r .fixed .layout .edge ∷ r .fixed .layout .edges ∷ r .fixed .layout .count
+    ∷ bitOf (r .fixed .layout .levels) ∷ []
 
 -- a word past the end is 0, a yes or no is yes where its word is 1, and of the number that the next commit is queued under the low 32
 -- bits count
@@ -50,7 +52,15 @@ queueOf w = record {
 
 unfoldable pub fixedIn : List ℕ → Fixed
 fixedIn w = record {
-  layout = record { fan = getD w 12 0; ids = getD w 13 0; rows = getD w 14 0; edge = getD w 15 0; edges = getD w 16 0; count = getD w 17 0 };
+  layout = record {
+    fan = getD w 12 0;
+    ids = getD w 13 0;
+    rows = getD w 14 0;
+    edge = getD w 15 0;
+    edges = getD w 16 0;
+    count = getD w 17 0;
+    levels = eqb (getD w 18 0) 1;
+  };
 }
 
 -- the record that words stand for

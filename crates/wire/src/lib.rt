@@ -26,7 +26,7 @@ ghost use Rattle.wire.specs.Words.{bitOf, wordsOf, recordOf, queueOf, fi
 ghost use Rattle.wire.specs.Numbers.{timeOrder, sortingOf, parentsOf, settingsOf, PutsOpenAnswer, PutsAnswer};
 
 // How many words a record has.
-const RECORD_WORDS: usize = 18;
+const RECORD_WORDS: usize = 19;
 
 // How many numbers an opening's answer has, and a call's.
 const OPEN_NUMBERS: usize = 3;
@@ -131,7 +131,7 @@ pub fn put(out: &mut [u64], x: &[u64])
 }
 
 // The words of a record.
-pub fn words_of(r: Record) -> [u64; 18]
+pub fn words_of(r: Record) -> [u64; 19]
     ensures { λ w. ⌜ w ≡ wordsOf r ⌝ }
 {
     let q = r.queue;
@@ -156,6 +156,7 @@ pub fn words_of(r: Record) -> [u64; 18]
         long(l.edge),
         long(l.edges),
         long(l.count),
+        bit(l.levels),
     ]
 }
 
@@ -200,6 +201,7 @@ fn fixed_in(words: &[u64]) -> Fixed
             edge: count(words, 15),
             edges: count(words, 16),
             count: count(words, 17),
+            levels: flag(words, 18),
         },
     }
 }

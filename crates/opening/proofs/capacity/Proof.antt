@@ -1,18 +1,9 @@
 -- `opening::capacity` meets its contract: the sum is P, and fits, as N is a 32-bit number. Assumes nothing.
 use native.Mathlib.Omega.{arith}
 use Rattle.walk.specs.Opening.{P}
-use Rattle.opening.proofs.Input.{count-of, count-fits}
 use borrow.Author.Needs.{needs}
 use Rattle.opening.proofs.capacity.Statement.{statement}
 use Rattle.opening.proofs.capacity.Tie as tie
-use Rattle.opening.proofs.capacity.Reads as reads
-use Rattle.opening.proofs.capacity.Lts as lts
-use Rattle.commitgraph.proofs.parse.Reads as parse-reads
-use Rattle.hash.proofs.ids_in.Reads as ids-in-reads
-use Rattle.opening.proofs.lines_in.Reads as lines-in-reads
-
-parse-requires : tie.Need-parse-requires
-parse-requires c κs = search needs
 
 ids-in-requires : tie.Need-ids-in-requires
 ids-in-requires c κs = search needs
@@ -29,22 +20,25 @@ lines-in-requires c κs = search needs
 add-result-2 : tie.Need-add-result-2
 add-result-2 c = search needs
 
+count-requires : tie.Need-count-requires
+count-requires c κs = search needs
+
 add-result-3 : tie.Need-add-result-3
-add-result-3 c = omega (arith, c .before .before .before .ids-in .ensures, c .before .before .ids-in2 .ensures, c .before .lines-in .ensures, count-of (c .before .before .before .before .before .before .before .before .before .args .graph .now) (c .before .before .before .before .parse .ensures), count-fits (c .before .before .before .before .before .before .before .before .before .args .graph .now) (λ k. omega (arith, c .before .before .before .before .before .before .before .shared-slice-known2 .given k)))
+add-result-3 c = omega (arith, c .before .before .before .ids-in .ensures, c .before .before .ids-in2 .ensures, c .before .lines-in .ensures, c .count .ensures .1)
 
 returns : tie.Need-returns
 unfolding P
-returns c = λ excluded s. omega (arith, c .before .before .before .ids-in .ensures, c .before .before .ids-in2 .ensures, c .before .lines-in .ensures, count-of (c .before .before .before .before .before .before .before .before .before .args .graph .now) (c .before .before .before .before .parse .ensures))
+returns c = λ excluded s. omega (arith, c .before .before .before .ids-in .ensures, c .before .before .ids-in2 .ensures, c .before .lines-in .ensures, c .count .ensures .0)
 
 pub capacity-spec : {M : Type 1} → statement M
 capacity-spec =
     tie.close
     (tie.spec
-    parse-requires
     ids-in-requires
     ids-in-requires-2
     add-result
     lines-in-requires
     add-result-2
+    count-requires
     add-result-3
     returns)

@@ -22,10 +22,21 @@ count-requires-5 c κs = search needs
 count-requires-6 : tie.Need-count-requires-6
 count-requires-6 c κs = search needs
 
+flag-requires : tie.Need-flag-requires
+flag-requires c κs = search needs
+
 returns : tie.Need-returns
 unfolding fixedIn
 returns c = λ k. record {
-  layout = record { fan = c .before .before .before .before .before .count .ensures k; ids = c .before .before .before .before .count2 .ensures k; rows = c .before .before .before .count3 .ensures k; edge = c .before .before .count4 .ensures k; edges = c .before .count5 .ensures k; count = c .count6 .ensures k };
+  layout = record {
+    fan = c .before .before .before .before .before .before .count .ensures k;
+    ids = c .before .before .before .before .before .count2 .ensures k;
+    rows = c .before .before .before .before .count3 .ensures k;
+    edge = c .before .before .before .count4 .ensures k;
+    edges = c .before .before .count5 .ensures k;
+    count = c .before .count6 .ensures k;
+    levels = c .flag .ensures k;
+  };
 }
 
 pub fixed-in-spec : {M : Type 1} → statement M
@@ -38,4 +49,5 @@ fixed-in-spec =
     count-requires-4
     count-requires-5
     count-requires-6
+    flag-requires
     returns)

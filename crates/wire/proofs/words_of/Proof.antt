@@ -59,27 +59,31 @@ long-requires-10 c κs = search needs
 long-requires-11 : tie.Need-long-requires-11
 long-requires-11 c κs = search needs
 
+bit-requires-7 : tie.Need-bit-requires-7
+bit-requires-7 c κs = search needs
+
 returns : tie.Need-returns
 unfolding wordsOf
 returns c = λ k.
-    c .before .before .before .before .before .before .before .before .before .before .before .before .before .before .before .before .before .bit .ensures k
-    ∷ c .before .before .before .before .before .before .before .before .before .before .before .before .before .before .before .before .bit2 .ensures k
-    ∷ c .before .before .before .before .before .before .before .before .before .before .before .before .before .before .before .bit3 .ensures k
-    ∷ c .before .before .before .before .before .before .before .before .before .before .before .before .before .before .bit4 .ensures k
-    ∷ c .before .before .before .before .before .before .before .before .before .before .before .before .before .bit5 .ensures k
-    ∷ c .before .before .before .before .before .before .before .before .before .before .before .before .bit6 .ensures k
-    ∷ c .before .before .before .before .before .before .before .before .before .before .before .long .ensures k
-    ∷ c .before .before .before .before .before .before .before .before .before .before .long2 .ensures k
-    ∷ c .before .before .before .before .before .before .before .before .before .long3 .ensures k
-    ∷ c .before .before .before .before .before .before .before .before .long32 .ensures k
-    ∷ c .before .before .before .before .before .before .before .long4 .ensures k
-    ∷ c .before .before .before .before .before .before .long5 .ensures k
-    ∷ c .before .before .before .before .before .long6 .ensures k
-    ∷ c .before .before .before .before .long7 .ensures k
-    ∷ c .before .before .before .long8 .ensures k
-    ∷ c .before .before .long9 .ensures k
-    ∷ c .before .long10 .ensures k
-    ∷ c .long11 .ensures k
+    c .before .before .before .before .before .before .before .before .before .before .before .before .before .before .before .before .before .before .bit .ensures k
+    ∷ c .before .before .before .before .before .before .before .before .before .before .before .before .before .before .before .before .before .bit2 .ensures k
+    ∷ c .before .before .before .before .before .before .before .before .before .before .before .before .before .before .before .before .bit3 .ensures k
+    ∷ c .before .before .before .before .before .before .before .before .before .before .before .before .before .before .before .bit4 .ensures k
+    ∷ c .before .before .before .before .before .before .before .before .before .before .before .before .before .before .bit5 .ensures k
+    ∷ c .before .before .before .before .before .before .before .before .before .before .before .before .before .bit6 .ensures k
+    ∷ c .before .before .before .before .before .before .before .before .before .before .before .before .long .ensures k
+    ∷ c .before .before .before .before .before .before .before .before .before .before .before .long2 .ensures k
+    ∷ c .before .before .before .before .before .before .before .before .before .before .long3 .ensures k
+    ∷ c .before .before .before .before .before .before .before .before .before .long32 .ensures k
+    ∷ c .before .before .before .before .before .before .before .before .long4 .ensures k
+    ∷ c .before .before .before .before .before .before .before .long5 .ensures k
+    ∷ c .before .before .before .before .before .before .long6 .ensures k
+    ∷ c .before .before .before .before .before .long7 .ensures k
+    ∷ c .before .before .before .before .long8 .ensures k
+    ∷ c .before .before .before .long9 .ensures k
+    ∷ c .before .before .long10 .ensures k
+    ∷ c .before .long11 .ensures k
+    ∷ c .bit7 .ensures k
     ∷ []
 
 pub words-of-spec : {M : Type 1} → statement M
@@ -104,4 +108,5 @@ words-of-spec =
     long-requires-9
     long-requires-10
     long-requires-11
+    bit-requires-7
     returns)

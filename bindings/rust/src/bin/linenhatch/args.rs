@@ -30,7 +30,8 @@ Lists what the REVs reach (HEAD if none is given), one id on a line. A REV is an
   --no-graph        does not use git's commit-graph file (objects/info/commit-graph)
   --parents         prints the parents after the id
   --time            prints SECONDS/GENERATION after the id, - where there is none: seconds are there in an order by time without
-                    --first-parent, a generation for a commit that came from the commit-graph file
+                    --first-parent, a generation for a commit that came from a commit-graph file with
+                    generations (in which none is 0)
   --progress        shows on standard error how far the work is, also where that is no terminal
   -h, --help, -V, --version
 

@@ -3,7 +3,7 @@
 use mathlib.Core.Path.{_≡_, sym, ap, _∙_}
 use mathlib.Core.Bool.{true, false}
 use borrow.Author.Tests.{not-true, not-false}
-use Rattle.commitgraph.specs.Graph.{OIDF, OIDL, chunkStart, tableOk, graphCount, chunksOk, graphOk, layoutOf}
+use Rattle.commitgraph.specs.Graph.{OIDF, OIDL, chunkStart, tableOk, graphCount, chunksOk, graphOk, placesOf}
 use Rattle.commitgraph.specs.declared.Layout.{Layout}
 use Rattle.commitgraph.proofs.LayoutRight.{sized, Placed, placed}
 use borrow.Author.Needs.{needs}
@@ -11,26 +11,26 @@ use Rattle.commitgraph.proofs.chunks.is_good.Statement.{statement}
 use Rattle.commitgraph.proofs.chunks.is_good.Tie as tie
 
 -- what is known where the layout is read
-table-good : (c : tie.After-parse) → tableOk (c .before .before .before .before .before .width .result) (c .before .before .before .before .before .before .before .args .graph .now) ≡ true
+table-good : (c : tie.After-places) → tableOk (c .before .before .before .before .before .width .result) (c .before .before .before .before .before .before .before .args .graph .now) ≡ true
 table-good c = sym (c .before .before .before .before .has-table .ensures) ∙ not-false (c .before .before .before .before .has-table .result) (c .before .before .before .if1 .left)
 
-sizes-good : (c : tie.After-parse) → sized (c .before .before .before .before .before .width .result) (c .before .before .before .before .before .before .before .args .graph .now) ≡ true
+sizes-good : (c : tie.After-places) → sized (c .before .before .before .before .before .width .result) (c .before .before .before .before .before .before .before .args .graph .now) ≡ true
 sizes-good c = sym (c .before .before .has-sizes .ensures) ∙ not-false (c .before .before .has-sizes .result) (c .before .if2 .left)
 
-inside : (c : tie.After-parse) → Placed (c .before .before .before .before .before .width .result) (c .before .before .before .before .before .before .before .args .graph .now)
+inside : (c : tie.After-places) → Placed (c .before .before .before .before .before .width .result) (c .before .before .before .before .before .before .before .args .graph .now)
 inside c = placed (c .before .before .before .before .before .width .result) (c .before .before .before .before .before .before .before .args .graph .now) (table-good c) (sizes-good c)
 
-fan-start : (c : tie.After-parse) → c .parse .result .fan ≡ chunkStart (c .before .before .before .before .before .before .before .args .graph .now) OIDF
-unfolding layoutOf
-fan-start c = ap (λ (l : Layout). l .fan) (c .parse .ensures)
+fan-start : (c : tie.After-places) → c .places .result .fan ≡ chunkStart (c .before .before .before .before .before .before .before .args .graph .now) OIDF
+unfolding placesOf
+fan-start c = ap (λ (l : Layout). l .fan) (c .places .ensures)
 
-ids-start : (c : tie.After-parse) → c .parse .result .ids ≡ chunkStart (c .before .before .before .before .before .before .before .args .graph .now) OIDL
-unfolding layoutOf
-ids-start c = ap (λ (l : Layout). l .ids) (c .parse .ensures)
+ids-start : (c : tie.After-places) → c .places .result .ids ≡ chunkStart (c .before .before .before .before .before .before .before .args .graph .now) OIDL
+unfolding placesOf
+ids-start c = ap (λ (l : Layout). l .ids) (c .places .ensures)
 
-n-read : (c : tie.After-parse) → c .parse .result .count ≡ graphCount (c .before .before .before .before .before .before .before .args .graph .now)
-unfolding layoutOf
-n-read c = ap (λ (l : Layout). l .count) (c .parse .ensures)
+n-read : (c : tie.After-places) → c .places .result .count ≡ graphCount (c .before .before .before .before .before .before .before .args .graph .now)
+unfolding placesOf
+n-read c = ap (λ (l : Layout). l .count) (c .places .ensures)
 
 width-requires : tie.Need-width-requires
 width-requires c κs = search needs
@@ -57,8 +57,8 @@ returns-2 c =
     let s : sized (w .result) g ≡ false = sym (c .before .has-sizes .ensures) ∙ not-true (c .before .has-sizes .result) (c .if2 .taken) in
     rw (sym (w .ensures .0), t, s)
 
-parse-requires : tie.Need-parse-requires
-parse-requires c κs = search needs
+places-requires : tie.Need-places-requires
+places-requires c κs = search needs
 
 fan-rises-requires : tie.Need-fan-rises-requires
 fan-rises-requires c κs =
@@ -94,7 +94,7 @@ is-good-spec =
     returns
     has-sizes-requires
     returns-2
-    parse-requires
+    places-requires
     fan-rises-requires
     returns-3
     ids-fit-requires

@@ -1,52 +1,32 @@
--- `chunks::parse` meets its contract, field by field: what `find_start`, `find_chunk` and `last_entry` ensure. Assumes nothing.
-use borrow.Author.Needs.{needs}
+-- `chunks::parse` meets its contract, field by field: the places are those of the table, and the levels are judged by them. Assumes nothing.
 use mathlib.Core.Path.{ap, _∙_}
-use Prim.Native.Nat.{ℕ, _/_}
-use Rattle.commitgraph.specs.Graph.{layoutOf}
-use Rattle.commitgraph.proofs.Table.{count-at}
+use Rattle.hash.specs.Bytes.{widthOf}
+use Rattle.commitgraph.specs.declared.Layout.{Layout}
+use Rattle.commitgraph.specs.Graph.{placesOf, layoutOf, levelled}
+use borrow.Author.Needs.{needs}
 use Rattle.commitgraph.proofs.chunks.parse.Statement.{statement}
 use Rattle.commitgraph.proofs.chunks.parse.Tie as tie
 
-chunk-count-requires : tie.Need-chunk-count-requires
-chunk-count-requires c κs = search needs
+places-requires : tie.Need-places-requires
+places-requires c κs = search needs
 
-find-start-requires : tie.Need-find-start-requires
-find-start-requires c κs = search needs
-
-find-start-requires-2 : tie.Need-find-start-requires-2
-find-start-requires-2 c κs = search needs
-
-find-start-requires-3 : tie.Need-find-start-requires-3
-find-start-requires-3 c κs = search needs
-
-find-chunk-requires : tie.Need-find-chunk-requires
-find-chunk-requires c κs = search needs
-
-last-entry-requires : tie.Need-last-entry-requires
-last-entry-requires c κs = search needs
+has-levels-requires : tie.Need-has-levels-requires
+has-levels-requires c κs = search needs
 
 returns : tie.Need-returns
-unfolding layoutOf
+unfolding layoutOf placesOf
 returns c =
-    let e = c .before .before in
-    let f = e .before .before .before in
+    let x = c .before .before .before .args in
+    let p = c .before .places .ensures in
     λ j. record {
-      fan = (f .find-start .ensures) j;
-      ids = (e .before .before .find-start2 .ensures) j;
-      rows = (e .before .find-start3 .ensures) j;
-      edge = (e .find-chunk .ensures .0) j;
-      edges = (ap (λ (n : ℕ). n / 4) (e .find-chunk .ensures .1)) j;
-      count = (c .before .last-entry .ensures .0 ∙ count-at (f .before .before .before .args .graph .now) _ (f .find-start .ensures)) j;
+      fan = p j .fan;
+      ids = p j .ids;
+      rows = p j .rows;
+      edge = p j .edge;
+      edges = p j .edges;
+      count = p j .count;
+      levels = (c .has-levels .ensures ∙ ap (λ (m : Layout). levelled (widthOf (x .kind)) (x .graph .now) m (m .count)) p) j;
     }
 
 pub parse-spec : {M : Type 1} → statement M
-parse-spec =
-    tie.close
-    (tie.spec
-    chunk-count-requires
-    find-start-requires
-    find-start-requires-2
-    find-start-requires-3
-    find-chunk-requires
-    last-entry-requires
-    returns)
+parse-spec = tie.close (tie.spec places-requires has-levels-requires returns)

@@ -1,26 +1,23 @@
--- `level` meets its contract: the number is read from the row, and the quotient by 4 is its high 30 bits. Assumes nothing.
-use mathlib.Core.Path.{ap}
-use Prim.Native.Nat.{ℕ, _/_}
-use native.Mathlib.Omega.{arith}
+-- `level` meets its contract: the stated level where levels are used. Assumes nothing.
+use mathlib.Core.Path.{sym, _∙_}
 use Rattle.hash.specs.Bytes.{widthOf}
-use Rattle.commitgraph.specs.Graph.{rowIn, levelIn}
-use Rattle.commitgraph.proofs.RowsPlace.{field}
+use Rattle.commitgraph.specs.Graph.{levelIn}
+use Rattle.commitgraph.proofs.Levels.{level-used}
 use borrow.Author.Needs.{needs}
 use Rattle.commitgraph.proofs.rows.level.Statement.{statement}
 use Rattle.commitgraph.proofs.rows.level.Tie as tie
 
-numbers-requires : tie.Need-numbers-requires
-numbers-requires c κs = search needs
-
-be32-requires : tie.Need-be32-requires
-be32-requires c κs = search needs
+stated-level-requires : tie.Need-stated-level-requires
+stated-level-requires c κs = search needs
 
 returns : tie.Need-returns
-unfolding levelIn
 returns c =
     let x = c .before .before .before .args in
-    let w = widthOf (x .kind) in
-    ap (λ (n : ℕ). n / 4) (field w 8 (rowIn w (x .graph .now) (x .l) (x .p)) (omega arith) (c .be32 .ensures) (c .before .numbers .ensures))
+    c .stated-level .ensures ∙ sym (level-used (widthOf (x .kind)) (x .graph .now) (x .l) (x .p) (c .before .if1 .taken))
+
+returns-2 : tie.Need-returns-2
+unfolding levelIn
+returns-2 c = search needs
 
 pub level-spec : {M : Type 1} → statement M
-level-spec = tie.close (tie.spec numbers-requires be32-requires returns)
+level-spec = tie.close (tie.spec stated-level-requires returns returns-2)

@@ -13,6 +13,9 @@ followed-count-requires c κs = search needs
 visit-row-requires : tie.Need-visit-row-requires
 visit-row-requires c κs = search needs
 
+level-shown-requires : tie.Need-level-shown-requires
+level-shown-requires c κs = search needs
+
 give-requires : tie.Need-give-requires
 give-requires c κs = search needs
 
@@ -35,7 +38,7 @@ same-length-6 : tie.Need-same-length-6
 same-length-6 c = search needs
 
 returns : tie.Need-returns
-returns c = rw (c .give .ensures, c .before .before .before .before .before .before .before .before .before .before .before .before .before .before .before .before .before .before .before .before .time-given .ensures) (takes-row (c .before .before .before .before .before .before .before .before .before .before .before .before .before .before .before .before .before .before .before .followed-count .ensures) (c .before .before .before .before .before .before .before .before .before .before .before .before .visit-row .ensures))
+returns c = rw (c .give .ensures, c .before .level-shown .ensures, c .before .before .before .before .before .before .before .before .before .before .before .before .before .before .before .before .before .before .before .before .before .time-given .ensures) (takes-row (c .before .before .before .before .before .before .before .before .before .before .before .before .before .before .before .before .before .before .before .before .followed-count .ensures) (c .before .before .before .before .before .before .before .before .before .before .before .before .before .visit-row .ensures))
 
 pub take-row-spec : {M : Type 1} → statement M
 take-row-spec =
@@ -44,6 +47,7 @@ take-row-spec =
     time-given-requires
     followed-count-requires
     visit-row-requires
+    level-shown-requires
     give-requires
     same-length
     same-length-2

@@ -1,0 +1,90 @@
+"""zero.py: commit-graph files whose generations were never computed (card 6). Makes histories of 120 commits in git whose clocks are right, lets git
+write commit-graph files of all commits and of the older half, and sets generations in them to 0, with the checksum made right again: of every
+row, of one row, and of one row that stands alone in the file, which nothing in the history reaches. Each commit is hidden in turn, and each list of
+the tool `linenhatch` and of `git rev-list` is judged by plain reachability. In every list with a 0 no generation may be shown.
+
+    rt staticlib linenhatch && (cd bindings/rust && cargo build --release --offline)
+    python3 compare/zero.py
+
+Options: --seeds N (3), --commits N (120), --tool FILE. Ends with status 1 if a list of ours is wrong or shows a generation. Needs python3 and git.
+"""
+import argparse
+import hashlib
+import os
+import random
+import subprocess
+import sys
+import tempfile
+
+import drift
+
+sys.path.insert(0, os.path.join(drift.HERE, "..", "tools"))
+import formats  # noqa: E402
+
+
+def graph_of(repository, ids):
+    """The commit-graph file that git writes of what these reach, with generations (version 1)."""
+    drift.git(repository, "-c", "commitGraph.generationVersion=1", "commit-graph", "write", "--stdin-commits", data="".join(f"{x}\n" for x in ids).encode())
+    return os.path.join(repository, "objects", "info", "commit-graph")
+
+
+def zeroed(path, chosen):
+    """Sets the generations of the rows that chosen picks to 0; the checksum is made anew. How many rows there are."""
+    with open(path, "rb") as f:
+        g = bytearray(f.read())
+    read = formats.Graph(bytes(g))
+    assert read.good
+    at = bytes(g).index(read.rows)
+    for p in chosen(read):
+        word = formats.be32(read.row(p), 28) & 3
+        g[at + 36 * p + 28:at + 36 * p + 32] = formats.u32(word)
+    g[-20:] = hashlib.sha1(g[:-20]).digest()
+    os.chmod(path, 0o644)
+    with open(path, "wb") as f:
+        f.write(g)
+    assert not formats.Graph(bytes(g)).levelled
+    return read.n
+
+
+def run(seed, count, tool):
+    rng = random.Random(f"zero {seed}")
+    parents = drift.benches(rng, count)
+    seconds = [1_700_000_000 + drift.APART * n for n in range(count)]
+    reached, wrong, lists = drift.reach(parents), {}, 0
+    with tempfile.TemporaryDirectory() as room:
+        for what, of, chosen in (("every row", "all commits", lambda g: range(g.n)), ("one row", "all commits", lambda g: [rng.randrange(g.n)]),
+                                 ("every row", "the older half", lambda g: range(g.n)), ("one row", "the older half", lambda g: [rng.randrange(g.n)]),
+                                 ("a commit that nothing reaches", "all commits", None)):
+            repository = os.path.join(room, f"{len(wrong)}")
+            ids = drift.make(repository, parents, seconds)
+            given = ids if of == "all commits" else ids[:count // 2]
+            if chosen is None:
+                stray = drift.git(repository, "-c", "user.name=Bench", "-c", "user.email=bench@example.org", "commit-tree", "-m", "stray", drift.git(repository, "rev-parse", ids[0] + "^{tree}").decode().strip()).decode().strip()
+                given = ids + [stray]
+                chosen = lambda g: [g.find(bytes.fromhex(stray))]  # noqa: E731
+            zeroed(graph_of(repository, given), chosen)
+            for name, command in (("linenhatch", drift.ours(tool, repository, True)), ("git rev-list", drift.rev_list(repository, True))):
+                wrong[name, what, of] = drift.judge(command, ids, reached)[0]
+                lists += count
+            shown = subprocess.run([tool, "-C", repository, "--order", "newest", "--time", ids[-1]], stdout=subprocess.PIPE, check=True, env=drift.ENV).stdout.decode().splitlines()
+            wrong["linenhatch, generations shown", what, of] = sum(not x.endswith("/-") for x in shown)
+    return wrong, lists
+
+
+def main():
+    p = argparse.ArgumentParser(usage=__doc__)
+    p.add_argument("--seeds", type=int, default=3)
+    p.add_argument("--commits", type=int, default=120)
+    p.add_argument("--tool", default=drift.TOOL)
+    a = p.parse_args()
+    runs = [run(seed, a.commits, os.path.abspath(a.tool)) for seed in range(1, a.seeds + 1)]
+    print(f"| lister | generation 0 of | commit-graph file of | wrong of {a.seeds * a.commits} lists |\n|---|---|---|---|")
+    for name in runs[0][0]:
+        print(f"| {' | '.join(name)} | {sum(r[0][name] for r in runs)} |")
+    bad = sum(r[0][name] for r in runs for name in r[0] if name[0].startswith("linenhatch"))
+    print(f"\n{sum(r[1] for r in runs)} lists: " + (f"FAILED: {bad} of ours are wrong or show a generation" if bad else "none of ours is wrong, and none shows a generation"))
+    return bool(bad)
+
+
+if __name__ == "__main__":
+    sys.exit(main())
