@@ -1,7 +1,9 @@
 """Document 01's walk, from its words alone, and document 02's cards; the readers of the two files are tools/formats.py, from the same words.
 
 `Files` is what the two files say of an id. `Walk` is an opening and its next calls. Sentences in quotation marks are the documents'.
+`commit_id` and `check_names` are card 2.
 """
+import hashlib
 import os
 import sys
 
@@ -307,3 +309,24 @@ class Walk:
         if parent in self.barred or (self.cutoff is not None and not self.first and seconds < self.cutoff):
             return
         self.wait(parent, seconds)
+
+
+def commit_id(body, kind="sha1"):
+    """"A commit's id is the digest of `commit `, the body length in decimal, a zero byte and the body." """
+    return hashlib.new(kind, b"commit %d\0" % len(body) + body).digest()
+
+
+def check_names(store, graph):
+    """The number of the refusal, 0 where there is none, and the entry's. "It refuses the first false name in id order and returns that entry's
+    number, counted from 0. Refused: 16 false name, 17 graph checksum false, both after 6 of that call and 16 first." """
+    if max(len(store), len(graph)) > MOST_BYTES:
+        return 2, 0
+    files = Files(store, graph)
+    if files.fault is not None:
+        return files.fault, 0
+    for k, name in enumerate(sorted(files.bodies)):
+        if commit_id(files.bodies[name]) != name:
+            return 16, k
+    if graph and hashlib.sha1(graph[:-20]).digest() != graph[-20:]:
+        return 17, 0
+    return 0, 0

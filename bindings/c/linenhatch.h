@@ -37,6 +37,7 @@ extern "C" {
 #define LINENHATCH_OPEN_NUMBERS 3u                                        /* uint64_t, of an opening */
 #define LINENHATCH_NUMBERS 7u                                             /* uint64_t, of a call */
 #define LINENHATCH_SECONDS 1u                                             /* int64_t */
+#define LINENHATCH_CHECK_NUMBERS 1u                                       /* uint64_t, of a check of names */
 
 /* ---- where a number stands in numbers */
 
@@ -48,6 +49,9 @@ extern "C" {
 #define LINENHATCH_HAS_GENERATION 4 /* 1 where the commit came from a graph file in which no generation is 0, else 0 */
 #define LINENHATCH_GENERATION 5     /* its generation there, else 0 */
 #define LINENHATCH_HAS_TIME 6       /* 1 where the walk goes by time, so that seconds holds the commit's time, else 0 */
+
+/* of a check of names alone: */
+#define LINENHATCH_ENTRY 0 /* after 16 the number of the first entry at fault, counted from 0 in the order of ids, else 0 */
 
 /* ---- results: a commit or an opening that is accepted is 0, the end 100, no room 101, all others are refusals */
 
@@ -71,6 +75,10 @@ extern "C" {
 #define LINENHATCH_COMMIT_UNREADABLE 10u /* a header line is bad */
 #define LINENHATCH_TOO_MANY_PARENTS 11u  /* over 256 parents */
 #define LINENHATCH_CLOSED 12u            /* the record is closed, or the memory was touched */
+
+/* of a check of names */
+#define LINENHATCH_FALSE_NAME 16u     /* a commit's id is not the digest of its body */
+#define LINENHATCH_FALSE_CHECKSUM 17u /* the graph file does not end in the digest of the rest */
 
 /* How many places a walk over these files and lists needs. It depends on no setting and on no excluded id, and is given for any bytes,
  * also for files that an opening would refuse. */
@@ -134,6 +142,17 @@ uint32_t linenhatch_next(
     uint8_t *id, size_t id_len,
     uint64_t *numbers, size_t numbers_len,
     int64_t *seconds, size_t seconds_len);
+
+/* Checks names: 0 where each commit of the store is under the id that git makes of its body (the SHA-1 of `commit `, the body's length in
+ * decimal, a zero byte and the body), and the graph file, if one is lent, ends in the SHA-1 of the rest; else the number of the first refusal
+ * in the order 2, 4, 5, 6, 16, 17. A body need not be readable as a commit.
+ *
+ * numbers: after 16 the number of the first entry at fault, else 0. Where it has no room for that the result is 101, before all other tests,
+ * and nothing is altered. */
+uint32_t linenhatch_check_names(
+    const uint8_t *store, size_t store_len,
+    const uint8_t *graph, size_t graph_len,
+    uint64_t *numbers, size_t numbers_len);
 
 #ifdef __cplusplus
 }

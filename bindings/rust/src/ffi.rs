@@ -12,6 +12,8 @@ pub(crate) const RECORD: usize = 19;
 pub(crate) const OPEN_NUMBERS: usize = 3;
 /// How many numbers a next call sets down.
 pub(crate) const CALL_NUMBERS: usize = 7;
+/// How many numbers a check of names sets down.
+pub(crate) const CHECK_NUMBERS: usize = 1;
 
 /// The files, lists and settings that an opening and each of its calls are lent. No call reads the tips.
 #[derive(Clone, Debug)]
@@ -125,6 +127,15 @@ unsafe extern "C" {
         seconds: *mut i64,
         seconds_len: usize,
     ) -> u32;
+
+    fn linenhatch_check_names(
+        store: *const u8,
+        store_len: usize,
+        graph: *const u8,
+        graph_len: usize,
+        numbers: *mut u64,
+        numbers_len: usize,
+    ) -> u32;
 }
 
 /// How many places a walk over these files and lists needs.
@@ -228,6 +239,12 @@ pub(crate) fn next(input: &Input<'_>, memory: &mut Memory, answer: &mut Answer) 
     }
 }
 
+/// Checks names: 0, or the number of the refusal; never 101, as in `open`.
+pub(crate) fn check_names(store: &[u8], graph: &[u8], numbers: &mut [u64; CHECK_NUMBERS]) -> u32 {
+    // SAFETY: as in `open`; `numbers` is borrowed alone through `&mut`.
+    unsafe { linenhatch_check_names(store.as_ptr(), store.len(), graph.as_ptr(), graph.len(), numbers.as_mut_ptr(), numbers.len()) }
+}
+
 /// The functions themselves, with buffers that the safe ones above never lend.
 #[cfg(test)]
 mod tests {
@@ -297,6 +314,20 @@ mod tests {
             assert_eq!(lent, SEVENS);
         }
         assert_eq!(SEVENS.clone().open(Room { numbers: OPEN_NUMBERS, ..ALL }), 0);
+    }
+
+    /// Before all else: also of a store that would be refused.
+    #[test]
+    fn a_check_without_room() {
+        for store in [&STORE[..], &STORE[..7]] {
+            let mut numbers = [7u64; CHECK_NUMBERS];
+            // SAFETY: as in `open`.
+            let result = unsafe { linenhatch_check_names(store.as_ptr(), store.len(), STORE.as_ptr(), 0, numbers.as_mut_ptr(), 0) };
+            assert_eq!((result, numbers), (NoRoom::NUMBER, [7]));
+        }
+        let mut numbers = [7u64; CHECK_NUMBERS];
+        assert_eq!((check_names(&STORE, &[], &mut numbers), numbers), (0, [0]));
+        assert_eq!((check_names(&STORE[..7], &[], &mut numbers), numbers), (4, [0]));
     }
 
     /// Also of a record that is not open, which with room is refused with 12.

@@ -31,6 +31,8 @@
 #[cfg(feature = "walk")]
 mod ffi;
 mod id;
+#[cfg(feature = "walk")]
+mod names;
 mod order;
 mod refusal;
 mod store;
@@ -38,6 +40,8 @@ mod store;
 mod walk;
 
 pub use id::{ObjectId, ParseIdError, ID_BYTES};
+#[cfg(feature = "walk")]
+pub use names::{check_names, Fault};
 pub use order::Order;
 pub use refusal::{NoRoom, Refusal};
 pub use store::{header, parents, store_from_commits, StoreBuilder, TooLarge, MAX_FILE_BYTES, MAX_IDS};

@@ -1,9 +1,9 @@
-//! The refusals of an opening and of a next call, and the library's result for want of room.
+//! The refusals of an opening, of a next call and of the check of names, and the library's result for want of room.
 
 use std::error::Error;
 use std::fmt;
 
-/// Why a walk was not opened (1 to 8), or why a call hands out no commit (9 to 12).
+/// Why a walk was not opened (1 to 8), why a call hands out no commit (9 to 12), or what a check of names found (2, 4 to 6, 16, 17).
 ///
 /// [`number`](Refusal::number) and [`name`](Refusal::name) are the same in C, in Rust and in what the tool prints (`docs/SPECIFICATION.md`, sections
 /// 6 and 9); `Display` is a sentence.
@@ -34,11 +34,15 @@ pub enum Refusal {
     /// 12: the walk was not opened, or its memory was touched. A [`Walk`](crate::Walk) is open and alone has its memory, so it never
     /// meets this.
     Closed,
+    /// 16: a commit of the store is not under the digest of its body. [`check_names`](crate::check_names) alone meets this.
+    FalseName,
+    /// 17: the commit-graph file does not end in the digest of the rest. [`check_names`](crate::check_names) alone meets this.
+    FalseChecksum,
 }
 
 impl Refusal {
-    /// All twelve, in the order of their numbers.
-    pub const ALL: [Refusal; 12] = [
+    /// All of them, in the order of their numbers.
+    pub const ALL: [Refusal; 14] = [
         Refusal::BufferTooSmall,
         Refusal::InputTooLarge,
         Refusal::PartialId,
@@ -51,15 +55,16 @@ impl Refusal {
         Refusal::CommitUnreadable,
         Refusal::TooManyParents,
         Refusal::Closed,
+        Refusal::FalseName,
+        Refusal::FalseChecksum,
     ];
 
-    /// The refusal with a number from 1 to 12.
+    /// The refusal with a number, if one has it.
     pub fn from_number(number: u32) -> Option<Refusal> {
-        let place = usize::try_from(number).ok()?.checked_sub(1)?;
-        Refusal::ALL.get(place).copied()
+        Refusal::ALL.into_iter().find(|refusal| refusal.number() == number)
     }
 
-    /// Its number, 1 to 12.
+    /// Its number: 1 to 12, 16, 17.
     pub fn number(self) -> u32 {
         match self {
             Refusal::BufferTooSmall => 1,
@@ -74,6 +79,8 @@ impl Refusal {
             Refusal::CommitUnreadable => 10,
             Refusal::TooManyParents => 11,
             Refusal::Closed => 12,
+            Refusal::FalseName => 16,
+            Refusal::FalseChecksum => 17,
         }
     }
 
@@ -92,6 +99,8 @@ impl Refusal {
             Refusal::CommitUnreadable => "commit unreadable",
             Refusal::TooManyParents => "too many parents",
             Refusal::Closed => "closed",
+            Refusal::FalseName => "false name",
+            Refusal::FalseChecksum => "false checksum",
         }
     }
 
@@ -111,6 +120,8 @@ impl Refusal {
             Refusal::CommitUnreadable => "a commit cannot be read: a line of its header is bad",
             Refusal::TooManyParents => "a commit has more than 256 parents",
             Refusal::Closed => "the walk is closed, or its memory was touched between calls",
+            Refusal::FalseName => "a commit is not under the digest of its body",
+            Refusal::FalseChecksum => "the commit-graph file does not end in the digest of the rest",
         }
     }
 }
@@ -150,31 +161,33 @@ mod tests {
     #[test]
     fn numbers_and_names() {
         let names = [
-            "buffer too small",
-            "input too large",
-            "partial id",
-            "corrupt store",
-            "unknown graph",
-            "corrupt graph",
-            "tip not found",
-            "tip unreadable",
-            "commit not found",
-            "commit unreadable",
-            "too many parents",
-            "closed",
+            (1, "buffer too small"),
+            (2, "input too large"),
+            (3, "partial id"),
+            (4, "corrupt store"),
+            (5, "unknown graph"),
+            (6, "corrupt graph"),
+            (7, "tip not found"),
+            (8, "tip unreadable"),
+            (9, "commit not found"),
+            (10, "commit unreadable"),
+            (11, "too many parents"),
+            (12, "closed"),
+            (16, "false name"),
+            (17, "false checksum"),
         ];
-        for (place, name) in names.iter().enumerate() {
-            let number = place as u32 + 1;
+        assert_eq!(names.len(), Refusal::ALL.len());
+        for (number, name) in names {
             let refusal = Refusal::from_number(number).unwrap();
             assert_eq!(refusal.number(), number);
-            assert_eq!(refusal.name(), *name);
+            assert_eq!(refusal.name(), name);
             assert!(refusal.to_string().ends_with(&format!(" (refusal {number}, {name})")), "{refusal}");
         }
     }
 
     #[test]
     fn no_other_number() {
-        for number in [0, 13, 100, NoRoom::NUMBER, u32::MAX] {
+        for number in [0, 13, 14, 15, 18, 100, NoRoom::NUMBER, u32::MAX] {
             assert_eq!(Refusal::from_number(number), None);
         }
     }

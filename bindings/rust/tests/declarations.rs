@@ -46,7 +46,7 @@ fn rust_type(kind: &str) -> &str {
 
 #[test]
 fn the_same_in_both_languages() {
-    for (name, parameters) in [("linenhatch_places", 8), ("linenhatch_open", 30), ("linenhatch_next", 32)] {
+    for (name, parameters) in [("linenhatch_places", 8), ("linenhatch_open", 30), ("linenhatch_next", 32), ("linenhatch_check_names", 6)] {
         let rust = in_rust(name);
         assert_eq!(rust.0.len(), parameters, "{name}");
         assert_eq!(rust, in_c(name), "{name}");
@@ -60,7 +60,12 @@ fn defined(name: &str) -> u32 {
 
 #[test]
 fn the_same_numbers() {
-    for (name, line) in [("RECORD", "RECORD: usize"), ("OPEN_NUMBERS", "OPEN_NUMBERS: usize"), ("NUMBERS", "CALL_NUMBERS: usize")] {
+    for (name, line) in [
+        ("RECORD", "RECORD: usize"),
+        ("OPEN_NUMBERS", "OPEN_NUMBERS: usize"),
+        ("NUMBERS", "CALL_NUMBERS: usize"),
+        ("CHECK_NUMBERS", "CHECK_NUMBERS: usize"),
+    ] {
         assert_eq!(between(RUST, &format!("const {line} = "), ";"), defined(name).to_string(), "{name}");
     }
     assert_eq!(defined("ID_BYTES") as usize, linenhatch::ID_BYTES);

@@ -154,6 +154,37 @@ mod tool {
         repository
     }
 
+    /// A body under another commit's id: git hands it out as it stands, and the check names the commit.
+    #[test]
+    fn names_are_checked() {
+        if !has_git() {
+            return;
+        }
+        let repository = history("names");
+        let said = |rev: &str| [format!("{} commits under the right name", repository.git(&format!("rev-list --count {rev}"))[0])];
+        assert_eq!(repository.list("--check-names"), said("main"));
+        assert_eq!(repository.list("--check-names old"), said("old"));
+        repository.git("commit-graph write --reachable");
+        assert_eq!(repository.list("--check-names"), said("main"));
+
+        let graph = repository.dir.join(".git/objects/info/commit-graph");
+        let mut bytes = fs::read(&graph).unwrap();
+        *bytes.last_mut().unwrap() ^= 1;
+        fs::remove_file(&graph).unwrap();
+        fs::write(&graph, &bytes).unwrap();
+        let (list, why) = repository.fails("--check-names");
+        assert!(list.is_empty() && why.contains("refusal 17, false checksum"), "{why}");
+        assert_eq!(repository.list("--check-names --no-graph"), said("main"));
+
+        let ids = repository.git("rev-list -n 2 old");
+        let file = |id: &str| repository.dir.join(".git/objects").join(&id[..2]).join(&id[2..]);
+        let body = fs::read(file(&ids[1])).unwrap();
+        fs::remove_file(file(&ids[0])).unwrap();
+        fs::write(file(&ids[0]), body).unwrap();
+        let (list, why) = repository.fails("--check-names");
+        assert!(list.is_empty() && why.trim_end().ends_with(&format!("(refusal 16, false name): {}", ids[0])), "{why}");
+    }
+
     fn compare(repository: &Repository, graph: bool) {
         let no = if graph { "" } else { "--no-graph" };
         for (words, same) in [

@@ -85,6 +85,8 @@ fn word(r: Refusal) {
         Refusal::CommitUnreadable => text(b" blurred commit"),
         Refusal::TooManyParents => text(b" crowded commit"),
         Refusal::Closed => text(b" closed"),
+        Refusal::FalseName => text(b" false name"),
+        Refusal::FalseChecksum => text(b" graph checksum false"),
     }
 }
 

@@ -6,6 +6,9 @@ use Rattle.walk.specs.declared.Outcome.the-variants.{Commit, End, Refused}
 use Rattle.walk.specs.declared.OpenOutcome.{OpenOutcome}
 use Rattle.walk.specs.declared.OpenOutcome.the-variants.{Accepted, NotOpened}
 use Rattle.walk.specs.Given.{outcomeNumber, openNumber}
+use Rattle.opening.specs.declared.Checked.{Checked}
+use Rattle.opening.specs.declared.Checked.the-variants.{Fine, Refused as AtFault}
+use Rattle.fsck.specs.Names.{checkedNumber}
 use Rattle.walk.proofs.Outcomes.{refusal-number-between}
 use Rattle.linenhatch.specs.Library.{noRoom}
 
@@ -17,3 +20,7 @@ no-room-call (Refused r) h = omega (arith, refusal-number-between r)
 pub no-room-open : (o : OpenOutcome) → openNumber o ≡ noRoom → ⊥
 no-room-open Accepted h = omega arith
 no-room-open (NotOpened r) h = omega (arith, refusal-number-between r)
+
+pub no-room-check : (c : Checked) → checkedNumber c ≡ noRoom → ⊥
+no-room-check Fine h = omega arith
+no-room-check (AtFault r) h = omega (arith, refusal-number-between r)

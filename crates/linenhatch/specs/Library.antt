@@ -3,12 +3,14 @@
 use Prim.Native.Nat.{ℕ}
 use mathlib.Core.Path.{_≡_}
 use mathlib.Core.Bool.{true, false}
-use mathlib.Core.List.{List}
+use mathlib.Core.List.{List, [], _∷_}
+use lib.ListN.{length}
 use lib.IntN.{ℤ}
 use Rattle.hash.specs.Bytes.{setDown}
 use Rattle.walk.specs.declared.OpenAnswer.{OpenAnswer}
 use Rattle.walk.specs.Opening.{Input, roomFor, openWalk}
 use Rattle.walk.specs.Given.{openNumber, openGiven}
+use Rattle.fsck.specs.Names.{checkNames, checkedNumber}
 use Rattle.traverse.specs.declared.Opened.{Opened}
 use Rattle.traverse.specs.declared.Out.{Out}
 use Rattle.traverse.specs.Contract.{Files, Lent, lengthsOf, OpenSays, NextSays}
@@ -67,3 +69,11 @@ pub record AsLent (m m′ : Lent) (words words′ id id′ numbers numbers′ : 
 pub record LibraryNext (f : Files) (m m′ : Lent) (words words′ id id′ numbers numbers′ : List ℕ) (seconds seconds′ : List ℤ) (n : ℕ) : Type 0 where
   pub no-room : roomToCall words id numbers seconds ≡ false → (n ≡ noRoom) × AsLent m m′ words words′ id id′ numbers numbers′ seconds seconds′
   pub made : roomToCall words id numbers seconds ≡ true → Made f m m′ words words′ id id′ numbers numbers′ seconds seconds′ n
+
+-- ---- the check of names
+
+-- linenhatch_check_names, with its result n. Where there is no room for a number that is said before all else, and nothing is altered
+pub record LibraryChecks (store graph numbers numbers′ : List ℕ) (n : ℕ) : Type 0 where
+  pub no-room : length numbers ≡ 0 → (n ≡ noRoom) × (numbers′ ≡ numbers)
+  pub result : (length numbers ≡ 0 → ⊥) → n ≡ checkedNumber (checkNames store graph .outcome)
+  pub numbers-are : (length numbers ≡ 0 → ⊥) → numbers′ ≡ setDown numbers 0 (checkNames store graph .entry ∷ [])

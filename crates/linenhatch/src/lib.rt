@@ -9,7 +9,7 @@ ghost use Rattle.opening.specs.Checks.{inputOf};
 ghost use Rattle.traverse.specs.Open.{lentOf};
 ghost use Rattle.traverse.specs.Next.{filesLent};
 ghost use Rattle.wire.specs.Numbers.{settingsOf};
-ghost use Rattle.linenhatch.specs.Library.{LibraryOpens, LibraryNext};
+ghost use Rattle.linenhatch.specs.Library.{LibraryOpens, LibraryNext, LibraryChecks};
 
 // The result where the record's words, or what an answer is set down in, are too short. Document 01 does not name these buffers, so it is
 // none of its numbers: its 1 is said of the walk's own memory, and closes the record.
@@ -118,4 +118,21 @@ pub extern "C" fn linenhatch_next(
     let n = wire::put_answer(o.answer, id, numbers, seconds);
     wire::put_record(n, o.record, words);
     n
+}
+
+// Checks names (document 02, card 2): the result is 0 where each commit of the store is under the digest of its body and the graph file, if one
+// is lent, ends in the digest of the rest; else the number of the refusal. After 16 the first number is the entry's, counted from 0, else 0.
+// Where there is no room for that number the result is 101: nothing is checked, and nothing is altered.
+#[no_mangle]
+pub extern "C" fn linenhatch_check_names(store: &[u8], graph: &[u8], numbers: &mut [u64]) -> u32
+    ensures { λ n. ⌜ LibraryChecks (now (store .entry)) (now (graph .entry)) (now (numbers .entry)) (now (numbers .exit)) n ⌝ }
+{
+    if numbers.len() == 0 {
+        return NO_ROOM;
+    }
+    let r = fsck::check_names(store, graph);
+    let w = [r.entry as u64];
+    wire::put(numbers, &w);
+    let o = r.outcome;
+    fsck::number(o)
 }

@@ -5,7 +5,7 @@ use mathlib.Core.Bool.{Bool, true, false, cond, _&&_}
 use mathlib.Core.Option.{Option, none, some}
 use mathlib.Core.List.{List, []}
 use lib.ListN.{length}
-use lib.Dec.{leb}
+use lib.Dec.{leb, ltb}
 use Rattle.hash.specs.Bytes.{Id, at, ifSome}
 use Rattle.idlist.specs.IdList.{idOf, rising, findIn, foundOf}
 use Rattle.idlist.specs.declared.Found.{Found}
@@ -31,6 +31,15 @@ locatedOf w b (some k) = Body (bodyStart w b k) (bodyEnd w b k)
 unfoldable pub partOf : List ℕ → Located → List ℕ
 partOf b (Body s e) = let r = at b s (e - s) in cond (isPart b s e) r []
 partOf b Absent = []
+
+-- the id and the body of entry k, where it is one of the standing entries; the body where it is a part of the file. Else empty
+unfoldable pub entryId : ℕ → List ℕ → ℕ → Id
+entryId w b k = cond (ltb k (standingEntries w b)) (idOf (entryIds w b) k) []
+
+unfoldable pub entryBody : ℕ → List ℕ → ℕ → List ℕ
+entryBody w b k =
+    let r = partOf b (partAt b (bodyStart w b k) (bodyEnd w b k)) in
+    cond (ltb k (standingEntries w b)) r []
 
 -- the answer names a body
 abbrev pub isBody : Located → Bool
@@ -88,5 +97,5 @@ pub record NotesEntry (w : ℕ) (b : List ℕ) (x : Id) (n n′ : ℕ) : Type 0 
   pub rises : idsRise w b ≡ true → n′ ≡ ifSome (findIn (entryIds w b) x (standingEntries w b)) n (λ k. k)
 
 unfoldable pub lookupAll : Unit {0}
-unfolding isPart partAt partOf lookedUp
+unfolding isPart partAt partOf entryId entryBody lookedUp
 lookupAll = tt

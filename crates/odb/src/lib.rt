@@ -1,7 +1,11 @@
 // The commit store (gix_object::Find; document 01's book): bodies end to end, then one entry for each, then a trailer.
 // Every public function is total and safe on any bytes. The functions below them take the width of an id and hold for any.
+mod numbered;
+
 use hash::Kind;
 use idlist::Found;
+pub use numbered::entry_bytes;
+pub use numbered::entry_id;
 ghost use mathlib.Core.Path.{_≡_};
 ghost use mathlib.Core.Bool.{_&&_};
 ghost use Prim.Native.Nat.{_+_, _*_, _-_, _<_, _≤_};

@@ -6,14 +6,15 @@ use mathlib.Core.List.{List, [], _∷_}
 use lib.ListN.{getD}
 use Rattle.hash.proofs.Tests.{some-in}
 use Rattle.walk.specs.declared.Refusal.{Refusal}
-use Rattle.walk.specs.declared.Refusal.the-variants.{BufferTooSmall, InputTooLarge, PartialId, CorruptStore, UnknownGraph, CorruptGraph, TipNotFound, TipUnreadable, CommitNotFound, CommitUnreadable, TooManyParents, Closed}
+use Rattle.walk.specs.declared.Refusal.the-variants.{BufferTooSmall, InputTooLarge, PartialId, CorruptStore, UnknownGraph, CorruptGraph, TipNotFound, TipUnreadable, CommitNotFound, CommitUnreadable, TooManyParents, Closed, FalseName, FalseChecksum}
 use Rattle.walk.specs.Refusals.{numberOf}
 
--- by rising number, from 0
+-- by rising number, from 0; none where no refusal has the number
 inOrder : List (Option Refusal)
 inOrder =
     none ∷ some BufferTooSmall ∷ some InputTooLarge ∷ some PartialId ∷ some CorruptStore ∷ some UnknownGraph ∷ some CorruptGraph ∷ some TipNotFound
-    ∷ some TipUnreadable ∷ some CommitNotFound ∷ some CommitUnreadable ∷ some TooManyParents ∷ some Closed ∷ []
+    ∷ some TipUnreadable ∷ some CommitNotFound ∷ some CommitUnreadable ∷ some TooManyParents ∷ some Closed ∷ none ∷ none ∷ none ∷ some FalseName ∷ some FalseChecksum
+    ∷ []
 
 number-back : (r : Refusal) → getD inOrder (numberOf r) none ≡ some r
 unfolding inOrder
@@ -29,6 +30,8 @@ number-back CommitNotFound = refl
 number-back CommitUnreadable = refl
 number-back TooManyParents = refl
 number-back Closed = refl
+number-back FalseName = refl
+number-back FalseChecksum = refl
 
 pub number-once : (r s : Refusal) → numberOf r ≡ numberOf s → r ≡ s
 number-once r s e = some-in (sym (number-back r) ∙ ap (λ (n : ℕ). getD inOrder n none) e ∙ number-back s)

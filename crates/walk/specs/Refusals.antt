@@ -1,8 +1,8 @@
--- Document 01's refusals: the number of each case.
+-- The refusals of document 01 and of document 02's cards: the number of each case.
 -- Assumes nothing.
 use Prim.Native.Nat.{ℕ}
 use Rattle.walk.specs.declared.Refusal.{Refusal}
-use Rattle.walk.specs.declared.Refusal.the-variants.{BufferTooSmall, InputTooLarge, PartialId, CorruptStore, UnknownGraph, CorruptGraph, TipNotFound, TipUnreadable, CommitNotFound, CommitUnreadable, TooManyParents, Closed}
+use Rattle.walk.specs.declared.Refusal.the-variants.{BufferTooSmall, InputTooLarge, PartialId, CorruptStore, UnknownGraph, CorruptGraph, TipNotFound, TipUnreadable, CommitNotFound, CommitUnreadable, TooManyParents, Closed, FalseName, FalseChecksum}
 
 -- "no. | word | when"
 abbrev pub numberOf : Refusal → ℕ
@@ -18,3 +18,5 @@ numberOf CommitNotFound = 9  -- lost commit: in neither file
 numberOf CommitUnreadable = 10  -- blurred commit: header line bad
 numberOf TooManyParents = 11  -- crowded commit: a good 257th parent line; of 10 and 11 the earlier line decides
 numberOf Closed = 12  -- closed: record closed, or memory touched
+numberOf FalseName = 16  -- false name: an entry's id is not the digest of its body (card 2)
+numberOf FalseChecksum = 17  -- graph checksum false (card 2)

@@ -43,7 +43,7 @@ pub struct GenThenTime {
     pub time: Seconds,
 }
 
-// Why an opening or a call is refused; `number` gives document 01's number.
+// Why an opening or a call is refused; `number` gives its number in document 01's table, which document 02's cards go on with.
 pub enum Refusal {
     BufferTooSmall,
     InputTooLarge,
@@ -57,6 +57,8 @@ pub enum Refusal {
     CommitUnreadable,
     TooManyParents,
     Closed,
+    FalseName,
+    FalseChecksum,
 }
 
 // What a call gives: a commit, the end, or a refusal.
@@ -110,7 +112,7 @@ pub struct OpenAnswer {
     pub waiting: usize,
 }
 
-// Document 01's number of a refusal.
+// The number of a refusal.
 pub fn number(r: Refusal) -> u8
     ensures { λ n. ⌜ n ≡ numberOf r ⌝ }
 {
@@ -127,6 +129,8 @@ pub fn number(r: Refusal) -> u8
         Refusal::CommitUnreadable => 10,
         Refusal::TooManyParents => 11,
         Refusal::Closed => 12,
+        Refusal::FalseName => 16,
+        Refusal::FalseChecksum => 17,
     }
 }
 

@@ -11,6 +11,7 @@ linenhatch: lists the commits of a git repository, with a walk that is proved to
 
 usage: linenhatch [-C DIR] [--order newest|oldest|breadth] [-n N] [--count] [--reverse] [--since SECONDS] [--first-parent]
                   [--hide REV]... [--exclude REV]... [--no-graph] [--parents] [--time] [--progress] [REV...]
+       linenhatch --check-names [-C DIR] [--no-graph] [--progress] [REV...]
 
 Lists what the REVs reach (HEAD if none is given), one id on a line. A REV is any name of a commit that git knows; ^A is --hide A, and A..B is
 --hide A B, HEAD where A or B is left out.
@@ -32,6 +33,8 @@ Lists what the REVs reach (HEAD if none is given), one id on a line. A REV is an
   --time            prints SECONDS/GENERATION after the id, - where there is none: seconds are there in an order by time without
                     --first-parent, a generation for a commit that came from a commit-graph file with
                     generations (in which none is 0)
+  --check-names     lists nothing: checks that each commit which the REVs reach is under the id that git makes of its body, and that git's
+                    commit-graph file ends in the digest of the rest. Says which commit is at fault. The commits must fit in one store, whole
   --progress        shows on standard error how far the work is, also where that is no terminal
   -h, --help, -V, --version
 
@@ -39,7 +42,7 @@ All that the names reach is read from the repository first and put into a commit
 bytes. If it does not fit, each commit is cut after its committer line, which is all that a walk reads of it; that is some 60,000 commits.
 Replacements and grafts are not followed. A commit-graph file in several layers, or of over 16,777,216 bytes, is not used.
 
-Exit status: 0 if all was listed; 1 if it was not, and standard error says why and names the commits; 2 if the command line is wrong.
+Exit status: 0 if all was listed, or no name is false; 1 if it was not, and standard error says why and names the commits; 2 if the command line is wrong.
 ";
 
 /// What is to be done.
@@ -66,6 +69,7 @@ pub struct Args {
     pub parents: bool,
     pub time: bool,
     pub progress: bool,
+    pub check_names: bool,
     pub revs: Vec<OsString>,
 }
 
@@ -87,6 +91,7 @@ pub fn parse(words: impl IntoIterator<Item = OsString>) -> Result<Task, String> 
         parents: false,
         time: false,
         progress: false,
+        check_names: false,
         revs: Vec::new(),
     };
     while let Some(word) = words.next() {
@@ -120,6 +125,7 @@ pub fn parse(words: impl IntoIterator<Item = OsString>) -> Result<Task, String> 
             "--parents" => args.parents = true,
             "--time" => args.time = true,
             "--progress" => args.progress = true,
+            "--check-names" => args.check_names = true,
             "--help" | "-h" => return Ok(Task::Help),
             "--version" | "-V" => return Ok(Task::Version),
             _ => return Err(unknown(&word)),

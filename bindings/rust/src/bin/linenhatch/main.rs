@@ -11,7 +11,7 @@ use std::io::{self, BufWriter, IsTerminal, Write};
 use std::process::ExitCode;
 
 use args::{Args, Task};
-use linenhatch::{Commit, Lister, ObjectId, Refusal, Walk, MAX_FILE_BYTES, MAX_IDS};
+use linenhatch::{check_names, Commit, Fault, Lister, ObjectId, Refusal, Walk, MAX_FILE_BYTES, MAX_IDS};
 use progress::Progress;
 use refused::{counted, named, Refused};
 use repository::{Commits, Repository};
@@ -26,7 +26,8 @@ fn main() -> ExitCode {
             return ExitCode::from(2);
         }
     };
-    match list(&args) {
+    let done = if args.check_names { check(&args) } else { list(&args) };
+    match done {
         Ok(()) => ExitCode::SUCCESS,
         Err(message) => {
             say("error", &message);
@@ -77,6 +78,30 @@ fn list(args: &Args) -> Result<(), String> {
         return Ok(());
     }
     Err(refused.message(&store, &absent, shallow))
+}
+
+/// Checks the names of all commits that the REVs reach, and the checksum of git's commit-graph file; or says which is false.
+fn check(args: &Args) -> Result<(), String> {
+    let repository = Repository::open(args.dir.clone())?;
+    let tips = resolve(&repository, &args.revs, "names")?;
+    let mut progress = Progress::new(args.progress || io::stderr().is_terminal(), "commits read");
+    let commits = repository.read(&tips, &mut progress);
+    progress.make_way();
+    let whole = commits?.whole;
+    let count = whole.commits();
+    let store = whole.finish().map_err(|too_large| format!("the names cannot be checked at once: {too_large}"))?;
+    let graph = if args.graph { graph(&repository) } else { Vec::new() };
+    check_names(&store, &graph).map_err(|fault| at_fault(fault, &store))?;
+    let _ = writeln!(io::stdout(), "{} under the right name", counted(count, "commit"));
+    Ok(())
+}
+
+/// What a check found, with the commit that is meant.
+fn at_fault(fault: Fault, store: &[u8]) -> String {
+    match (fault.refusal, refused::entries(store).nth(fault.entry)) {
+        (Refusal::FalseName, Some((id, _))) => format!("{}: {id}", fault.refusal),
+        _ => fault.refusal.to_string(),
+    }
 }
 
 fn resolve(repository: &Repository, names: &[OsString], what: &str) -> Result<Vec<ObjectId>, String> {

@@ -85,7 +85,7 @@ fn tried(id: ObjectId, body: &[u8], hiding: bool) -> Option<Refusal> {
 }
 
 /// The commits of a store, each with its body.
-fn entries(store: &[u8]) -> impl Iterator<Item = (ObjectId, &[u8])> {
+pub fn entries(store: &[u8]) -> impl Iterator<Item = (ObjectId, &[u8])> {
     let number = |at: usize| u32::from_be_bytes(store[at..at + 4].try_into().expect("4 bytes")) as usize;
     let (start, mut from) = (number(store.len() - 8), 0);
     store[start..store.len() - 8].chunks_exact(ID_BYTES + 4).map(move |entry| {

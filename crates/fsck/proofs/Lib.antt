@@ -1,0 +1,4 @@
+pub mod Entries
+pub mod Checksum
+pub mod Steps
+pub mod Told
