@@ -144,7 +144,7 @@ fn is_lacking(names: &[u8], marks: &[u8], cap: usize, id: &[u8], bits: u8) -> bo
     }
 }
 
-// Passes marks to a parent, which may stand at near: it gets them and is queued, if it lacks one.
+// Passes marks to parent k of a commit: it gets them and is queued, if it lacks one. Where it may stand is asked only then.
 fn pass_one(
     names: &mut [u8],
     marks: &mut [u8],
@@ -157,12 +157,14 @@ fn pass_one(
     store: &[u8],
     p: Pending,
     id: &[u8],
-    near: usize,
+    commit: Commit,
+    k: usize,
     bits: u8,
 ) -> Marked
     ensures { λ r. ⌜ Takes passTo cache (now (graph .entry)) (now (store .entry)) cap (lent (now (names .entry)) (now (marks .entry)) (now (levels .entry)) (now (times .entry)) (now (line .entry))) (lent (now (names .exit)) (now (marks .exit)) (now (levels .exit)) (now (times .exit)) (now (line .exit))) p (now (id .entry)) bits r ⌝ }
 {
     if is_lacking(names, marks, cap, id, bits) {
+        let near = reading::parent_near(commit, k, cache, graph);
         marking::mark_one(
             names,
             marks,
@@ -196,7 +198,8 @@ fn pass_next(
     store: &[u8],
     past: Marked,
     id: &[u8],
-    near: usize,
+    commit: Commit,
+    k: usize,
     bits: u8,
 ) -> Marked
     ensures { λ r. ⌜ TakesAfter passTo cache (now (graph .entry)) (now (store .entry)) cap (lent (now (names .entry)) (now (marks .entry)) (now (levels .entry)) (now (times .entry)) (now (line .entry))) (lent (now (names .exit)) (now (marks .exit)) (now (levels .exit)) (now (times .exit)) (now (line .exit))) past (now (id .entry)) bits r ⌝ }
@@ -214,7 +217,8 @@ fn pass_next(
             store,
             p,
             id,
-            near,
+            commit,
+            k,
             bits,
         ),
         Marked::Stop(n) => Marked::Stop(n),
@@ -254,7 +258,6 @@ pub fn pass_to_parents(
     let mut r = Marked::Going(p);
     let mut i = 0;
     while i < n {
-        let near = reading::parent_near(commit, i, cache, graph);
         let id = reading::parent_of(commit, i, cache, graph, store);
         r = pass_next(
             names,
@@ -268,7 +271,8 @@ pub fn pass_to_parents(
             store,
             r,
             object::id_slice(Kind::Sha1, &id.bytes),
-            near,
+            commit,
+            i,
             bits,
         );
         i += 1;

@@ -14,7 +14,9 @@ use Rattle.frontier.proofs.marking.mark_one.Reads as mark-one-reads
 is-lacking-requires : tie.Need-is-lacking-requires
 is-lacking-requires c κs = search needs
 
--- src/lists.rt:77:9
+parent-near-requires : tie.Need-parent-near-requires
+parent-near-requires c κs = search needs
+
 mark-one-requires : tie.Need-mark-one-requires
 mark-one-requires c κs = search needs
 
@@ -40,7 +42,7 @@ same-length-5 c = search needs
 
 -- src/lists.rt:60:1
 returns : tie.Need-returns
-returns c = passes-mark (c .before .before .before .before .before .before .before .before .before .before .before .before .before .before .before .before .is-lacking .ensures) refl refl (c .before .before .before .before .before .before .before .before .before .before .before .before .before .before .before .if1 .taken) (c .before .before .before .before .before .before .before .before .before .mark-one .ensures)
+returns c = passes-mark (c .before .before .before .before .before .before .before .before .before .before .before .before .before .before .before .before .before .is-lacking .ensures) refl refl (c .before .before .before .before .before .before .before .before .before .before .before .before .before .before .before .before .if1 .taken) (c .before .before .before .before .before .before .before .before .before .mark-one .ensures)
 
 -- src/lists.rt:60:1
 same-length-6 : tie.Need-same-length-6
@@ -59,6 +61,7 @@ pass-one-spec =
     tie.close
     (tie.spec
     is-lacking-requires
+    parent-near-requires
     mark-one-requires
     same-length
     same-length-2

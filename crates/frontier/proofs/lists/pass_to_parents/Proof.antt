@@ -22,9 +22,6 @@ parent-count-requires c κs = search needs
 loop-holds : tie.Need-loop-holds Inv-loop μ-loop
 loop-holds c = let x = c .before .before .before .before .before .before .before .args in passing-first (x .cache) (x .graph .now) (x .store .now) (x .cap) _ _ (x .commit) (x .bits)
 
-parent-near-requires : tie.Need-parent-near-requires Inv-loop μ-loop
-parent-near-requires c κs = search needs
-
 parent-of-requires : tie.Need-parent-of-requires Inv-loop μ-loop
 parent-of-requires c κs = search needs
 
@@ -42,8 +39,8 @@ loop-less c = search needs
 
 loop-again : tie.Need-loop-again Inv-loop μ-loop
 loop-again c =
-    let n = c .before .before .before .before .before .before .before .before .before .before .before .before .before .before .before .before .before .before .before .before .before .before .parent-count .ensures in
-    passing-next (c .before .before .before .before .before .before .before .before .before .before .before .before .before .before .before .before .before .before .before .before .before .loop .inv) (omega (arith, n, c .before .before .before .before .before .before .before .before .before .before .before .before .before .before .before .before .before .before .before .before .loop-test .taken)) (c .before .before .before .before .before .before .before .before .before .before .id-slice .ensures) (ap length (c .before .before .before .before .before .before .before .before .before .before .id-slice .ensures) ∙ id-in-width _ (gives-length _ (c .before .before .before .before .before .before .before .before .before .before .before .before .before .before .before .before .before .before .parent-of .ensures))) (c .before .before .before .before .before .before .before .before .before .before .before .before .before .before .before .before .before .before .parent-of .ensures) (record { names = c .before .before .before .before .before .before .before .before .before .pass-next .kept .0; marks = c .before .before .before .before .before .before .before .before .before .pass-next .kept .1 .0; levels = c .before .before .before .before .before .before .before .before .before .pass-next .kept .1 .1 .0; times = c .before .before .before .before .before .before .before .before .before .pass-next .kept .1 .1 .1 .0; line = c .before .before .before .before .before .before .before .before .before .pass-next .kept .1 .1 .1 .1 .0 }) (c .before .before .before .before .before .before .before .before .before .pass-next .ensures)
+    let n = c .before .before .before .before .before .before .before .before .before .before .before .before .before .before .before .before .before .before .before .before .before .parent-count .ensures in
+    passing-next (c .before .before .before .before .before .before .before .before .before .before .before .before .before .before .before .before .before .before .before .before .loop .inv) (omega (arith, n, c .before .before .before .before .before .before .before .before .before .before .before .before .before .before .before .before .before .before .before .loop-test .taken)) (c .before .before .before .before .before .before .before .before .before .before .id-slice .ensures) (ap length (c .before .before .before .before .before .before .before .before .before .before .id-slice .ensures) ∙ id-in-width _ (gives-length _ (c .before .before .before .before .before .before .before .before .before .before .before .before .before .before .before .before .before .before .parent-of .ensures))) (c .before .before .before .before .before .before .before .before .before .before .before .before .before .before .before .before .before .before .parent-of .ensures) (record { names = c .before .before .before .before .before .before .before .before .before .pass-next .kept .0; marks = c .before .before .before .before .before .before .before .before .before .pass-next .kept .1 .0; levels = c .before .before .before .before .before .before .before .before .before .pass-next .kept .1 .1 .0; times = c .before .before .before .before .before .before .before .before .before .pass-next .kept .1 .1 .1 .0; line = c .before .before .before .before .before .before .before .before .before .pass-next .kept .1 .1 .1 .1 .0 }) (c .before .before .before .before .before .before .before .before .before .pass-next .ensures)
 
 same-length : tie.Need-same-length Inv-loop μ-loop
 same-length c = c .before .loop .inv .long .names
@@ -71,7 +68,6 @@ pass-to-parents-spec =
     μ-loop
     parent-count-requires
     loop-holds
-    parent-near-requires
     parent-of-requires
     id-slice-requires
     pass-next-requires
