@@ -67,7 +67,7 @@ def agrees(walk, answers, opening, others):
         return False
     for a, b in zip(answers, others):
         kind = {"commit": ("commit", a.name, a.level, a.seconds), "error": ("error", a.number), "end": ("end",)}[a.kind]
-        if (kind, tuple(a.parents), a.admitted, a.struck, a.waiting) != b:
+        if (kind, tuple(a.parents), a.zone, a.admitted, a.struck, a.waiting) != b:
             return False
     return len(answers) == len(others)
 

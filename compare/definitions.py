@@ -42,6 +42,7 @@ class State(NamedTuple):
 class Answer(NamedTuple):
     kind: tuple
     parents: tuple
+    zone: object
     admitted: int
     struck: int
     waiting: int
@@ -267,7 +268,11 @@ def paint(w, fuel, waiting, hidden):
 # ---- Next
 
 def step(kind, parents, st):
-    return Answer(kind, tuple(parents), st.admitted, st.struck, len(st.queue)), st
+    return Answer(kind, tuple(parents), None, st.admitted, st.struck, len(st.queue)), st
+
+
+def zoned(z, s):
+    return s[0]._replace(zone=z), s[1]
 
 
 def admits(w, x, t):
@@ -309,13 +314,17 @@ def ending(settings, h):
     return None if h.author else 10
 
 
+def zone_shown(r, z):
+    return z if r is None else None
+
+
 def from_body(w, st, x, t, h):
     if h is None:
         return step(("error", 9), [], st)
     f = followed(w.settings, h.ids)
     r = ending(w.settings, h)
     kind = ("commit", x, None, queued_seconds(w, t)) if r is None else ("error", r)
-    return step(kind, f, visit_all(w, st, [(p, seconds_for(w.world, p)) for p in f]))
+    return zoned(zone_shown(r, h.zone), step(kind, f, visit_all(w, st, [(p, seconds_for(w.world, p)) for p in f])))
 
 
 def back(w, x, rest):

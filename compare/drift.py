@@ -65,17 +65,18 @@ def git(repository, *words, data=None):
     return subprocess.run(["git", "-C", repository, *words], input=data, stdout=subprocess.PIPE, check=True, env=ENV).stdout
 
 
-def make(repository, parents, seconds):
-    """The ids of the commits, in order."""
+def make(repository, parents, seconds, zones=None):
+    """The ids of the commits, in order. zones: of each commit the author's and the committer's."""
     stream = []
     for n, links in enumerate(parents):
         text = f"run {n}\n"
-        stream.append(f"commit refs/heads/main\nmark :{n + 1}\ncommitter Bench <bench@example.org> {seconds[n]} +0000\ndata {len(text)}\n{text}")
+        people = [f"{who} Bench <bench@example.org> {seconds[n]} {zone}\n" for who, zone in zip(("author", "committer"), zones[n] if zones else ["+0000"] * 2)]
+        stream.append(f"commit refs/heads/main\nmark :{n + 1}\n{''.join(people)}data {len(text)}\n{text}")
         stream += [f"{'merge' if i else 'from'} :{p + 1}\n" for i, p in enumerate(links)]
     os.mkdir(repository)
     git(repository, "init", "-q", "--bare", ".")
     marks = os.path.join(repository, "marks")
-    git(repository, "fast-import", "--quiet", "--force", f"--export-marks={marks}", data="".join(stream).encode())
+    git(repository, "fast-import", "--quiet", "--force", "--date-format=raw-permissive", f"--export-marks={marks}", data="".join(stream).encode())
     with open(marks) as f:
         ids = dict(line.split() for line in f)
     return [ids[f":{n + 1}"] for n in range(len(parents))]

@@ -255,8 +255,15 @@ def history(rng, clock, cyclic=False, most=14):
     return some_ids(rng, n), some_links(rng, n, cyclic), some_seconds(rng, n, clock)
 
 
+ZONES = [b" +0000", b" -0000", b" +0100", b" -0800", b" +0530", b" +1400", b" +1459", b" -1459", b" +1460", b" -1500", b" 00000", b" +0a00", b"  +000", b" +000 ", b" +000\r"]
+
+
 def bodies_of(names, links, seconds):
-    return {names[i]: formats.body([names[p] for p in links[i]], seconds[i]) for i in range(len(names))}
+    """A commit's zone goes by its id, so that no case is drawn otherwise for it."""
+    def committer(i):
+        return b"committer A <a> %d%s\n" % (seconds[i], ZONES[sum(names[i]) % len(ZONES)])
+
+    return {names[i]: formats.body([names[p] for p in links[i]], committer=committer(i)) for i in range(len(names))}
 
 
 def maybe_graph(rng, names, links, seconds):

@@ -15,8 +15,9 @@ import generate
 from compare import expected
 
 ENDED, NO_ROOM, CLOSED = 100, 101, 12
-RECORD = 19  # words
+RECORD, NUMBERS, SECONDS = 19, 8, 2  # words
 GUARD = 0x5C
+MOST_PLACES = 20000  # a torn graph file may claim any number of commits; it is refused before memory is asked for
 
 
 class Buffer:
@@ -48,7 +49,7 @@ class Library:
         self.lib.linenhatch_places.restype = ctypes.c_size_t
         self.lib.linenhatch_open.restype = self.lib.linenhatch_next.restype = ctypes.c_uint32
 
-    def open(self, case, record=RECORD, numbers=7):
+    def open(self, case, record=RECORD, numbers=NUMBERS):
         lists = [case.pair.store, case.pair.graph, b"".join(case.tips), b"".join(case.hidden), b"".join(case.barred)]
         lent = [lend(data) for data in lists]
         self.kept = [part for _, part in lent]
@@ -56,9 +57,9 @@ class Library:
         order = {"breadth": 0, "newest": 1, "oldest": 2}[generate.ORDER[case.sorting]]
         settings = [ctypes.c_uint32(order), ctypes.c_uint32(case.sorting >= generate.CUTOFF_NEWEST), ctypes.c_int64(case.cutoff), ctypes.c_uint32(case.first)]
         self.places = self.lib.linenhatch_places(*store, *graph, *tips, *hidden)
-        p = self.places
+        p = min(self.places, MOST_PLACES)
         self.memory = [Buffer(k, n) for k, n in ((ctypes.c_uint8, 20 * p), (ctypes.c_uint8, p), (ctypes.c_uint32, p), (ctypes.c_int64, p), (ctypes.c_uint32, 5 * p), (ctypes.c_uint8, 5120))]
-        self.record, self.id, self.numbers, self.seconds = Buffer(ctypes.c_uint64, record), Buffer(ctypes.c_uint8, 20), Buffer(ctypes.c_uint64, numbers), Buffer(ctypes.c_int64, 1)
+        self.record, self.id, self.numbers, self.seconds = Buffer(ctypes.c_uint64, record), Buffer(ctypes.c_uint8, 20), Buffer(ctypes.c_uint64, numbers), Buffer(ctypes.c_int64, SECONDS)
         self.files = [*store, *graph, *hidden, *barred, *settings]
         memory = [w for b in self.memory for w in b.words()]
         return self.lib.linenhatch_open(*store, *graph, *tips, *hidden, *barred, *settings, *memory, *self.record.words(), *self.numbers.words())
@@ -79,12 +80,12 @@ class Library:
 
 def without_room(library, case):
     """None, or what differs where one of the library's own buffers is too short: that is said before all else, and nothing is altered."""
-    for record, numbers in ((RECORD - 1, 7), (RECORD, 2), (0, 0)):
+    for record, numbers in ((RECORD - 1, NUMBERS), (RECORD, 2), (0, 0)):
         result = library.open(case, record, numbers)
         if result != NO_ROOM or not library.unaltered(library.own() + library.memory):
             return "opening without room: %d" % result
     opened = library.open(case)
-    for name, kind, n in (("record", ctypes.c_uint64, RECORD - 1), ("id", ctypes.c_uint8, 19), ("numbers", ctypes.c_uint64, 6), ("seconds", ctypes.c_int64, 0)):
+    for name, kind, n in (("record", ctypes.c_uint64, RECORD - 1), ("id", ctypes.c_uint8, 19), ("numbers", ctypes.c_uint64, NUMBERS - 1), ("seconds", ctypes.c_int64, SECONDS - 1)):
         kept = getattr(library, name)
         before = [bytes(b.all) for b in library.memory + library.own()]
         setattr(library, name, Buffer(kind, n))
@@ -110,7 +111,7 @@ def fault(library, case):
         if result != walk.refused or numbers[:3] != [0, 0, 0] or any(library.record.part) or not untouched:
             return "refused opening: %d for %d" % (result, walk.refused)
         result = library.next()
-        if result != CLOSED or any(library.numbers.part) or any(library.id.part) or library.seconds.part[0]:
+        if result != CLOSED or any(library.numbers.part) or any(library.id.part) or any(library.seconds.part):
             return "call of a closed record: %d" % result
         return None
     if library.places != walk.P or result != 0 or numbers[:3] != [walk.tips_admitted, 0, walk.tips_admitted]:
@@ -118,17 +119,25 @@ def fault(library, case):
     for k, a in enumerate(answers):
         ctypes.memset(parents.part, k & 255, 5120)
         result = library.next()
-        got = (result, bytes(library.id.part), list(library.numbers.part), library.seconds.part[0], bytes(parents.part))
+        got = (result, bytes(library.id.part), list(library.numbers.part), list(library.seconds.part), bytes(parents.part))
         wanted = (
             {"commit": 0, "end": ENDED, "error": a.number}[a.kind],
             a.name if a.kind == "commit" else bytes(20),
-            [a.admitted, a.struck, a.waiting, len(a.parents), int(a.level is not None), a.level or 0, int(a.seconds is not None)],
-            a.seconds or 0,
+            [a.admitted, a.struck, a.waiting, len(a.parents), int(a.level is not None), a.level or 0, int(a.seconds is not None), int(a.zone is not None)],
+            [a.seconds or 0, a.zone or 0],
             b"".join(a.parents) + bytes([k & 255]) * (5120 - 20 * len(a.parents)),
         )
         if got != wanted or not library.sound():
             return "call %d: %s for %s" % (k, got[:4], wanted[:4])
     return None
+
+
+def families(seed, scale):
+    """The cases of each family, drawn as they are asked for: a family is run before the next is drawn."""
+    yield "sample history and skewed clock", [case for _, case, _, _ in generate.named_runs()]
+    for name, family, pairs, *how in generate.FAMILIES:
+        rng = random.Random("%d %s" % (seed, name))
+        yield name, (case for _ in range(max(1, pairs * scale // 100)) for case in generate.random_cases(rng, family, *how))
 
 
 def main():
@@ -139,12 +148,7 @@ def main():
     options = options.parse_args()
     library = Library(options.library)
     bad = 0
-    families = [("sample history and skewed clock", [case for _, case, _, _ in generate.named_runs()])]
-    for name, family, pairs, *how in generate.FAMILIES:
-        rng = random.Random("%d %s" % (options.seed, name))
-        count = max(1, pairs * options.scale // 100)
-        families.append((name, (case for _ in range(count) for case in generate.random_cases(rng, family, *how))))
-    for name, cases in families:
+    for name, cases in families(options.seed, options.scale):
         done = 0
         for case in cases:
             done += 1

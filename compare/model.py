@@ -22,11 +22,12 @@ class Refused(Exception):
 
 
 class Header:
-    """One commit's lines: is the tree line good; the parents up to 256; is there a good 257th line; is the author line good; the seconds,
-    or None where a line up to the committer's is bad. "Where only seconds are wanted … parents are not counted." """
+    """One commit's lines: is the tree line good; the parents up to 256; is there a good 257th line; is the author line good; the seconds and
+    the zone, or None where a line up to the committer's is bad. "Where only seconds are wanted … parents are not counted." Card 7: the zone "is
+    read past all parent lines, uncounted", and the committer line may have none. """
 
     def __init__(self, body):
-        self.tree, self.ids, self.crowded, self.author, self.seconds = False, [], False, False, None
+        self.tree, self.ids, self.crowded, self.author, self.seconds, self.zone = False, [], False, False, None, None
         tree = formats.id_line(b"tree ", body)
         if tree is None:
             return
@@ -36,7 +37,7 @@ class Header:
         after = formats.author_line(rest)
         if after is not None:
             self.author = True
-            self.seconds = formats.committer_line(after)
+            self.seconds, self.zone = formats.committer_line(after) or (None, None)
 
     def fault(self):
         """Why the commit is not readable: 10 or 11, "the earlier line decides"; None where it is."""
@@ -110,14 +111,14 @@ class Files:
 
 
 class Answer:
-    """`kind` is "commit", "error" or "end"."""
+    """`kind` is "commit", "error" or "end". The zone is card 7's: none "in a refusal or end"."""
 
-    def __init__(self, walk, kind, number=0, name=None, parents=(), level=None, seconds=None):
-        self.kind, self.number, self.name, self.parents, self.level, self.seconds = kind, number, name, parents, level, seconds
+    def __init__(self, walk, kind, number=0, name=None, parents=(), level=None, seconds=None, zone=None):
+        self.kind, self.number, self.name, self.parents, self.level, self.seconds, self.zone = kind, number, name, parents, level, seconds, zone
         self.admitted, self.struck, self.waiting = walk.admitted, walk.struck, len(walk.line)
 
     def text(self):
-        """As the driver prints it."""
+        """As the driver prints it. "Runs beside the crate leave the zone out." """
         if self.kind == "end":
             return "end"
         if self.kind == "error":
@@ -293,7 +294,12 @@ class Walk:
                 return Answer(self, "error", 11, parents=parents)
             if not header.author:
                 return Answer(self, "error", 10, parents=parents)
-        return Answer(self, "commit", name=name, parents=parents, seconds=seconds)
+        # card 7: "signed minutes, or none when the commit came from the graph"
+        return Answer(self, "commit", name=name, parents=parents, seconds=seconds, zone=self.zone_of(name))
+
+    def zone_of(self, name):
+        """Card 7: of a commit from the book, "under First too, and is none if a line up to committer is bad" """
+        return self.files.header(name).zone
 
     def seconds_of(self, parent):
         """"Seconds of a parent come from its own graph row if the child came from the graph, else from the book, else they are 0." """

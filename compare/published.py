@@ -2,7 +2,8 @@
 `Simple` over the stand-ins and beside the definitions of crates/walk/specs. Ends with status 1 if any differs.
 
 The driver's answers are compared wherever an opening is not refused with 1, 2 or 3, which the Rust does not have, and no row has level 0: opening or refusal, then for each call
-the id, the generation, the seconds and the parents, or the refusal's number, or end. The definitions' answers are compared in every field.
+the id, the generation, the seconds and the parents, or the refusal's number, or end; the zone, which the Rust does not give, is left out (card 7).
+The definitions' answers are compared in every field.
 """
 import collections
 import os
@@ -47,7 +48,7 @@ def short(line):
     words = line.split()
     if words[0] == "refused":
         return ["error", words[1]]
-    return ["end"] if words[0] == "end" else ["commit", words[1], words[3], words[5]] + words[13:]
+    return ["end"] if words[0] == "end" else ["commit", words[1], words[3], words[5]] + words[13:-2]
 
 
 def from_driver(line):
@@ -56,11 +57,11 @@ def from_driver(line):
 
 
 def from_definitions(answer):
-    kind, parents, admitted, struck, waiting = answer
+    kind, parents, zone, admitted, struck, waiting = answer
     word, name, level, seconds = kind if kind[0] == "commit" else (kind[0] if kind[0] == "end" else "refused %d" % kind[1], bytes(20), None, None)
-    values = ["-" if value is None else str(value) for value in (level, seconds)]
+    values = ["-" if value is None else str(value) for value in (level, seconds, zone)]
     return " ".join([word, name.hex(), "generation", values[0], "seconds", values[1], "admitted", str(admitted), "struck", str(struck), "waiting", str(waiting),
-                     "parents"] + parents_text(parents))
+                     "parents"] + parents_text(parents) + ["zone", values[2]])
 
 
 def main(driver, folder):

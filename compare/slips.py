@@ -1,6 +1,8 @@
-"""Walks with one fault each, to see that the cases tell them from the right one. The first four are document 01's slips."""
+"""Walks with one fault each, to see that the cases tell them from the right one. The first four are document 01's slips. Those of ZONES alter
+nothing but card 7's zone, which runs beside the crate leave out."""
 import copy
 
+import formats
 from model import CORRUPT, HIDDEN, NO_ROW_LEVEL, STALE, VISIBLE, Walk
 
 
@@ -126,6 +128,55 @@ class GraphKept(Walk):
         return super().next()
 
 
+class RowZone(Walk):
+    """gives the book's zone where the commit came from the graph"""
+
+    def next(self):
+        a = super().next()
+        if a.kind == "commit" and self.kept and self.files.row(a.name) is not None and self.files.header(a.name) is not None:
+            a.zone = self.zone_of(a.name)
+        return a
+
+
+class AuthorZone(Walk):
+    """takes the zone of the author line"""
+
+    def zone_of(self, name):
+        if self.files.header(name).seconds is None:
+            return None
+        rest = formats.parent_lines(self.files.bodies[name][46:])[1]
+        return (formats.committer_line(b"committer " + rest[7:]) or (None, None))[1]
+
+
+class CountedZone(Walk):
+    """reads no zone behind over 256 parents"""
+
+    def zone_of(self, name):
+        return None if self.files.header(name).crowded else super().zone_of(name)
+
+
+class FirstWithoutZone(Walk):
+    """reads no zone where First has stopped"""
+
+    def zone_of(self, name):
+        return None if self.first and self.files.header(name).ids else super().zone_of(name)
+
+
+class SignLost(Walk):
+    """loses the sign of a zone"""
+
+    def zone_of(self, name):
+        zone = super().zone_of(name)
+        return None if zone is None else abs(zone)
+
+
+class NoneAtUtc(Walk):
+    """takes a zone of 0 minutes for none"""
+
+    def zone_of(self, name):
+        return super().zone_of(name) or None
+
+
 def painting(walk, popped_stale=False, first_hides=False, unsorted=False, turned=False):
     marks, read, queue = {}, {}, []
 
@@ -159,3 +210,4 @@ def painting(walk, popped_stale=False, first_hides=False, unsorted=False, turned
 
 ALL = [PoppedStale, FirstHides, GraphSeconds, EdgeFromThird, LastQueued, HiddenOnce, TurnedTipAdmitted, CutoffUnderFirst, UnsortedWaiting,
        SecondsBeforeLevels, GraphKept, ZeroLowest, ZeroRowAlone]
+ZONES = [RowZone, AuthorZone, CountedZone, FirstWithoutZone, SignLost, NoneAtUtc]

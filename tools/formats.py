@@ -71,7 +71,19 @@ def author_line(b):
     return rest
 
 
+def zone(text):
+    """Card 7, of the bytes after the seconds: "space, sign, four digits, minutes below 60, hours at most 14, then the line's end; anything
+    else reads as none". In signed minutes."""
+    if len(text) != 6 or text[:1] != b" " or text[1:2] not in (b"+", b"-") or any(c not in b"0123456789" for c in text[2:]):
+        return None
+    hours, minutes = divmod(int(text[2:]), 100)
+    if hours > 14 or minutes > 59:
+        return None
+    return (60 * hours + minutes) * (-1 if text[1:2] == b"-" else 1)
+
+
 def committer_line(b):
+    """(seconds, zone): the zone may be None."""
     if not b.startswith(b"committer ") or b"\n" not in b[10:]:
         return None
     line = b[10:].split(b"\n", 1)[0]
@@ -89,7 +101,7 @@ def committer_line(b):
         n += 1
     if not 1 <= n <= 18 or (n < len(tail) and tail[n:n + 1] != b" "):
         return None
-    return sign * int(tail[:n])
+    return sign * int(tail[:n]), zone(tail[n:])
 
 
 def parent_lines(b):
@@ -102,7 +114,7 @@ def parent_lines(b):
         b = t[1]
 
 
-def seconds_only(body):
+def stamp_only(body):
     t = id_line(b"tree ", body)
     if t is None:
         return None
@@ -111,7 +123,7 @@ def seconds_only(body):
 
 
 def reading(body):
-    """('readable', parents, seconds), ('crowded',) or ('bad',): the earlier line decides."""
+    """('readable', parents, (seconds, zone)), ('crowded',) or ('bad',): the earlier line decides."""
     t = id_line(b"tree ", body)
     if t is None:
         return ("bad",)
@@ -119,8 +131,8 @@ def reading(body):
     if len(ids) > 256:
         return ("crowded",)
     rest = author_line(rest)
-    seconds = None if rest is None else committer_line(rest)
-    return ("bad",) if seconds is None else ("readable", ids, seconds)
+    stamp = None if rest is None else committer_line(rest)
+    return ("bad",) if stamp is None else ("readable", ids, stamp)
 
 
 def body(parents=(), seconds=5, tree=b"\0" * 20, author=b"author A <a> 5 +0000\n", committer=None):

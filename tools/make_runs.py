@@ -80,12 +80,13 @@ def numbers(admitted, struck, waiting):
     return " admitted %d struck %d waiting %d" % (admitted, struck, waiting)
 
 
-def call_line(word, name, level, seconds, tally, parents):
+def call_line(word, name, level, seconds, zone, tally, parents):
     told = [p.hex() for p in parents]
     if len(parents) > FEW:
         told = [told[0], "to", told[-1], "checksum", str(checksum(parents))]
-    values = ["-" if value is None else str(value) for value in (level, seconds)]
-    return " ".join([word, name.hex(), "generation", values[0], "seconds", values[1]]) + tally + " ".join([" parents %d" % len(parents)] + told)
+    values = ["-" if value is None else str(value) for value in (level, seconds, zone)]
+    front = " ".join([word, name.hex(), "generation", values[0], "seconds", values[1]])
+    return front + tally + " ".join([" parents %d" % len(parents)] + told + ["zone", values[2]])
 
 
 NO_ID = bytes(20)
@@ -96,14 +97,14 @@ def lines(run, kind=model.Walk):
     refused, walk = opening(run, kind)
     if refused is not None:
         # "refused openings and 12 carry zeros"; "12 … comes for every closed record"
-        return out + ["refused %d" % refused + numbers(0, 0, 0), call_line("refused 12", NO_ID, None, None, numbers(0, 0, 0), ())]
+        return out + ["refused %d" % refused + numbers(0, 0, 0), call_line("refused 12", NO_ID, None, None, None, numbers(0, 0, 0), ())]
     out.append("opened" + numbers(walk.admitted, walk.struck, len(walk.line)))
     ends = 0
     while ends < 2:
         a = walk.next()
         ends += a.kind == "end"
         word = "refused %d" % a.number if a.kind == "error" else a.kind
-        out.append(call_line(word, a.name or NO_ID, a.level, a.seconds, numbers(a.admitted, a.struck, a.waiting), a.parents))
+        out.append(call_line(word, a.name or NO_ID, a.level, a.seconds, a.zone, numbers(a.admitted, a.struck, a.waiting), a.parents))
     return out
 
 
@@ -478,6 +479,56 @@ def headers(_):
         h.run("committer%s" % tail.decode().rstrip(), "t", sorting=OLDEST)
 
 
+def zones(_):
+    def line(zone):
+        return body([], committer=b"committer A <a> 5" + zone + b"\n", author=b"author A <a> 5 +0900\n")
+
+    vectors = [("+0000", b" +0000"), ("-0000", b" -0000"), ("+0001", b" +0001"), ("-0001", b" -0001"), ("+0530", b" +0530"), ("-0930", b" -0930"),
+               ("+0059", b" +0059"), ("+0060", b" +0060"), ("+1359", b" +1359"), ("+1400", b" +1400"), ("-1400", b" -1400"), ("+1459", b" +1459"),
+               ("-1459", b" -1459"), ("+1460", b" +1460"), ("-1460", b" -1460"), ("+1500", b" +1500"), ("-1500", b" -1500"), ("+9959", b" +9959"),
+               ("three digits", b" +100"), ("five digits", b" +01000"), ("no sign", b" 0100"), ("no digits", b" +"), ("a letter among the digits", b" +01o0"),
+               ("a letter as the first digit", b" +a100"), ("letters", b" UTC"), ("a colon", b" +01:00"), ("a space among the digits", b" + 100"), ("a minus sign of two bytes", b" \xc2\xad0100"),
+               ("a CR at the end", b" +0100\r"), ("two spaces", b"  +0100"), ("a trailing space", b" +0100 "), ("a trailing zone", b" +0100 +0200"), ("a tab", b" \t+0100"),
+               ("no zone", b""), ("a space alone", b" "), ("a zone before the last `>`", b" +0100> 6 +0200"), ("none after the last `>`", b" +0100> 6")]
+    for what, zone in vectors:
+        History({}, bodies=dict(z=line(zone))).run("zone: " + what, "z")
+    History({}, bodies=dict(z=line(b" -0130"))).run("zone: by time, beside the seconds", "z", sorting=NEWEST)
+    History({}, bodies=dict(z=body([], committer=b"committer A <a> -5 -0130\n"))).run("zone: beside seconds below 0", "z", sorting=OLDEST)
+    alone = body([], author=b"author A <a> 5 +0100\n", committer=b"committer A <a> 5\n")
+    History({}, bodies=dict(z=alone)).run("zone: on the author line alone", "z")
+    History({}, bodies=dict(z=body([]) + b"committer A <a> 5 +0100\n")).run("zone: a second committer line is not read", "z")
+    east = b"committer A <a> 9 +0200\n"
+    for count in (256, 257, 300):
+        crowd = History(dict(p=3), bodies=dict(t=body(names("p" * count), committer=east)))
+        crowd.run("zone: %d parents, First" % count, "t", first=True)
+        crowd.run("zone: %d parents, All" % count, "t")
+    merge = History(dict(p=3, q=2), bodies=dict(t=body(names("pq"), committer=east)))
+    merge.run("zone: two parents, First", "t", first=True)
+    merge.run("zone: two parents, First and newest: no seconds, a zone", "t", sorting=NEWEST, first=True)
+    whole = body(names("pq"), committer=east)
+    bad = [("a bad second parent line", whole[:46 + 48] + b"parent 00\n" + whole[46 + 48:]), ("a bad author line", body(names("pq"), author=b"author\n", committer=east)),
+           ("no author line", body(names("pq"), author=b"", committer=east)), ("seconds that are no number", body(names("pq"), committer=b"committer A <a> 9x +0200\n")),
+           ("no `>`", body(names("pq"), committer=b"committer A 9 +0200\n")), ("no newline at the end", body(names("pq"), committer=east)[:-2]),
+           ("another word", body(names("pq"), committer=b"Committer A <a> 9 +0200\n")), ("a bad tree line", b"Tree" + whole[4:])]
+    for what, broken in bad:
+        h = History(dict(p=3, q=2), bodies=dict(t=broken))
+        h.run("zone: none under First, for " + what, "t", first=True)
+        h.run("zone: none under All, for " + what, "t")
+    far = dict(a=body(names("b"), committer=b"committer A <a> 40 +0100\n"), b=body(names("c"), committer=b"committer A <a> 30 -0200\n"),
+               c=body(names("d"), committer=b"committer A <a> 20 +0300\n"), d=body([], committer=b"committer A <a> 10 -0400\n"))
+    for what, rows in (("no graph file", {}), ("a graph file of all", dict(graph="abcd")), ("a graph file of the older half", dict(graph="cd")),
+                       ("a graph file with a generation 0", dict(graph="abcd", levels=dict(d=0)))):
+        for order, settings in (("breadth", {}), ("newest", dict(sorting=NEWEST)), ("First", dict(first=True))):
+            History(**CHAIN, bodies=far, **rows).run("zone: %s, %s" % (what, order), "a", **settings)
+    dropped = dict(**CHAIN, bodies=far, graph="abcd", rows=dict(c=((9, NONE), 2, 20)))
+    History(**dropped).run("zone: none from a row, then those of the store after the graph file is dropped", "a")
+    History(**dropped).run("zone: the same, newest", "a", sorting=NEWEST)
+    History(**dropped).run("zone: the graph file is dropped at the first commit", "c", first=True)
+    History(**CHAIN, bodies=far, graph="bcd").run("zone: beside hidden commits", "a", "c")
+    gone = History(dict(a=9, x=5), dict(a="x"), gone="x", bodies=dict(a=body(names("x"), committer=east)))
+    gone.run("zone: none with an absent commit, nor at the end", "a")
+
+
 def refusals(_):
     chain, good = History(**CHAIN).pair, History(**CHAIN, graph="abcd").pair
     torn, odd = chain.store[:-1], good.graph[:-1]
@@ -577,7 +628,7 @@ def sample(_):
 
 
 FAMILIES = [("document 01's runs", documents), ("orders, equal seconds, merges", orders), ("tips and excluded ids", tips), ("cutoffs and seconds", cutoffs),
-            ("First", first), ("painting", painting), ("graph files", graphs), ("corrupt parent lists", corrupt), ("headers", headers),
+            ("First", first), ("painting", painting), ("graph files", graphs), ("corrupt parent lists", corrupt), ("headers", headers), ("zones", zones),
             ("refused openings", refusals), ("files that git wrote", git_files), ("a sample of the comparison's", sample)]
 
 
@@ -589,7 +640,7 @@ def main(out, example):
     for what, _ in FAMILIES:
         mine = [t for run, t in zip(runs, told) if run.family == what]
         print("%-32s %4d cases %5d lines" % (what, len(mine), sum(map(len, mine))))
-    for kind in slips.ALL:
+    for kind in slips.ALL + slips.ZONES:
         apart = sum(lines(run, kind) != t for run, t in zip(runs, told))
         print("a walk that %s: %d" % (kind.__doc__, apart))
         assert apart, kind

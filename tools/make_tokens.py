@@ -9,12 +9,18 @@ import sys
 WIDTHS = {1: 40, 2: 64}  # hexadecimal digits of an id
 
 
+def zone(text):
+    """Card 7: "sign, four digits, minutes below 60, hours at most 14, then the line's end; anything else reads as none"."""
+    found = re.fullmatch(rb"([+-])(0[0-9]|1[0-4])([0-5][0-9])", text)
+    return str(int(found[1] + b"1") * (60 * int(found[2]) + int(found[3]))) if found else "none"
+
+
 def expected(kind, body):
     """The tokens of a body, a line each, up to the end."""
     hexes = rb"[0-9a-f]{%d}" % WIDTHS[kind]
     tree, parent = rb"tree " + hexes + rb"\n", rb"parent (" + hexes + rb")\n"
     author = rb"author [^\n<]*<[^\n>]*>[^\n]*\n"
-    committer = rb"committer [^\n]*> (-?[0-9]{1,18})( [^\n>]*)?\n"
+    committer = rb"committer [^\n]*> (-?[0-9]{1,18})(?: ([^\n>]*))?\n"
     lines, at, allowed = [], 0, [("tree", tree)]
     while allowed:
         for name, pattern in allowed:
@@ -26,6 +32,8 @@ def expected(kind, body):
             break
         at = found.end()
         told = found.group(1).decode() if name in ("parent", "committer") else ""
+        if name == "committer":
+            told += " zone " + zone(found.group(2) or b"")
         lines.append((name + " " + told).strip())
         allowed = {
             "tree": [("parent", parent), ("author", author)],
@@ -50,6 +58,9 @@ def main():
         (1, commit(tree, one, two, author, committer, "", "parent of none")),  # a good commit
         (1, commit(tree, author, committer)),                                  # a good commit without parents
         (1, commit(tree, committer)),                                          # a committer right after the tree
+        (1, commit(tree, author, "committer B <b> 7 -1459")),                  # the farthest zone back
+        (1, commit(tree, author, "committer B <b> 7 +1460")),                  # no zone: minutes of 60
+        (1, commit(tree, author, "committer B <b> 7")),                        # no zone
         (1, commit(tree, one, committer)),                                     # a committer right after a parent
         (1, commit(tree, one, author, two, committer)),                        # a parent after the author
         (1, commit(tree, one, author, author, committer)),                     # two authors

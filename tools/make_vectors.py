@@ -33,16 +33,20 @@ def store_case(s, ids=()):
         lines.append("%d %d" % (places[x][0], places[x][1] - places[x][0]) if x in places else "absent")
 
 
+def told(stamp):
+    return f"{stamp[0]} zone {'none' if stamp[1] is None else stamp[1]}"
+
+
 def header_case(body):
     case(2, body)
     r = reading(body)
-    lines.append(f"readable {len(r[1])} {r[2]}" if r[0] == "readable" else r[0])
+    lines.append(f"readable {len(r[1])} {told(r[2])}" if r[0] == "readable" else r[0])
     t = id_line(b"tree ", body)
     ids = parent_lines(t[1])[0] if t else []
     for x in (ids[:1] + ids[-1:]):
         lines.append(f"parent {x.hex()}")
-    s = seconds_only(body)
-    lines.append("seconds bad" if s is None else f"seconds {s}")
+    s = stamp_only(body)
+    lines.append("seconds bad" if s is None else f"seconds {told(s)}")
 
 
 def graph_case(g, ids=()):
@@ -142,6 +146,14 @@ def headers():
                  b"> 000000000000000007\n", b"> 0000000000000000007\n", b"> 999999999999999999\n", b"> -999999999999999999\n", b"> 1000000000000000000\n", b"> 9999999999999999999\n",
                  b"> 5> 6\n", b"> 5 > 6 +0000\n", b"> 5 >\n", b" 5\n", b"> 5", b"> 17179869184 +1400\n", b"> 5 \n> 6\n"):
         header_case(body(p[:1], committer=b"committer A <a" + tail))
+    for zone in (b"+0000", b"-0000", b"+1400", b"+1459", b"+1460", b"+1500", b"-1400", b"-1459", b"-1500", b"+0059", b"+0060", b"-0060", b"+0099", b"+2000", b"+9959", b"+000", b"+00000", b"+0:00",
+                 b"+o000", b"+00a0", b"0000", b"00000", b"UTC", b"+0000\r", b" +0000", b"+0000 ", b"+0000 +0100", b"", b"+", b"+ 000", b"\xff0000", b",0000", b"\xab0100", b"-0030", b"+0945", b"+/959", b"+0:59"):
+        header_case(body(p[:1], committer=b"committer A <a> 5 " + zone + b"\n"))
+    header_case(body(p[:1], author=b"author A <a> 5 +0100\n", committer=b"committer A <a> 5\n"))      # a zone on the author line alone
+    header_case(body(p[:1], committer=b"committer A <a> -5 -0130\n"))
+    header_case(body(p[:1], committer=b"committer A <a> 5 +0100 > 6 +0200\n"))                         # the last `>`
+    header_case(body(p[:1], committer=b"committer A <a> x +0100\n"))                                  # no seconds, and so no zone
+    header_case(body(p[:257], committer=b"committer A <a> 5 +0100\n"))                                # parents are not counted
     header_case(body(p[:1], committer=b"committer > 9\n"))
     header_case(body(p[:1], committer=b"committer> 9\n"))
     header_case(body(p[:1], committer=b"commiter A <a> 9\n"))

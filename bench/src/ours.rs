@@ -78,7 +78,7 @@ impl Memory {
                 parents: vec![0; 5_120],
                 record: [0; ffi::RECORD],
             },
-            answer: ffi::Answer { id: [0; 20], numbers: [0; ffi::CALL_NUMBERS], seconds: [0; 1] },
+            answer: ffi::Answer { id: [0; 20], numbers: [0; ffi::CALL_NUMBERS], seconds: [0; ffi::CALL_SECONDS] },
         }
     }
 

@@ -35,8 +35,8 @@ extern "C" {
 #define LINENHATCH_PARENTS 5120u                                          /* uint8_t: 256 ids */
 #define LINENHATCH_RECORD 19u                                             /* uint64_t */
 #define LINENHATCH_OPEN_NUMBERS 3u                                        /* uint64_t, of an opening */
-#define LINENHATCH_NUMBERS 7u                                             /* uint64_t, of a call */
-#define LINENHATCH_SECONDS 1u                                             /* int64_t */
+#define LINENHATCH_NUMBERS 8u                                             /* uint64_t, of a call */
+#define LINENHATCH_SECONDS 2u                                             /* int64_t */
 #define LINENHATCH_CHECK_NUMBERS 1u                                       /* uint64_t, of a check of names */
 
 /* ---- where a number stands in numbers */
@@ -49,6 +49,12 @@ extern "C" {
 #define LINENHATCH_HAS_GENERATION 4 /* 1 where the commit came from a graph file in which no generation is 0, else 0 */
 #define LINENHATCH_GENERATION 5     /* its generation there, else 0 */
 #define LINENHATCH_HAS_TIME 6       /* 1 where the walk goes by time, so that seconds holds the commit's time, else 0 */
+#define LINENHATCH_HAS_ZONE 7       /* 1 where the commit came from the store and its committer line has a zone, else 0 */
+
+/* ---- where a number stands in seconds */
+
+#define LINENHATCH_TIME 0 /* the seconds that the commit was queued with, else 0 */
+#define LINENHATCH_ZONE 1 /* the minutes by which the committer's clock is ahead of UTC, from -899 to 899, else 0 */
 
 /* of a check of names alone: */
 #define LINENHATCH_ENTRY 0 /* after 16 the number of the first entry at fault, counted from 0 in the order of ids, else 0 */
@@ -120,9 +126,13 @@ uint32_t linenhatch_open(
  * lengths. Then the answers are those of the walk, one after another: no commit is handed out twice, call places + 2 at latest says end,
  * and after an end comes the end again. With anything else a call gives some result of these, and is safe.
  *
- * The answer: id holds the commit's id, numbers the numbers above, seconds the seconds that the commit was queued with, and the start of
- * parents its parents' ids, as many as numbers says; the rest of parents is as it was. A refusal or the end has zeros for id, generation and
- * seconds; 12 has zeros for all. After 9 to 11 the commit is used up and the next call goes on.
+ * The answer: id holds the commit's id, numbers the numbers above, seconds the seconds that the commit was queued with and its zone, and the
+ * start of parents its parents' ids, as many as numbers says; the rest of parents is as it was. A refusal or the end has zeros for id,
+ * generation, seconds and zone; 12 has zeros for all. After 9 to 11 the commit is used up and the next call goes on.
+ *
+ * The zone is that of the committer line, behind all parent lines, with first too: a space, a sign, four digits with minutes below 60 and
+ * hours at most 14, and the line's end. Anything else is no zone, and so is a line up to the committer's that cannot be read. A graph file
+ * holds no zone. -0000 is a zone, of 0 minutes.
  *
  * 12 alters neither the record nor the memory. Where record, id, numbers or seconds is itself too short the result is 101, no call is
  * made and nothing at all is altered. */

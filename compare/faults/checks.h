@@ -3,6 +3,9 @@
 /* ---- what a walk must keep to while nothing of it is touched */
 
 #define MOST_TURNS 8192u
+#define CALL_BYTES (8u * LINENHATCH_NUMBERS)
+#define SECONDS_BYTES (8u * LINENHATCH_SECONDS)
+#define FARTHEST (14 * 60 + 59) /* minutes of a zone */
 
 struct base {
     const uint8_t *part[INPUTS];
@@ -43,7 +46,7 @@ static uint64_t digest(uint32_t result)
     const struct {
         const void *at;
         size_t n;
-    } parts[] = {{&result, sizeof result}, {lent[IDENT].at, ID}, {lent[NUMBERS].at, 56}, {lent[SECONDS].at, 8},
+    } parts[] = {{&result, sizeof result}, {lent[IDENT].at, ID}, {lent[NUMBERS].at, CALL_BYTES}, {lent[SECONDS].at, SECONDS_BYTES},
                  {lent[PARENTS].at, parents < lent[PARENTS].bytes ? parents : lent[PARENTS].bytes}};
     for (size_t k = 0; k < sizeof parts / sizeof *parts; k++)
         for (size_t j = 0; j < parts[k].n; j++)
@@ -248,6 +251,19 @@ static void check_open(uint32_t result)
         check_accepted_opening();
 }
 
+/* A zone is within 14 hours and 59 minutes of UTC, and a commit from the graph has none. */
+static void check_zone(void)
+{
+    const uint64_t *n = words(NUMBERS);
+    int64_t minutes = ((const int64_t *)lent[SECONDS].at)[LINENHATCH_ZONE];
+    if (n[LINENHATCH_HAS_ZONE] > 1 || minutes < -FARTHEST || minutes > FARTHEST)
+        fail("a zone out of bounds");
+    if (minutes && !n[LINENHATCH_HAS_ZONE])
+        fail("minutes where there is no zone");
+    if (n[LINENHATCH_HAS_ZONE] && n[LINENHATCH_HAS_GENERATION])
+        fail("a zone of a commit from the graph");
+}
+
 /* The numbers, id and seconds of an answer, other than 12. */
 static void check_answer(uint32_t result)
 {
@@ -266,12 +282,13 @@ static void check_answer(uint32_t result)
         fail("a generation where there is none");
     if (!n[LINENHATCH_HAS_TIME])
         check_zeros(SECONDS, 8, "where there are none");
+    check_zone();
     if (result == 0)
         return;
     check_zeros(IDENT, ID, "beside a refusal or an end");
-    check_zeros(SECONDS, 8, "beside a refusal or an end");
-    if (n[LINENHATCH_HAS_GENERATION] || n[LINENHATCH_GENERATION] || n[LINENHATCH_HAS_TIME])
-        fail("a generation or time beside a refusal or an end");
+    check_zeros(SECONDS, SECONDS_BYTES, "beside a refusal or an end");
+    if (n[LINENHATCH_HAS_GENERATION] || n[LINENHATCH_GENERATION] || n[LINENHATCH_HAS_TIME] || n[LINENHATCH_HAS_ZONE])
+        fail("a generation, time or zone beside a refusal or an end");
 }
 
 /* A record that is given back holds six yes or no, and a number of 32 bits in its tenth word. */
@@ -289,13 +306,14 @@ static void check_closed(void)
     for (unsigned k = 0; k <= RECORD; k++)
         check_same(k, 0, "by 12");
     check_zeros(IDENT, ID, "beside 12");
-    check_zeros(NUMBERS, 56, "beside 12");
-    check_zeros(SECONDS, 8, "beside 12");
+    check_zeros(NUMBERS, CALL_BYTES, "beside 12");
+    check_zeros(SECONDS, SECONDS_BYTES, "beside 12");
 }
 
 static bool no_room(void)
 {
-    return lent[RECORD].count < LINENHATCH_RECORD || lent[IDENT].count < ID || lent[NUMBERS].count < 7 || lent[SECONDS].count < 1;
+    return lent[RECORD].count < LINENHATCH_RECORD || lent[IDENT].count < ID || lent[NUMBERS].count < LINENHATCH_NUMBERS ||
+           lent[SECONDS].count < LINENHATCH_SECONDS;
 }
 
 static void check_next(uint32_t result)
@@ -312,8 +330,8 @@ static void check_next(uint32_t result)
         fail("a call gives %" PRIu32, result);
     check_same(RECORD, 8 * LINENHATCH_RECORD, "past its words");
     check_same(IDENT, ID, "past the id");
-    check_same(NUMBERS, 56, "past a call's");
-    check_same(SECONDS, 8, "past the first");
+    check_same(NUMBERS, CALL_BYTES, "past a call's");
+    check_same(SECONDS, SECONDS_BYTES, "past the zone");
     if (((const uint64_t *)lent[RECORD].now)[0] != 1 && result != CLOSED)
         fail("a closed record gives %" PRIu32, result);
     if (result == CLOSED) {

@@ -72,7 +72,7 @@ static void choose_base(void)
 /* As many elements as asked for this many places, and some more. */
 static void size_lent(size_t places, size_t more)
 {
-    static const size_t other[LENT] = {[RECORD] = LINENHATCH_RECORD, [IDENT] = ID, [NUMBERS] = 7, [SECONDS] = 1};
+    static const size_t other[LENT] = {[RECORD] = LINENHATCH_RECORD, [IDENT] = ID, [NUMBERS] = LINENHATCH_NUMBERS, [SECONDS] = LINENHATCH_SECONDS};
     if (places > MOST_PLACES)
         places = MOST_PLACES;
     for (unsigned k = 0; k < LENT; k++) {

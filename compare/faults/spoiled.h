@@ -4,7 +4,8 @@ static unsigned fault;
 
 static bool short_of_room(void)
 {
-    return lent[RECORD].count < LINENHATCH_RECORD || lent[IDENT].count < ID || lent[NUMBERS].count < 7 || lent[SECONDS].count < 1;
+    return lent[RECORD].count < LINENHATCH_RECORD || lent[IDENT].count < ID || lent[NUMBERS].count < LINENHATCH_NUMBERS ||
+           lent[SECONDS].count < LINENHATCH_SECONDS;
 }
 
 static uint32_t spoiled_open(uint32_t result)
@@ -45,8 +46,8 @@ static void spoil_memory(uint32_t result)
         ((uint64_t *)lent[RECORD].at)[11]++;
     if (fault == 12 && result == 0 && numbers[LINENHATCH_PARENT_IDS] < 256) /* parents past the ids given */
         parents[ID * numbers[LINENHATCH_PARENT_IDS]] ^= 1;
-    if (fault == 13 && lent[SECONDS].count > 1) /* seconds past the first */
-        lent[SECONDS].at[8] ^= 1;
+    if (fault == 13 && lent[SECONDS].count > LINENHATCH_SECONDS) /* seconds past the zone */
+        lent[SECONDS].at[8 * LINENHATCH_SECONDS] ^= 1;
 }
 
 /* Faults of the answer. */
@@ -69,6 +70,12 @@ static uint32_t spoil_answer(uint32_t result)
         lent[IDENT].at[19] ^= lent[PARENTS].at[lent[PARENTS].bytes - 1];
     if (fault == 21 && result == 0) /* a count from nowhere */
         numbers[LINENHATCH_WAITING]++;
+    if (fault == 26 && result == 0 && numbers[LINENHATCH_HAS_GENERATION]) /* a zone of a commit from the graph */
+        numbers[LINENHATCH_HAS_ZONE] = 1;
+    if (fault == 27 && result == 0 && numbers[LINENHATCH_HAS_ZONE]) /* hours of 15 */
+        ((int64_t *)lent[SECONDS].at)[LINENHATCH_ZONE] = 900;
+    if (fault == 28 && result == END) /* the zone of the commit before is left standing */
+        ((int64_t *)lent[SECONDS].at)[LINENHATCH_ZONE] = 60;
     return result;
 }
 

@@ -11,7 +11,9 @@ pub(crate) const RECORD: usize = 19;
 /// How many numbers an opening sets down.
 pub(crate) const OPEN_NUMBERS: usize = 3;
 /// How many numbers a next call sets down.
-pub(crate) const CALL_NUMBERS: usize = 7;
+pub(crate) const CALL_NUMBERS: usize = 8;
+/// How many signed numbers a next call sets down: the commit's seconds, and the minutes of its zone.
+pub(crate) const CALL_SECONDS: usize = 2;
 /// How many numbers a check of names sets down.
 pub(crate) const CHECK_NUMBERS: usize = 1;
 
@@ -45,7 +47,7 @@ pub(crate) struct Memory {
 pub(crate) struct Answer {
     pub id: [u8; 20],
     pub numbers: [u64; CALL_NUMBERS],
-    pub seconds: [i64; 1],
+    pub seconds: [i64; CALL_SECONDS],
 }
 
 unsafe extern "C" {
@@ -260,7 +262,7 @@ mod tests {
         seconds: usize,
     }
 
-    const ALL: Room = Room { record: RECORD, numbers: CALL_NUMBERS, id: 20, seconds: 1 };
+    const ALL: Room = Room { record: RECORD, numbers: CALL_NUMBERS, id: 20, seconds: CALL_SECONDS };
 
     /// The buffers for a walk over a store without commits, which needs no places.
     #[derive(Clone, Debug, PartialEq)]
@@ -268,12 +270,13 @@ mod tests {
         record: [u64; RECORD],
         numbers: [u64; CALL_NUMBERS],
         id: [u8; 20],
-        seconds: [i64; 1],
+        seconds: [i64; CALL_SECONDS],
         parents: [u8; 5120],
     }
 
     const STORE: [u8; 8] = [0; 8];
-    const SEVENS: Lent = Lent { record: [7; RECORD], numbers: [7; CALL_NUMBERS], id: [7; 20], seconds: [7], parents: [7; 5120] };
+    const SEVENS: Lent =
+        Lent { record: [7; RECORD], numbers: [7; CALL_NUMBERS], id: [7; 20], seconds: [7; CALL_SECONDS], parents: [7; 5120] };
 
     impl Lent {
         #[rustfmt::skip]
@@ -294,7 +297,7 @@ mod tests {
         fn next(&mut self, room: Room) -> u32 {
             let (list, store, parents) = ([0u8; 0], STORE.as_ptr(), &mut self.parents);
             let (mut names, mut marks, mut generations, mut times, mut line) = ([0u8; 0], [0u8; 0], [0u32; 0], [0i64; 0], [0u32; 0]);
-            assert!(room.record <= RECORD && room.numbers <= CALL_NUMBERS && room.id <= 20 && room.seconds <= 1);
+            assert!(room.record <= RECORD && room.numbers <= CALL_NUMBERS && room.id <= 20 && room.seconds <= CALL_SECONDS);
             // SAFETY: as in `open`.
             unsafe {
                 linenhatch_next(
@@ -334,7 +337,7 @@ mod tests {
     #[test]
     fn a_call_without_room() {
         let (record, numbers) = (Room { record: RECORD - 1, ..ALL }, Room { numbers: CALL_NUMBERS - 1, ..ALL });
-        for room in [record, numbers, Room { id: 19, ..ALL }, Room { seconds: 0, ..ALL }] {
+        for room in [record, numbers, Room { id: 19, ..ALL }, Room { seconds: CALL_SECONDS - 1, ..ALL }] {
             let mut lent = SEVENS;
             assert_eq!(lent.next(room), NoRoom::NUMBER);
             assert_eq!(lent, SEVENS);

@@ -119,7 +119,7 @@ impl<'a> Lister<'a> {
         Ok(Walk {
             input,
             memory,
-            answer: Answer { id: [0; ID_BYTES], numbers: [0; ffi::CALL_NUMBERS], seconds: [0] },
+            answer: Answer { id: [0; ID_BYTES], numbers: [0; ffi::CALL_NUMBERS], seconds: [0; ffi::CALL_SECONDS] },
             numbers: Numbers { admitted, struck, waiting },
             ended: false,
         })
@@ -202,12 +202,14 @@ impl Walk<'_> {
     }
 
     fn commit(&self) -> Commit {
-        let [.., has_generation, generation, has_time] = self.answer.numbers;
+        let [.., has_generation, generation, has_time, has_zone] = self.answer.numbers;
+        let [time, zone] = self.answer.seconds;
         Commit {
             id: ObjectId(self.answer.id),
             parents: self.parents().collect(),
             generation: (has_generation != 0).then_some(generation as u32),
-            time: (has_time != 0).then_some(self.answer.seconds[0]),
+            time: (has_time != 0).then_some(time),
+            zone: (has_zone != 0).then_some(zone as i32),
         }
     }
 }
@@ -260,6 +262,23 @@ pub struct Commit {
     /// The committer time that it was queued with, in seconds since 1970: in the orders by time, but not with
     /// [`first_parent`](Lister::first_parent).
     pub time: Option<i64>,
+    /// The zone of its committer line, in minutes ahead of UTC, from -899 to 899: in every order, and with
+    /// [`first_parent`](Lister::first_parent) too. None if it came from the commit-graph file, which holds no zones; and where the committer line
+    /// has none (a space, a sign, four digits with minutes below 60 and hours at most 14, the line's end), or a line up to it cannot be read.
+    ///
+    /// ```
+    /// # fn main() -> Result<(), Box<dyn std::error::Error>> {
+    /// use linenhatch::{store_from_commits, Lister, ObjectId};
+    ///
+    /// let id = ObjectId([0x11; 20]);
+    /// let body = "tree 0000000000000000000000000000000000000000\nauthor A <a> 5 +0000\ncommitter A <a> 5 -0330\n\n";
+    /// let store = store_from_commits([(id, body)])?;
+    /// let commit = Lister::new(&store).tips(&[id]).open()?.next().expect("a commit")?;
+    /// assert_eq!(commit.zone, Some(-210));
+    /// # Ok(())
+    /// # }
+    /// ```
+    pub zone: Option<i32>,
 }
 
 /// A walk's running numbers. After every call `admitted` = commits handed out + commits refused + `struck` + `waiting`. (A refusal of the

@@ -36,7 +36,7 @@ fn nothing_given() {
     assert_eq!(args.order, Order::Newest);
     assert_eq!((args.since, args.max_count), (None, None));
     assert!(!args.count && !args.reverse);
-    assert!(args.graph && !args.first_parent && !args.parents && !args.time && !args.progress);
+    assert!(args.graph && !args.first_parent && !args.parents && !args.time && !args.zone && !args.progress);
     assert!(args.hide.is_empty() && args.exclude.is_empty());
     assert_eq!(args.revs, ["HEAD"]);
 }
@@ -44,12 +44,12 @@ fn nothing_given() {
 #[test]
 fn everything_given() {
     let args = list(
-        "-C some/where --order oldest --since -5 --first-parent --hide a --hide=b --exclude c main --no-graph --parents --time --progress v1^0 -- x",
+        "-C some/where --order oldest --since -5 --first-parent --hide a --hide=b --exclude c main --no-graph --parents --time --zone --progress v1^0 -- x",
     );
     assert_eq!(args.dir, Path::new("./some/where"));
     assert_eq!(args.order, Order::Oldest);
     assert_eq!(args.since, Some(-5));
-    assert!(!args.graph && args.first_parent && args.parents && args.time && args.progress);
+    assert!(!args.graph && args.first_parent && args.parents && args.time && args.zone && args.progress);
     assert_eq!(args.hide, ["a", "b"]);
     assert_eq!(args.exclude, ["c"]);
     assert_eq!(args.revs, ["main", "v1^0", "x"]);
@@ -121,6 +121,7 @@ fn help_and_version() {
         "--no-graph",
         "--parents",
         "--time",
+        "--zone",
         "--progress",
     ] {
         assert!(args::HELP.contains(option), "{option}");

@@ -64,6 +64,7 @@ fn the_same_numbers() {
         ("RECORD", "RECORD: usize"),
         ("OPEN_NUMBERS", "OPEN_NUMBERS: usize"),
         ("NUMBERS", "CALL_NUMBERS: usize"),
+        ("SECONDS", "CALL_SECONDS: usize"),
         ("CHECK_NUMBERS", "CHECK_NUMBERS: usize"),
     ] {
         assert_eq!(between(RUST, &format!("const {line} = "), ";"), defined(name).to_string(), "{name}");

@@ -234,6 +234,8 @@ mod tool {
             assert_eq!(line.ends_with("/-"), !graph, "{line}");
         }
         assert!(repository.list(&format!("{no} --order breadth --time main")).iter().all(|line| line.contains(" -/")));
+        let zones = repository.list(&format!("{no} --order newest --zone --time main"));
+        assert!(zones.iter().all(|line| line.ends_with(if graph { " -" } else { " +0100" })), "{zones:?}");
         let without = repository.list(&format!("{no} --exclude merge^1 main"));
         assert!(!without.contains(&repository.git("rev-parse merge^1")[0]));
         assert!(without.contains(&repository.git("rev-parse side")[0]));

@@ -66,13 +66,13 @@ fn fields_of_a_commit() {
     assert_eq!(walk.numbers(), Numbers { admitted: 1, struck: 0, waiting: 1 });
     assert_eq!(walk.parents().len(), 0);
     let commit = walk.next().unwrap().unwrap();
-    assert_eq!(commit, Commit { id: id(8), parents: ids(&[6, 7]), generation: None, time: Some(8) });
+    assert_eq!(commit, Commit { id: id(8), parents: ids(&[6, 7]), generation: None, time: Some(8), zone: Some(0) });
     assert_eq!(walk.parents().collect::<Vec<_>>(), ids(&[6, 7]));
     assert_eq!(walk.numbers(), Numbers { admitted: 3, struck: 0, waiting: 2 });
 
     let mut walk = Lister::new(&store).tips(&[id(8)]).order(Order::Newest).first_parent().open().unwrap();
     let commit = walk.next().unwrap().unwrap();
-    assert_eq!(commit, Commit { id: id(8), parents: ids(&[6]), generation: None, time: None });
+    assert_eq!(commit, Commit { id: id(8), parents: ids(&[6]), generation: None, time: None, zone: Some(0) });
 }
 
 #[test]
@@ -220,12 +220,88 @@ fn parents_up_to_256() {
     assert_eq!(walk.filter(|answer| *answer == Err(Refusal::CommitNotFound)).count(), 256);
 }
 
+/// The zone of one commit, of this committer line, whose author's is another.
+fn zone_of(committer: &str, parents: usize, first: bool) -> Option<i32> {
+    let parents = format!("parent {}\n", id(9)).repeat(parents);
+    let body = format!("tree {}\n{parents}author A <a> 5 +0900\ncommitter A <a> {committer}\n\n", id(0));
+    let store = store_from_commits([(id(1), body)]).unwrap();
+    let lister = Lister::new(&store).tips(&[id(1)]);
+    let mut walk = if first { lister.first_parent().open() } else { lister.open() }.unwrap();
+    walk.next().unwrap().unwrap().zone
+}
+
+#[test]
+fn zones() {
+    for (text, minutes) in [
+        ("+0000", Some(0)),
+        ("-0000", Some(0)),
+        ("+0001", Some(1)),
+        ("-0130", Some(-90)),
+        ("+1400", Some(840)),
+        ("+1459", Some(899)),
+        ("-1459", Some(-899)),
+        ("+1460", None),
+        ("+1500", None),
+        ("+100", None),
+        ("+01000", None),
+        ("UTC", None),
+        ("+0100\r", None),
+        (" +0100", None),
+        ("+0100 ", None),
+        ("", None),
+    ] {
+        assert_eq!(zone_of(&format!("5 {text}"), 0, false), minutes, "{text}");
+    }
+    assert_eq!(zone_of("5", 0, false), None);
+    assert_eq!(zone_of("-5 +0100", 1, false), Some(60));
+    assert_eq!(zone_of("soon +0100", 1, true), None);
+}
+
+/// It is read past all parent lines, which are not counted for it.
+#[test]
+fn a_zone_behind_many_parents() {
+    for parents in [2, 256, 257, 300] {
+        assert_eq!(zone_of("5 -0930", parents, true), Some(-570), "{parents}");
+    }
+    assert_eq!(zone_of("5 -0930", 256, false), Some(-570));
+}
+
+/// A commit-graph file holds no zones: a commit that it has comes without one, also where the store has it too.
+#[test]
+fn no_zone_from_a_row() {
+    let (store, graph) = (include_bytes!("../../../crates/readers/data/store"), include_bytes!("../../../crates/readers/data/graph"));
+    let tip: ObjectId = TIP.parse().unwrap();
+    let zones =
+        |lister: Lister<'_>| -> Vec<Option<i32>> { lister.tips(&[tip]).open().unwrap().map(|commit| commit.unwrap().zone).collect() };
+    assert_eq!(zones(Lister::new(store).graph(graph)), [None; 21]);
+    assert!(zones(Lister::new(store)).iter().all(Option::is_some));
+    // Rows that name a parent past the last row are corrupt: the file is dropped at the first call, and the store is read from there on.
+    let mut dropped = graph.to_vec();
+    let rows = chunk_at(graph, b"CDAT");
+    let count = u32::from_be_bytes(graph[chunk_at(graph, b"OIDF") + 1020..][..4].try_into().unwrap()) as usize;
+    for row in 0..count {
+        dropped[rows + 36 * row + 20..][..4].copy_from_slice(&(count as u32).to_be_bytes());
+    }
+    assert_eq!(zones(Lister::new(store).graph(&dropped)), zones(Lister::new(store)));
+}
+
+#[test]
+fn no_zone_in_a_refusal_or_at_the_end() {
+    let store = store(&[(5, 5, &[4])]);
+    let mut walk = Lister::new(&store).tips(&[id(5)]).open().unwrap();
+    assert_eq!(walk.next().unwrap().unwrap().zone, Some(0));
+    assert_eq!(walk.next(), Some(Err(Refusal::CommitNotFound)));
+    assert_eq!(walk.next(), None);
+}
+
 /// A commit-graph file in which one generation is 0: none is used and none is shown; parents and times stay, and the list too.
 #[test]
 fn a_graph_file_with_a_generation_0() {
     let (store, graph) = (include_bytes!("../../../crates/readers/data/store"), include_bytes!("../../../crates/readers/data/graph"));
     let tip: ObjectId = TIP.parse().unwrap();
-    let list = |graph: &[u8]| -> Vec<Commit> { Lister::new(store).graph(graph).tips(&[tip]).order(Order::Newest).open().unwrap().map(Result::unwrap).collect() };
+    let list = |graph: &[u8]| -> Vec<Commit> {
+        Lister::new(store).graph(graph).tips(&[tip]).order(Order::Newest).open().unwrap().map(Result::unwrap).collect()
+    };
     let with = list(graph);
     let rows = chunk_at(graph, b"CDAT");
     let count = u32::from_be_bytes(graph[chunk_at(graph, b"OIDF") + 1020..][..4].try_into().unwrap()) as usize;

@@ -15,19 +15,35 @@ use borrow.Author.Tests.{eqb-true, ltb-true, ltb-false, leb-true, leb-false, lt-
 use Rattle.hash.specs.Bytes.{Id, pick}
 use Rattle.hash.proofs.Tests.{byCases, no-some, some-in}
 use Rattle.object.specs.Ids.{idRoom, idIn}
-use Rattle.object.specs.Header.{treeSize, parentSize, isSome, strip, idLine, treeWord, parentWord, wordLine, authorLine, committerLine, parentLines, skipParents, afterAuthor, afterTree, secondsOf, most, Header, withTree, withParents, header}
-use Rattle.object.specs.Read.{readAs, readingOf}
+use Rattle.object.specs.Header.{treeSize, parentSize, isSome, strip, idLine, treeWord, parentWord, wordLine, authorLine, Stamped, stamped, committerLine, parentLines, skipParents, afterAuthor, afterTree, stampOf, secondsIn, zoneIn, secondsOf, zoneOf, most, Header, withTree, withParents, header}
+use Rattle.object.specs.Read.{zoneGiven, readAs, readingOf}
 use Rattle.object.specs.declared.Reading.the-variants.{Bad as BadHeader}
 use Rattle.object.proofs.IdBytes.{id-in}
 use Rattle.object.proofs.Lines.{idLine-some, too-short}
 use Rattle.object.proofs.Parents.{skip-stops, skip-line}
 use Rattle.object.proofs.PersonLines.{author-ends}
+use Rattle.object.proofs.Stamps.{stamp-whole}
 use Rattle.commititer.specs.Token.{here, start, bare, parentToken, committerTold, authorTold, lineIn, lineAt, missing, tokenOf, ended, placeOf, tokenAt, afterToken}
-use Rattle.commititer.specs.Tokens.{tokensFrom, tokens, isTree, isParent, isAuthor, secondsTold, parentsOf, pastParents, authorNext, committerNext, personsNext, afterTreeToken, headerOf, Agrees, noBad, hasCommitter, allGood, GoodTokens, isReadable, ReadableTokens}
+use Rattle.commititer.specs.Tokens.{tokensFrom, tokens, isTree, isParent, isAuthor, zoneTold, stampTold, parentsOf, pastParents, authorNext, committerNext, personsNext, afterTreeToken, headerOf, Agrees, noBad, hasCommitter, allGood, GoodTokens, isReadable, ReadableTokens}
 use Rattle.commititer.specs.declared.TokenRead.{TokenRead}
 use Rattle.commititer.specs.declared.State.the-variants.{Parents as ParentLines, Committer as CommitterLine, Done}
 use Rattle.commititer.specs.declared.Token.{Token}
 use Rattle.commititer.specs.declared.Token.the-variants.{Tree, Bad, End}
+
+-- ---- a committer reading
+
+-- a token tells the zone that it was given, since the answer for a zone keeps its minutes
+zone-back : (o : Option ℤ) → zoneTold (zoneGiven o) ≡ o
+zone-back none = refl
+zone-back (some z) = refl
+
+-- there are seconds just where there is a reading
+some-seconds : {o p : Option Stamped} → o ≡ p → isSome (secondsIn o) ≡ isSome p
+some-seconds {o} {p} e = ap (λ (q : Option Stamped). isSome (secondsIn q)) e ∙ go p
+  where
+    go : (q : Option Stamped) → isSome (secondsIn q) ≡ isSome q
+    go none = refl
+    go (some s) = refl
 
 -- ---- no line begins with two words
 
@@ -60,13 +76,13 @@ pub record Missing (t : Token) : Type 0 where
   pub tree : isTree t ≡ false
   pub parent : isParent t ≡ false
   pub author : isAuthor t ≡ false
-  pub seconds : secondsTold t ≡ none
+  pub stamp : stampTold t ≡ none
 
 pub is-missing : (b : List ℕ) (i : ℕ) → Missing (missing b i)
 is-missing b i =
     byCases (ltb i (length b))
-    (λ h. subst (λ (c : Bool). Missing (pick c Bad End)) (sym h) (record { tree = refl; parent = refl; author = refl; seconds = refl }))
-    (λ h. subst (λ (c : Bool). Missing (pick c Bad End)) (sym h) (record { tree = refl; parent = refl; author = refl; seconds = refl }))
+    (λ h. subst (λ (c : Bool). Missing (pick c Bad End)) (sym h) (record { tree = refl; parent = refl; author = refl; stamp = refl }))
+    (λ h. subst (λ (c : Bool). Missing (pick c Bad End)) (sym h) (record { tree = refl; parent = refl; author = refl; stamp = refl }))
 
 -- nothing is left past the end
 past-end : (b : List ℕ) (i : ℕ) → length b ≤ i + 0 → drop i b ≡ []
@@ -100,17 +116,17 @@ module _ (w : ℕ) (b : List ℕ) where
   committer-next zero i h = rw (past-end b i h)
   committer-next (suc n) i h = go (committerLine (drop i b))
     where
-      go : (o : Option ℤ) → secondsTold (tokenOf b (here i CommitterLine) (committerTold o) .token) ≡ o
-      go none = is-missing b i .seconds
-      go (some s) = refl
+      go : (o : Option Stamped) → stampTold (tokenOf b (here i CommitterLine) (committerTold o) .token) ≡ o
+      go none = is-missing b i .stamp
+      go (some s) = ap (λ (z : Option ℤ). some (record { seconds = s .seconds; zone = z })) (zone-back (s .zone))
 
   committer-good : (n i : ℕ) → allGood (tokensFrom n w b (here i CommitterLine)) ≡ isSome (committerNext (tokensFrom n w b (here i CommitterLine)))
   unfolding tokensFrom tokenAt afterToken lineAt lineIn noBad hasCommitter
   committer-good zero i = refl
   committer-good (suc n) i = go (committerLine (drop i b))
     where
-      go : (o : Option ℤ) → allGood (tokenOf b (here i CommitterLine) (committerTold o) ∷ tokensFrom n w b (placeOf b (committerTold o))) ≡ isSome (secondsTold (tokenOf b (here i CommitterLine) (committerTold o) .token))
-      go none = stopped n i ∙ sym (ap isSome (is-missing b i .seconds))
+      go : (o : Option Stamped) → allGood (tokenOf b (here i CommitterLine) (committerTold o) ∷ tokensFrom n w b (placeOf b (committerTold o))) ≡ isSome (stampTold (tokenOf b (here i CommitterLine) (committerTold o) .token))
+      go none = stopped n i ∙ sym (ap isSome (is-missing b i .stamp))
       go (some s) = rw (done-clean n (length b - 0))
 
   -- a parent line: its token, and the place after it
@@ -188,7 +204,7 @@ record Same (w m : ℕ) (c : List ℕ) (ts : List TokenRead) : Type 0 where
   ids : parentLines w m c .ids ≡ take m (parentsOf w ts)
   more : parentLines w m c .more ≡ ltb m (length (parentsOf w ts))
   author : isSome (authorLine (parentLines w m c .rest)) ≡ (leb (length (parentsOf w ts)) m && authorNext (pastParents ts))
-  seconds : (k : ℕ) → length c ≤ k → afterAuthor (authorLine (skipParents w k c)) ≡ personsNext (pastParents ts)
+  stamp : (k : ℕ) → length c ≤ k → afterAuthor (authorLine (skipParents w k c)) ≡ personsNext (pastParents ts)
 
 -- where no parent line stands
 module _ (w : ℕ) (c : List ℕ) (ts : List TokenRead) (stop : idLine w parentWord c ≡ none) (none-of : parentsOf w ts ≡ []) (all-of : pastParents ts ≡ ts) where
@@ -203,7 +219,7 @@ module _ (w : ℕ) (c : List ℕ) (ts : List TokenRead) (stop : idLine w parentW
         ids = rw (stop-lines m, none-of) (sym (take-none m));
         more = rw (stop-lines m, none-of) (sym (le-ltb m 0 (omega arith)));
         author = rw (stop-lines m, none-of, all-of, f, le-leb 0 m (omega arith));
-        seconds = λ k h. rw (skip-stops w k c stop, all-of) (sym g);
+        stamp = λ k h. rw (skip-stops w k c stop, all-of) (sym g);
       }
 
 -- where one stands, and the lines after it
@@ -218,17 +234,17 @@ module _ (w : ℕ) (small : w ≤ idRoom) (c : List ℕ) (t : Id × List ℕ) (e
         ids = refl;
         more = rw e (sym (lt-ltb 0 (suc (length (parentsOf w ts))) (omega arith)));
         author = rw (parent-no-author w c t e, lt-leb (suc (length (parentsOf w ts))) 0 (omega arith));
-        seconds = after;
+        stamp = after;
       }
     where
       after : (k : ℕ) → length c ≤ k → afterAuthor (authorLine (skipParents w k c)) ≡ personsNext (pastParents ts)
-      after k h = rw (skip-line w k c t h e) (further 0 .seconds k (omega (arith, idLine-some w parentWord c t e .long)))
+      after k h = rw (skip-line w k c t h e) (further 0 .stamp k (omega (arith, idLine-some w parentWord c t e .long)))
   same-more (suc m) =
       record {
         ids = rw (e, its-id) (ap (λ (l : List Id). t .0 ∷ l) (further m .ids));
         more = rw (e, ltb-both m (length (parentsOf w ts))) (further m .more);
         author = rw (e, leb-both (length (parentsOf w ts)) m) (further m .author);
-        seconds = λ k h. rw (skip-line w k c t h e) (further 0 .seconds k (omega (arith, idLine-some w parentWord c t e .long)));
+        stamp = λ k h. rw (skip-line w k c t h e) (further 0 .stamp k (omega (arith, idLine-some w parentWord c t e .long)));
       }
 
 module _ (w : ℕ) (small : w ≤ idRoom) (b : List ℕ) where
@@ -263,24 +279,24 @@ pub no-tree : (w : ℕ) (b : List ℕ) → idLine w treeWord b ≡ none → (tok
 unfolding tokenAt afterToken lineAt lineIn
 no-tree w b e = (rw e, rw e)
 
--- the seconds by the tokens after a good tree line
-seconds-after : (w : ℕ) → w ≤ idRoom → (b : List ℕ) (t : Id × List ℕ) → idLine w treeWord b ≡ some t → secondsOf w b ≡ personsNext (pastParents (tokensFrom (length b - 1) w b (here (treeSize w) ParentLines)))
-unfolding secondsOf
-seconds-after w small b t e =
+-- the committer reading by the tokens after a good tree line
+stamp-after : (w : ℕ) → w ≤ idRoom → (b : List ℕ) (t : Id × List ℕ) → idLine w treeWord b ≡ some t → stampOf w b ≡ personsNext (pastParents (tokensFrom (length b - 1) w b (here (treeSize w) ParentLines)))
+unfolding stampOf
+stamp-after w small b t e =
     let l = idLine-some w treeWord b t e in
     let rest : t .1 ≡ drop (treeSize w) b = l .rest in
     let s = same w small b (length b - 1) (treeSize w) (omega arith) most in
-    rw (e, rest) (s .seconds (length b) (simp length-drop (omega arith)))
+    rw (e, rest) (s .stamp (length b) (simp length-drop (omega arith)))
 
 pub after-tree : (w : ℕ) → w ≤ idRoom → (b : List ℕ) (t : Id × List ℕ) → idLine w treeWord b ≡ some t → header w b ≡ afterTreeToken w (tokensFrom (length b - 1) w b (here (treeSize w) ParentLines))
-unfolding header
+unfolding header secondsOf zoneOf
 after-tree w small b t e =
     let rest : t .1 ≡ drop (treeSize w) b = idLine-some w treeWord b t e .rest in
     let s : Same w most (drop (treeSize w) b) (tokensFrom (length b - 1) w b (here (treeSize w) ParentLines)) = same w small b (length b - 1) (treeSize w) (omega arith) most in
-    let z = seconds-after w small b t e in
+    let z = stamp-after w small b t e in
     ap (withTree w b) e
     ∙ ap (λ (c : List ℕ). withParents w b (parentLines w most c)) rest
-    ∙ (λ k. record { tree = true; ids = s .ids k; crowded = s .more k; author = s .author k; seconds = z k })
+    ∙ (λ k. record { tree = true; ids = s .ids k; crowded = s .more k; author = s .author k; seconds = secondsIn (z k); zone = zoneIn (z k) })
 
 pub header-by-tokens : (w : ℕ) → w ≤ idRoom → (b : List ℕ) → Agrees w b
 unfolding tokens tokensFrom header idLine strip
@@ -295,16 +311,16 @@ header-by-tokens w small (x ∷ xs) = go (idLine w treeWord (x ∷ xs)) refl
         rw (s .0, s .1) (sym (rw n at (after-tree w small (x ∷ xs) t e)))
 
 pub good-tokens : (w : ℕ) → w ≤ idRoom → (b : List ℕ) → GoodTokens w b
-unfolding tokens tokensFrom noBad hasCommitter secondsOf idLine strip
+unfolding tokens tokensFrom noBad hasCommitter secondsOf stampOf idLine strip
 good-tokens w small [] = refl
 good-tokens w small (x ∷ xs) = go (idLine w treeWord (x ∷ xs)) refl
   where
     go : (o : Option (Id × List ℕ)) → idLine w treeWord (x ∷ xs) ≡ o → allGood (tokens w (x ∷ xs)) ≡ isSome (secondsOf w (x ∷ xs))
-    go none e = let s = no-tree w (x ∷ xs) e in rw (s .0, s .1) (stopped w (x ∷ xs) (length xs) 0 ∙ sym (ap (λ (o : Option (Id × List ℕ)). isSome (afterTree w (suc (length xs)) o)) e))
+    go none e = let s = no-tree w (x ∷ xs) e in rw (s .0, s .1) (stopped w (x ∷ xs) (length xs) 0 ∙ sym (ap (λ (o : Option (Id × List ℕ)). isSome (secondsIn (afterTree w (suc (length xs)) o))) e))
     go (some t) e =
         let s = tree-step w (x ∷ xs) t e in
         let n : suc (length xs) - 1 ≡ length xs = omega arith in
-        rw (s .0, s .1) (parents-good w (x ∷ xs) (length xs) (treeSize w) ∙ sym (ap isSome (rw n at (seconds-after w small (x ∷ xs) t e))))
+        rw (s .0, s .1) (parents-good w (x ∷ xs) (length xs) (treeSize w) ∙ sym (some-seconds (rw n at (stamp-after w small (x ∷ xs) t e))))
 
 -- ---- readable, by the tokens
 
@@ -313,7 +329,7 @@ persons-author : (ts : List TokenRead) → (authorNext ts && isSome (personsNext
 persons-author [] = refl
 persons-author (t ∷ ts) = byCases (isAuthor (t .token)) (λ h. rw h) (λ h. rw h)
 
-read-some : (n : ℕ) (a : Bool) (o : Option ℤ) → isReadable (pick a (readAs n o) BadHeader) ≡ (a && isSome o)
+read-some : (n : ℕ) (a : Bool) (o : Option Stamped) → isReadable (pick a (readAs n o) BadHeader) ≡ (a && isSome o)
 read-some n true none = refl
 read-some n true (some s) = refl
 read-some n false o = refl
@@ -340,25 +356,26 @@ module _ (w : ℕ) (ts : List TokenRead) where
       (λ h. rw (h, many h) (sym (and-no (isSome (personsNext (pastParents ts))))))
       (λ h.
       rw (h, few h)
-      (read-some (length (take most (parentsOf w ts))) (authorNext (pastParents ts)) (personsNext (pastParents ts))
+      (read-some (length (take most (parentsOf w ts))) (authorNext (pastParents ts)) (stamped (secondsIn (personsNext (pastParents ts))) (zoneIn (personsNext (pastParents ts))))
+      ∙ ap (λ (o : Option Stamped). authorNext (pastParents ts) && isSome o) (stamp-whole (personsNext (pastParents ts)))
       ∙ persons-author (pastParents ts)
       ∙ sym (and-yes (isSome (personsNext (pastParents ts))))))
 
 pub readable-by-tokens : (w : ℕ) → w ≤ idRoom → (b : List ℕ) → ReadableTokens w b
-unfolding tokens tokensFrom readingOf header secondsOf idLine strip noBad hasCommitter
+unfolding tokens tokensFrom readingOf header secondsOf stampOf idLine strip noBad hasCommitter
 readable-by-tokens w small [] = refl
 readable-by-tokens w small (x ∷ xs) = go (idLine w treeWord (x ∷ xs)) refl
   where
     go : (o : Option (Id × List ℕ)) → idLine w treeWord (x ∷ xs) ≡ o → ReadableTokens w (x ∷ xs)
     go none e =
-        let a : allGood (tokens w (x ∷ xs)) ≡ false = good-tokens w small (x ∷ xs) ∙ ap (λ (o : Option (Id × List ℕ)). isSome (afterTree w (suc (length xs)) o)) e in
+        let a : allGood (tokens w (x ∷ xs)) ≡ false = good-tokens w small (x ∷ xs) ∙ ap (λ (o : Option (Id × List ℕ)). isSome (secondsIn (afterTree w (suc (length xs)) o))) e in
         ap (λ (o : Option (Id × List ℕ)). isReadable (readingOf (withTree w (x ∷ xs) o))) e
         ∙ sym (ap (λ (c : Bool). c && leb (length (parentsOf w (drop 1 (tokens w (x ∷ xs))))) most) a)
     go (some t) e =
         let ts : List TokenRead = tokensFrom (length xs) w (x ∷ xs) (here (treeSize w) ParentLines) in
         let n : suc (length xs) - 1 ≡ length xs = omega arith in
         let h : header w (x ∷ xs) ≡ afterTreeToken w ts = rw n at (after-tree w small (x ∷ xs) t e) in
-        let a : allGood (tokens w (x ∷ xs)) ≡ isSome (personsNext (pastParents ts)) = good-tokens w small (x ∷ xs) ∙ ap isSome (rw n at (seconds-after w small (x ∷ xs) t e)) in
+        let a : allGood (tokens w (x ∷ xs)) ≡ isSome (personsNext (pastParents ts)) = good-tokens w small (x ∷ xs) ∙ some-seconds (rw n at (stamp-after w small (x ∷ xs) t e)) in
         let r : drop 1 (tokens w (x ∷ xs)) ≡ ts = ap (tokensFrom (length xs) w (x ∷ xs)) (tree-step w (x ∷ xs) t e .1) in
         ap (λ (k : Header). isReadable (readingOf k)) h
         ∙ readable-of w ts

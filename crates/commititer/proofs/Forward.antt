@@ -6,10 +6,9 @@ use mathlib.Core.Option.{Option, none, some}
 use mathlib.Core.List.{List}
 use native.Mathlib.Omega.{arith}
 use lib.ListN.{length, drop, length-drop}
-use lib.IntN.{ℤ}
 use Rattle.hash.specs.Bytes.{Id, pick}
 use Rattle.hash.proofs.Tests.{some-in, clash}
-use Rattle.object.specs.Header.{idLine, treeWord, parentWord, authorLine, committerLine}
+use Rattle.object.specs.Header.{idLine, treeWord, parentWord, authorLine, Stamped, committerLine}
 use Rattle.object.proofs.Lines.{idLine-some}
 use Rattle.object.proofs.PersonLines.{author-ends}
 use Rattle.commititer.specs.Token.{here, isDone, treeTold, committerTold, authorTold, parentTold, lineIn, lineAt, placeOf, afterToken}
@@ -48,7 +47,7 @@ module _ (w : ℕ) (b : List ℕ) (i : ℕ) where
   by-parent none e = by-author (authorLine (drop i b)) refl
   by-parent (some t) e = by-id parentWord t e
 
-  by-committer : (o : Option ℤ) → left b (placeOf b (committerTold o)) < suc (length b - i)
+  by-committer : (o : Option Stamped) → left b (placeOf b (committerTold o)) < suc (length b - i)
   by-committer none = omega arith
   by-committer (some s) = omega arith
 

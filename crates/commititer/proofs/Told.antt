@@ -7,15 +7,14 @@ use mathlib.Core.Option.{Option, none, some}
 use mathlib.Core.List.{List, []}
 use native.Mathlib.Omega.{arith}
 use lib.ListN.{length, drop, length-drop}
-use lib.IntN.{ℤ}
 use Rattle.hash.specs.Bytes.{Id}
 use Rattle.hash.proofs.Tests.{clash}
-use Rattle.date.specs.declared.Seconds.{Seconds}
-use Rattle.object.specs.Header.{parentSize, idLine, parentWord}
-use Rattle.object.specs.Read.{lineRead, secondsRead, afterId, idRead, parentAt}
+use Rattle.date.specs.declared.Stamp.{Stamp}
+use Rattle.object.specs.Header.{parentSize, idLine, parentWord, Stamped}
+use Rattle.object.specs.Read.{lineRead, stampGiven, stampRead, afterId, idRead, parentAt}
 use Rattle.object.specs.declared.ParentLine.{ParentLine}
 use Rattle.object.specs.declared.Line.the-variants.{Good as GoodLine, Bad as BadLine}
-use Rattle.object.specs.declared.SecondsRead.the-variants.{Good as GoodSeconds, Bad as BadSeconds}
+use Rattle.object.specs.declared.StampRead.the-variants.{Good as GoodStamp, Bad as BadStamp}
 use Rattle.object.proofs.Parents.{parent-good, parent-fits}
 use Rattle.commititer.specs.Token.{here, bare, Told, treeTold, committerTold, authorTold, parentTold, tokenOf, ended, placeOf}
 use Rattle.commititer.specs.declared.Place.{Place}
@@ -69,15 +68,15 @@ author-bad b (some r) e = let z : _≡_ {A = ℕ} 0 1 = cc in absurd (omega arit
 
 -- ---- the committer line
 
-pub committer-good : (o : Option ℤ) (s : Seconds) → secondsRead o ≡ GoodSeconds s → committerTold o ≡ some (bare (Committer s), [])
+pub committer-good : (o : Option Stamped) (s : Stamp) → stampRead o ≡ GoodStamp s → committerTold o ≡ some (bare (Committer s), [])
 committer-good none s e = let z : _≡_ {A = ℕ} 0 1 = cc in absurd (omega arith)
-committer-good (some v) s e = let z : _≡_ {A = Seconds} (record { 0 = v }) s = cc in ap (λ (x : Seconds). some (bare (Committer x), [])) z
+committer-good (some v) s e = let z : stampGiven v ≡ s = cc in ap (λ (x : Stamp). some (bare (Committer x), [])) z
 
-pub committer-bad : (o : Option ℤ) → secondsRead o ≡ BadSeconds → committerTold o ≡ none
+pub committer-bad : (o : Option Stamped) → stampRead o ≡ BadStamp → committerTold o ≡ none
 committer-bad none e = refl
 committer-bad (some v) e = let z : _≡_ {A = ℕ} 0 1 = cc in absurd (omega arith)
 
 -- with or without it nothing more is read
-pub committer-last : (b : List ℕ) (o : Option ℤ) → placeOf b (committerTold o) ≡ ended b
+pub committer-last : (b : List ℕ) (o : Option Stamped) → placeOf b (committerTold o) ≡ ended b
 committer-last b none = refl
 committer-last b (some s) = let n : length b - 0 ≡ length b = omega arith in ap (λ (i : ℕ). here i Done) n

@@ -6,12 +6,12 @@ use mathlib.Core.Bool.{Bool, true, false}
 use mathlib.Core.Option.{Option, none, some}
 use mathlib.Core.List.{List, []}
 use lib.ListN.{length, drop, replicate}
-use lib.IntN.{ℤ}
 use lib.Dec.{ltb}
 use denote.Ref.{now}
 use Rattle.hash.specs.Bytes.{Id, widthOf, pick}
 use Rattle.object.specs.Ids.{idRoom, padded}
-use Rattle.object.specs.Header.{treeSize, parentSize, idLine, treeWord, parentWord, authorLine, committerLine}
+use Rattle.object.specs.Header.{treeSize, parentSize, idLine, treeWord, parentWord, authorLine, Stamped, committerLine}
+use Rattle.object.specs.Read.{stampGiven}
 use Rattle.commititer.specs.declared.State.{State}
 use Rattle.commititer.specs.declared.State.the-variants.{Tree as TreeLine, Parents as ParentLines, Committer as CommitterLine, Done}
 use Rattle.commititer.specs.declared.Place.{Place}
@@ -51,9 +51,9 @@ parentTold none other = other
 parentTold (some t) other = some (parentToken (t .0), t .1)
 
 -- nothing is read after the committer line
-abbrev pub committerTold : Option ℤ → Told
+abbrev pub committerTold : Option Stamped → Told
 committerTold none = none
-committerTold (some s) = some (bare (Committer (record { 0 = s })), [])
+committerTold (some s) = some (bare (Committer (stampGiven s)), [])
 
 -- the line at the front of a list, by which line may stand there: the tree line; a parent line, else the author line; the committer line;
 -- none

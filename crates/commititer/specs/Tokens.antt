@@ -11,8 +11,10 @@ use lib.IntN.{ℤ}
 use lib.Dec.{ltb, leb}
 use Rattle.hash.specs.Bytes.{Id, pick, setDown}
 use Rattle.object.specs.Ids.{idIn}
-use Rattle.object.specs.Header.{isSome, Header, most, secondsOf, header}
+use Rattle.object.specs.Header.{isSome, Stamped, secondsIn, zoneIn, Header, most, secondsOf, header}
 use Rattle.object.specs.Read.{readingOf}
+use Rattle.date.specs.declared.Zone.{Zone}
+use Rattle.date.specs.declared.Zone.the-variants.{Minutes, NoZone}
 use Rattle.object.specs.declared.Reading.{Reading}
 use Rattle.object.specs.declared.Reading.the-variants.{Readable, Bad as BadHeader, Crowded}
 use Rattle.commititer.specs.Token.{start, tokenAt, afterToken}
@@ -54,13 +56,18 @@ isAuthor (Committer s) = false
 isAuthor Bad = false
 isAuthor End = false
 
-abbrev pub secondsTold : Token → Option ℤ
-secondsTold Tree = none
-secondsTold Parent = none
-secondsTold Author = none
-secondsTold (Committer s) = some (s .0)
-secondsTold Bad = none
-secondsTold End = none
+-- a committer's seconds and zone
+abbrev pub zoneTold : Zone → Option ℤ
+zoneTold NoZone = none
+zoneTold (Minutes z) = some z
+
+abbrev pub stampTold : Token → Option Stamped
+stampTold Tree = none
+stampTold Parent = none
+stampTold Author = none
+stampTold (Committer s) = some (record { seconds = s .seconds .0; zone = zoneTold (s .zone) })
+stampTold Bad = none
+stampTold End = none
 
 abbrev pub isBad : Token → Bool
 isBad Tree = false
@@ -90,11 +97,11 @@ abbrev pub authorNext : List TokenRead → Bool
 authorNext [] = false
 authorNext (t ∷ ts) = isAuthor (t .token)
 
-abbrev pub committerNext : List TokenRead → Option ℤ
+abbrev pub committerNext : List TokenRead → Option Stamped
 committerNext [] = none
-committerNext (t ∷ ts) = secondsTold (t .token)
+committerNext (t ∷ ts) = stampTold (t .token)
 
-abbrev pub personsNext : List TokenRead → Option ℤ
+abbrev pub personsNext : List TokenRead → Option Stamped
 personsNext [] = none
 personsNext (t ∷ ts) = pick (isAuthor (t .token)) (committerNext ts) none
 
@@ -105,11 +112,12 @@ afterTreeToken w ts = record {
   ids = take most (parentsOf w ts);
   crowded = ltb most (length (parentsOf w ts));
   author = leb (length (parentsOf w ts)) most && authorNext (pastParents ts);
-  seconds = personsNext (pastParents ts);
+  seconds = secondsIn (personsNext (pastParents ts));
+  zone = zoneIn (personsNext (pastParents ts));
 }
 
 abbrev pub noHeader : Header
-noHeader = record { tree = false; ids = []; crowded = false; author = false; seconds = none }
+noHeader = record { tree = false; ids = []; crowded = false; author = false; seconds = none; zone = none }
 
 abbrev pub headerOf : ℕ → List TokenRead → Header
 headerOf w [] = noHeader
@@ -128,7 +136,7 @@ noBad (t ∷ ts) = let r = noBad ts in pick (isBad (t .token)) false r
 
 unfoldable pub hasCommitter : List TokenRead → Bool
 hasCommitter [] = false
-hasCommitter (t ∷ ts) = let r = hasCommitter ts in pick (isSome (secondsTold (t .token))) true r
+hasCommitter (t ∷ ts) = let r = hasCommitter ts in pick (isSome (stampTold (t .token))) true r
 
 abbrev pub allGood : List TokenRead → Bool
 allGood ts = noBad ts && hasCommitter ts

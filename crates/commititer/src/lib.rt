@@ -1,11 +1,11 @@
 // The header lines of one commit one by one, as gix_object::CommitRefIter gives them: a struct of the commit's body, a place in it and the
 // id kind. The place says which line may stand there, so that only tree, parents, author and committer in this order are good. The
 // functions over the struct are thin; above them stand functions with plain parameters, for whoever reads a commit.
-use date::Seconds;
+use date::Stamp;
 use hash::Kind;
 use object::Line;
 use object::ObjectId;
-use object::SecondsRead;
+use object::StampRead;
 use object::person;
 ghost use Prim.Native.Nat.{ℕ};
 ghost use mathlib.Core.Path.{_≡_};
@@ -30,14 +30,14 @@ ghost use Rattle.commititer.specs.Token.{
 };
 ghost use Rattle.commititer.specs.Tokens.{isTree, isParent, isAuthor, parentDown};
 
-// What stands at a place of a header: one of the four kinds of line, the committer's with its seconds; a line that is not the one that may
+// What stands at a place of a header: one of the four kinds of line, the committer's with its seconds and zone; a line that is not the one that may
 // stand there, or is bad; or nothing more to read. It has what a walk over commits asks of a line and no more, so a tree's id and an
 // author's bytes are left out.
 pub enum Token {
     Tree,
     Parent,
     Author,
-    Committer(Seconds),
+    Committer(Stamp),
     Bad,
     End,
 }
@@ -130,8 +130,8 @@ fn committer_token(data: &[u8], at: usize) -> TokenRead
     ensures { λ r. ⌜ r ≡ tokenOf (now («data» .entry)) (here at State.Committer) (committerTold (committerLine (drop at (now («data» .entry))))) ⌝ }
 {
     match person::committer_line(data, at) {
-        SecondsRead::Good(seconds) => without_id(Token::Committer(seconds)),
-        SecondsRead::Bad => no_line(data, at),
+        StampRead::Good(stamp) => without_id(Token::Committer(stamp)),
+        StampRead::Bad => no_line(data, at),
     }
 }
 

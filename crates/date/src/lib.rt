@@ -1,10 +1,22 @@
-// Committer time (gix_date): seconds since 1970, signed.
+// Committer time (gix_date): seconds since 1970, signed, and the zone beside them.
 ghost use mathlib.Core.Path.{_≡_};
 ghost use lib.IntN.{pos, natAbs};
 ghost use lib.Signed.{ltZ};
 
 // Document 01's seconds. Compared only with seconds, never with a generation.
 pub struct Seconds(pub i64);
+
+// The zone of a clock in signed minutes, or none where none can be read.
+pub enum Zone {
+    Minutes(i64),
+    NoZone,
+}
+
+// What a committer line says of its time. The seconds count from 1970 in every zone, so no order looks at the zone.
+pub struct Stamp {
+    pub seconds: Seconds,
+    pub zone: Zone,
+}
 
 // Whether a lies before b.
 pub fn before(a: Seconds, b: Seconds) -> bool

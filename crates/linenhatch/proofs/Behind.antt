@@ -78,11 +78,11 @@ module _ (words id numbers : List ℕ) (seconds : List ℤ) (h : roomToCall word
   long-id : idBytes ≤ length id
   unfolding roomToCall
   long-id =
-      leb-true idBytes (length id) (and-second (leb recordWords (length words)) (leb idBytes (length id)) (and-first tests (leb 7 (length numbers)) (and-first (tests && leb 7 (length numbers)) (leb 1 (length seconds)) h)))
+      leb-true idBytes (length id) (and-second (leb recordWords (length words)) (leb idBytes (length id)) (and-first tests (leb 8 (length numbers)) (and-first (tests && leb 8 (length numbers)) (leb 2 (length seconds)) h)))
 
-  long-numbers : 7 ≤ length numbers
+  long-numbers : 8 ≤ length numbers
   unfolding roomToCall
-  long-numbers = leb-true 7 (length numbers) (and-second tests (leb 7 (length numbers)) (and-first (tests && leb 7 (length numbers)) (leb 1 (length seconds)) h))
+  long-numbers = leb-true 8 (length numbers) (and-second tests (leb 8 (length numbers)) (and-first (tests && leb 8 (length numbers)) (leb 2 (length seconds)) h))
 
 -- ---- what the caller reads
 

@@ -25,8 +25,8 @@ unfolding roomToCall
 long-words words id numbers seconds h =
     let a = leb recordWords (length words) in
     let b = leb idBytes (length id) in
-    let d = leb 7 (length numbers) in
-    leb-true recordWords (length words) (and-first a b (and-first (a && b) d (and-first (a && b && d) (leb 1 (length seconds)) h)))
+    let d = leb 8 (length numbers) in
+    leb-true recordWords (length words) (and-first a b (and-first (a && b) d (and-first (a && b && d) (leb 2 (length seconds)) h)))
 
 pub no-room-says : (f : Files) (m : Lent) (words id numbers : List ℕ) (seconds : List ℤ) {b : Bool} → b ≡ roomToCall words id numbers seconds → b ≡ false
     → LibraryNext f m m words words id id numbers numbers seconds seconds noRoom

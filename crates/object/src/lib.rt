@@ -3,6 +3,7 @@ mod id;
 pub mod person;
 
 use date::Seconds;
+use date::Stamp;
 use hash::Kind;
 pub use id::id_of;
 pub use id::id_slice;
@@ -13,8 +14,8 @@ ghost use Prim.Native.Nat.{_+_, _*_, _/_, _≤_, _<_};
 ghost use lib.Dec.{eqb};
 ghost use lib.ListN.{length, drop};
 ghost use Rattle.hash.specs.Bytes.{widthOf};
-ghost use Rattle.object.specs.Header.{treeSize, parentSize, isSome, strip, hexVal, hexBytes, idLine, parentWord, parentLines, most, authorLine, afterAuthor, secondsOf, header};
-ghost use Rattle.object.specs.Read.{idRead, idDown, Decodes, treeAt, parentAt, afterParents, secondsRead, readingOf};
+ghost use Rattle.object.specs.Header.{treeSize, parentSize, isSome, strip, hexVal, hexBytes, idLine, parentWord, parentLines, most, authorLine, afterAuthor, stampOf, header};
+ghost use Rattle.object.specs.Read.{idRead, idDown, Decodes, treeAt, parentAt, afterParents, stampRead, readingOf};
 
 // A line that was read: the place after its newline.
 pub enum Line {
@@ -22,9 +23,15 @@ pub enum Line {
     Bad,
 }
 
-// The seconds of a committer line that was read.
+// The seconds of a committer line's bytes; also what definitions say of whoever wants no more than them.
 pub enum SecondsRead {
     Good(Seconds),
+    Bad,
+}
+
+// The seconds and the zone of a committer line that was read.
+pub enum StampRead {
+    Good(Stamp),
     Bad,
 }
 
@@ -41,7 +48,7 @@ pub struct ParentLine {
 
 // A whole header: readable, with a bad line, or with a good 257th parent line before any bad line.
 pub enum Reading {
-    Readable { parents: usize, seconds: Seconds },
+    Readable { parents: usize, stamp: Stamp },
     Bad,
     Crowded,
 }
@@ -307,12 +314,12 @@ pub fn count_parents(kind: Kind, body: &[u8], at: usize) -> usize
 }
 
 // The author line at a place and the committer line after it.
-fn person_lines(body: &[u8], at: usize) -> SecondsRead
-    ensures { λ r. ⌜ r ≡ secondsRead (afterAuthor (authorLine (drop at (now (body .entry))))) ⌝ }
+fn person_lines(body: &[u8], at: usize) -> StampRead
+    ensures { λ r. ⌜ r ≡ stampRead (afterAuthor (authorLine (drop at (now (body .entry))))) ⌝ }
 {
     match person::author_line(body, at) {
         Line::Good(next) => person::committer_line(body, next),
-        Line::Bad => SecondsRead::Bad,
+        Line::Bad => StampRead::Bad,
     }
 }
 
@@ -329,20 +336,32 @@ pub fn readable(kind: Kind, body: &[u8]) -> Reading
         return Reading::Crowded;
     }
     match person_lines(body, p) {
-        SecondsRead::Good(s) => Reading::Readable {
+        StampRead::Good(s) => Reading::Readable {
             parents: n,
-            seconds: s,
+            stamp: s,
         },
-        SecondsRead::Bad => Reading::Bad,
+        StampRead::Bad => Reading::Bad,
     }
 }
 
-// The seconds alone: parents are not counted.
-pub fn seconds_only(kind: Kind, body: &[u8]) -> SecondsRead
-    ensures { λ r. ⌜ r ≡ secondsRead (secondsOf (widthOf kind) (now (body .entry))) ⌝ }
+// The committer reading alone: parents are not counted.
+pub fn stamp_only(kind: Kind, body: &[u8]) -> StampRead
+    ensures { λ r. ⌜ r ≡ stampRead (stampOf (widthOf kind) (now (body .entry))) ⌝ }
 {
     let Line::Good(at) = tree_line(kind, body, 0) else {
-        return SecondsRead::Bad;
+        return StampRead::Bad;
     };
+    person_lines(body, after_parents(kind, body, at))
+}
+
+// The same where the tree line and so many parent lines are known to be good: these are not read again.
+pub fn stamp_past(kind: Kind, body: &[u8], known: usize) -> StampRead
+    ensures { λ r. ⌜ (header (widthOf kind) (now (body .entry)) .tree ≡ true → known ≤ length (header (widthOf kind) (now (body .entry)) .ids) → r ≡ stampRead (stampOf (widthOf kind) (now (body .entry)))) ⌝ }
+{
+    if MOST_PARENTS < known {
+        return StampRead::Bad;
+    }
+    let size = parent_size(kind);
+    let at = tree_size(kind) + size * known;
     person_lines(body, after_parents(kind, body, at))
 }

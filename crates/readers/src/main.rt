@@ -53,10 +53,10 @@ fn stored(store: &[u8], id: &[u8]) {
         return;
     }
     match object::readable(Kind::Sha1, body) {
-        Reading::Readable {
-            parents: n,
-            seconds: s,
-        } => counted(n, s),
+        Reading::Readable { parents: n, stamp } => {
+            let s = stamp.seconds;
+            counted(n, s);
+        }
         Reading::Bad => text(b"a bad header line"),
         Reading::Crowded => text(b"over 256 parents"),
     }

@@ -1,37 +1,64 @@
--- Laws of seconds that are read from the store alone: a header's seconds are what `seconds_only` reads, and in a good store a lookup finds the
+-- Laws of seconds that are read from the store alone: a header's seconds are what `stamp_only` reads, and in a good store a lookup finds the
 -- header that the walk's world has. Assumes nothing.
 use mathlib.Core.Path.{_≡_, refl, sym, _∙_, ap}
 use Prim.Native.Nat.{ℕ}
 use mathlib.Core.Bool.{Bool, true, false}
 use mathlib.Core.Option.{Option, none, some}
 use mathlib.Core.List.{List}
-use lib.ListN.{length}
+use native.Mathlib.Omega.{arith}
 use lib.IntN.{ℤ, pos}
 use Rattle.hash.specs.Bytes.{Id, ifSome}
 use Rattle.date.specs.declared.Seconds.{Seconds}
-use Rattle.object.specs.Header.{Header, header, idLine, treeWord, withTree, afterTree, secondsOf}
-use Rattle.object.specs.Read.{secondsRead}
-use Rattle.object.specs.declared.SecondsRead.{SecondsRead}
+use Rattle.date.specs.declared.Stamp.{Stamp}
+use Rattle.date.specs.declared.Zone.the-variants.{NoZone}
+use Rattle.object.specs.Header.{Header, header, Stamped, stampOf, secondsIn, zoneIn, secondsOf, zoneOf}
+use Rattle.object.specs.Read.{secondsRead, zoneGiven, stampGiven, stampRead}
+use Rattle.object.specs.declared.StampRead.{StampRead}
+use Rattle.object.specs.declared.StampRead.the-variants.{Good as GoodStamp, Bad as BadStamp}
+use Rattle.object.proofs.Stamps.{header-stamp}
 use Rattle.odb.specs.Store.{storeOk}
 use Rattle.odb.specs.Lookup.{TriesFind}
 use Rattle.walk.specs.Lookup.{worldOf, storeSeconds, secondsFor}
-use Rattle.reading.specs.Tip.{tipSeconds, tipOf, tipIn, ReadsTip, secondsOr0, GivesSeconds}
+use Rattle.reading.specs.Tip.{tipStamp, tipSeconds, tipOf, tipIn, ReadsTip, secondsOr0, GivesSeconds}
 use Rattle.reading.specs.declared.tip.TipRead.{TipRead}
 use Rattle.reading.specs.declared.tip.TipRead.the-variants.{Missing}
 use Rattle.reading.proofs.World.{tried-body, tried-none}
 use Rattle.hash.specs.Bytes.{idBytes}
 
 pub header-seconds : (b : List ℕ) → header idBytes b .seconds ≡ secondsOf idBytes b
-unfolding header secondsOf
-header-seconds b = go (idLine idBytes treeWord b) refl
-  where
-    go : (o : Option (Id × List ℕ)) → idLine idBytes treeWord b ≡ o → withTree idBytes b o .seconds ≡ secondsOf idBytes b
-    go none e = ap (afterTree idBytes (length b)) (sym e)
-    go (some t) e = refl
+header-seconds b = header-stamp idBytes b .0
 
--- the store has a body under x, and its seconds were read
-pub tip-body : {s : List ℕ} {x : Id} {f : Bool} {b : List ℕ} {q : SecondsRead} {r : TipRead} → TriesFind idBytes s x f b → f ≡ true → q ≡ secondsRead (secondsOf idBytes b) → r ≡ tipSeconds q → ReadsTip s x r
-tip-body {f = f} {b = b} l p e k = record { found = f; body = b; looked = l; is = k ∙ ap tipSeconds e ∙ ap (λ (t : Bool). tipIn t b) (sym p) }
+-- a tip by its committer reading is the tip by its seconds: the zone is not looked at
+tip-stamp : (o : Option Stamped) → tipStamp (stampRead o) ≡ tipSeconds (secondsRead (secondsIn o))
+tip-stamp none = refl
+tip-stamp (some s) = refl
+
+-- the store has a body under x, and its committer line was read
+pub tip-body : {s : List ℕ} {x : Id} {f : Bool} {b : List ℕ} {q : StampRead} {r : TipRead} → TriesFind idBytes s x f b → f ≡ true → q ≡ stampRead (stampOf idBytes b) → r ≡ tipStamp q → ReadsTip s x r
+unfolding secondsOf
+tip-body {f = f} {b = b} l p e k = record { found = f; body = b; looked = l; is = k ∙ ap tipStamp e ∙ tip-stamp (stampOf idBytes b) ∙ ap (λ (t : Bool). tipIn t b) (sym p) }
+
+-- ---- the zone: the header's is the committer reading's, so what was read of that tells it
+
+zone-good : (o : Option Stamped) (s : Stamp) → stampRead o ≡ GoodStamp s → s .zone ≡ zoneGiven (zoneIn o)
+zone-good none s e = let z : _≡_ {A = ℕ} 0 1 = cc in absurd (omega arith)
+zone-good (some v) s e = let z : stampGiven v ≡ s = cc in ap (λ (t : Stamp). t .zone) (sym z)
+
+zone-bad : (o : Option Stamped) → stampRead o ≡ BadStamp → NoZone ≡ zoneGiven (zoneIn o)
+zone-bad none e = refl
+zone-bad (some v) e = let z : _≡_ {A = ℕ} 0 1 = cc in absurd (omega arith)
+
+module _ (b : List ℕ) {q : StampRead} (read : q ≡ stampRead (stampOf idBytes b)) where
+  header-zone : zoneGiven (zoneOf idBytes b) ≡ zoneGiven (header idBytes b .zone)
+  header-zone = ap zoneGiven (sym (header-stamp idBytes b .1))
+
+  pub zone-told : (s : Stamp) → q ≡ GoodStamp s → s .zone ≡ zoneGiven (header idBytes b .zone)
+  unfolding zoneOf
+  zone-told s e = zone-good (stampOf idBytes b) s (sym read ∙ e) ∙ header-zone
+
+  pub no-zone-told : q ≡ BadStamp → NoZone ≡ zoneGiven (header idBytes b .zone)
+  unfolding zoneOf
+  no-zone-told e = zone-bad (stampOf idBytes b) (sym read ∙ e) ∙ header-zone
 
 pub tip-missing : {s : List ℕ} {x : Id} {f : Bool} {b : List ℕ} → TriesFind idBytes s x f b → f ≡ false → ReadsTip s x Missing
 tip-missing {f = f} {b = b} l p = record { found = f; body = b; looked = l; is = ap (λ (t : Bool). tipIn t b) (sym p) }

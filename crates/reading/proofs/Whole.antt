@@ -11,7 +11,7 @@ use lib.IntN.{ℤ, pos}
 use Rattle.hash.specs.Bytes.{Id, ifSome, pick}
 use Rattle.hash.proofs.Tests.{byCases}
 use Rattle.date.specs.declared.Seconds.{Seconds}
-use Rattle.object.specs.Header.{Header, header, most}
+use Rattle.object.specs.Header.{Header, header, most, stamped}
 use Rattle.object.specs.Read.{readAs, readingOf}
 use Rattle.object.specs.declared.ObjectId.{ObjectId}
 use Rattle.object.specs.declared.Reading.{Reading}
@@ -112,7 +112,7 @@ body-told a e h = go (h .tree) (h .crowded) (h .author) (h .seconds)
     go : (t c u : Bool) (o : Option ℤ)
         → BodyTold a e (length (h .ids))
         (cond t (cond c (fail TooManyParents) (cond u (whole o) (fail CommitUnreadable))) (fail CommitUnreadable))
-        (bodyCommit a e (pick t (pick c Crowded (pick u (readAs (length (h .ids)) o) Bad)) Bad))
+        (bodyCommit a e (pick t (pick c Crowded (pick u (readAs (length (h .ids)) (stamped o (h .zone))) Bad)) Bad))
     go false c u o = told-failed a e (length (h .ids)) CommitUnreadable
     go true true u o = told-failed a e (length (h .ids)) TooManyParents
     go true false false o = told-failed a e (length (h .ids)) CommitUnreadable

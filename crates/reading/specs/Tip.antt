@@ -11,10 +11,17 @@ use Rattle.object.specs.Header.{Header, secondsOf}
 use Rattle.object.specs.Read.{secondsRead}
 use Rattle.object.specs.declared.SecondsRead.{SecondsRead}
 use Rattle.object.specs.declared.SecondsRead.the-variants.{Good as GoodSeconds, Bad as BadSeconds}
+use Rattle.object.specs.declared.StampRead.{StampRead}
+use Rattle.object.specs.declared.StampRead.the-variants.{Good as GoodStamp, Bad as BadStamp}
 use Rattle.odb.specs.Lookup.{TriesFind}
 use Rattle.reading.specs.declared.tip.TipRead.{TipRead}
 use Rattle.reading.specs.declared.tip.TipRead.the-variants.{Good, Missing, Unreadable}
 use Rattle.hash.specs.Bytes.{idBytes}
+
+-- a tip by its committer reading, and by its seconds alone
+abbrev pub tipStamp : StampRead → TipRead
+tipStamp (GoodStamp s) = Good (s .seconds)
+tipStamp BadStamp = Unreadable
 
 abbrev pub tipSeconds : SecondsRead → TipRead
 tipSeconds (GoodSeconds s) = Good s

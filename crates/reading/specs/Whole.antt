@@ -41,7 +41,7 @@ rowCommit p q (some ps) = Row p (length ps) q
 -- the commit of the body from a to e, given what its header reads as: "unreadable (10) or crowded (11)"; "Without a graph row the level
 -- is 0xFFFFFFFF"
 abbrev pub bodyCommit : ℕ → ℕ → Reading → Commit
-bodyCommit a e (Readable n s) = Body a e n (record { generation = record { 0 = noGeneration }; time = s })
+bodyCommit a e (Readable n s) = Body a e n (record { generation = record { 0 = noGeneration }; time = s .seconds })
 bodyCommit a e Bad = Failed CommitUnreadable
 bodyCommit a e Crowded = Failed TooManyParents
 

@@ -29,6 +29,7 @@ pub use tip::TipRead;
 pub use tip::read_tip;
 pub use tip::seconds_for;
 pub use tip::seconds_noting;
+pub use tip::zone_past;
 use walk::GenThenTime;
 use walk::Refusal;
 ghost use mathlib.Core.Path.{_≡_};
@@ -112,15 +113,18 @@ fn body_commit(body: &[u8], start: usize, end: usize) -> Commit
     ensures { λ r. ⌜ r ≡ bodyCommit start end (readingOf (header idBytes (now (body .entry)))) ⌝ }
 {
     match object::readable(Kind::Sha1, body) {
-        Reading::Readable { parents, seconds } => Commit::Body {
-            start,
-            end,
-            parents,
-            pair: GenThenTime {
-                generation: Level(rows::NO_GENERATION),
-                time: seconds,
-            },
-        },
+        Reading::Readable { parents, stamp } => {
+            let time = stamp.seconds;
+            Commit::Body {
+                start,
+                end,
+                parents,
+                pair: GenThenTime {
+                    generation: Level(rows::NO_GENERATION),
+                    time,
+                },
+            }
+        }
         Reading::Bad => Commit::Failed(Refusal::CommitUnreadable),
         Reading::Crowded => Commit::Failed(Refusal::TooManyParents),
     }

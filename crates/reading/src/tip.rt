@@ -1,10 +1,16 @@
-// A commit's committer time, from the store alone.
+// A commit's committer time and zone, from the store alone.
 use date::Seconds;
+use date::Zone;
 use hash::Kind;
-use object::SecondsRead;
+use object::StampRead;
 ghost use mathlib.Core.Path.{_≡_};
+ghost use mathlib.Core.Bool.{true};
+ghost use Prim.Native.Nat.{_≤_};
+ghost use lib.ListN.{length};
 ghost use Rattle.odb.specs.Lookup.{NotesEntry};
-ghost use Rattle.reading.specs.Tip.{tipSeconds, ReadsTip, secondsOr0, GivesSeconds};
+ghost use Rattle.object.specs.Header.{header};
+ghost use Rattle.object.specs.Read.{zoneGiven};
+ghost use Rattle.reading.specs.Tip.{tipStamp, ReadsTip, secondsOr0, GivesSeconds};
 ghost use Rattle.hash.specs.Bytes.{idBytes};
 
 // A tip that was read at the opening: its seconds; or the store lacks it; or its header is not good through the committer line.
@@ -15,12 +21,15 @@ pub enum TipRead {
 }
 
 // The seconds of a header as those of a tip.
-fn tip_seconds(read: SecondsRead) -> TipRead
-    ensures { λ r. ⌜ r ≡ tipSeconds read ⌝ }
+fn tip_seconds(read: StampRead) -> TipRead
+    ensures { λ r. ⌜ r ≡ tipStamp read ⌝ }
 {
     match read {
-        SecondsRead::Good(s) => TipRead::Good(s),
-        SecondsRead::Bad => TipRead::Unreadable,
+        StampRead::Good(s) => {
+            let seconds = s.seconds;
+            TipRead::Good(seconds)
+        }
+        StampRead::Bad => TipRead::Unreadable,
     }
 }
 
@@ -31,7 +40,7 @@ fn read_tip_noting(store: &[u8], id: &[u8], entry: &mut usize) -> TipRead
     let mut found = false;
     let body = odb::try_find_noting(Kind::Sha1, store, id, &mut found, entry);
     if found {
-        tip_seconds(object::seconds_only(Kind::Sha1, body))
+        tip_seconds(object::stamp_only(Kind::Sha1, body))
     } else {
         TipRead::Missing
     }
@@ -69,4 +78,18 @@ pub fn seconds_for(store: &[u8], id: &[u8]) -> Seconds
     ensures { λ r. ⌜ GivesSeconds (now (store .entry)) (now (id .entry)) r ⌝ }
 {
     seconds_or_0(read_tip(store, id))
+}
+
+// The zone of a body whose tree line and first `known` parent lines are good, past all its parent lines: none where a line up to the
+// committer's is bad.
+pub fn zone_past(body: &[u8], known: usize) -> Zone
+    ensures { λ r. ⌜ (header idBytes (now (body .entry)) .tree ≡ true → known ≤ length (header idBytes (now (body .entry)) .ids) → r ≡ zoneGiven (header idBytes (now (body .entry)) .zone)) ⌝ }
+{
+    match object::stamp_past(Kind::Sha1, body, known) {
+        StampRead::Good(stamp) => {
+            let zone = stamp.zone;
+            zone
+        }
+        StampRead::Bad => Zone::NoZone,
+    }
 }

@@ -5,6 +5,7 @@
 ghost use Prim.Native.Nat.{_≤_, _<_};
 ghost use Rattle.io.specs.Counts.{Counts};
 use date::Seconds;
+use date::Zone;
 use hash::Kind;
 use libc::STDOUT_FILENO;
 use state::Record;
@@ -98,6 +99,15 @@ fn seconds(t: MaybeSeconds) {
     }
 }
 
+// The zone in signed minutes, `-` where there is none.
+fn zone(z: Zone) {
+    text(b" zone ");
+    match z {
+        Zone::Minutes(m) => signed(Seconds(m)),
+        Zone::NoZone => text(b"-"),
+    }
+}
+
 // The running numbers of a walk.
 fn numbers(admitted: usize, struck: usize, waiting: usize) {
     count(b" admitted ", admitted);
@@ -170,6 +180,8 @@ fn print_answer(a: Answer, parents: &[u8]) {
     seconds(time);
     numbers(a.admitted, a.struck, a.waiting);
     parents_of(parents, info.parents);
+    let beside = info.zone;
+    zone(beside);
     text(b"\n");
 }
 

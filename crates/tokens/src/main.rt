@@ -6,6 +6,8 @@ use commititer::State;
 use commititer::Token;
 use commititer::TokenRead;
 use date::Seconds;
+use date::Stamp;
+use date::Zone;
 use hash::Kind;
 use libc::STDOUT_FILENO;
 ghost use Prim.Native.Nat.{_≤_};
@@ -34,6 +36,20 @@ fn seconds(s: Seconds) {
     io::print_decimal(STDOUT_FILENO, date::magnitude(s));
 }
 
+// The committer's seconds, and its zone in signed minutes.
+fn stamp(s: Stamp) {
+    let time = s.seconds;
+    seconds(time);
+    let zone = s.zone;
+    match zone {
+        Zone::Minutes(m) => {
+            text(b" zone ");
+            seconds(Seconds(m));
+        }
+        Zone::NoZone => text(b" zone none"),
+    }
+}
+
 fn print(kind: Kind, read: TokenRead) {
     let token = read.token;
     let id = read.id;
@@ -46,7 +62,7 @@ fn print(kind: Kind, read: TokenRead) {
         Token::Author => text(b"author"),
         Token::Committer(s) => {
             text(b"committer ");
-            seconds(s);
+            stamp(s);
         }
         Token::Bad => text(b"bad"),
         Token::End => text(b"end"),

@@ -11,6 +11,7 @@ use Rattle.walk.specs.declared.Refusal.{Refusal}
 use Rattle.walk.specs.declared.Outcome.the-variants.{End, Refused}
 use Rattle.walk.specs.declared.MaybeLevel.the-variants.{NoGeneration}
 use Rattle.walk.specs.declared.MaybeSeconds.the-variants.{NoTime}
+use Rattle.date.specs.declared.Zone.the-variants.{NoZone}
 use Rattle.walk.specs.State.{State}
 use Rattle.walk.specs.Opening.{Input, walkOf}
 use Rattle.walk.specs.Next.{refused, step, takeNext, next, firstCall}
@@ -84,11 +85,11 @@ none-down w st b = set-down-none b
 
 -- the numbers of painting's refusal are those of its state
 refused-given : {r : Record} {m : Memory} {sh : Shape} {st : State} (w : Refusal) → Reads r m sh st
-    → gave (Refused w) noId 0 NoGeneration NoTime r .answer ≡ given (step (refused w) [] st .answer)
+    → gave (Refused w) noId 0 NoGeneration NoTime NoZone r .answer ≡ given (step (refused w) [] st .answer)
 unfolding step given
 refused-given w g = λ k. record {
   outcome = Refused w;
-  info = record { id = noId; parents = 0; generation = NoGeneration; time = NoTime };
+  info = record { id = noId; parents = 0; generation = NoGeneration; time = NoTime; zone = NoZone };
   admitted = sym (g .admitted) k;
   struck = sym (g .struck) k;
   waiting = sym (queue-length g) k;
@@ -119,7 +120,7 @@ module _ {f : Files} {r : Record} {m : Lent} {p : painted.Painted} {m₁ : Memor
   }
 
   -- painting is refused
-  pub refused-goes : {r₁ : Record} {o : Out} (w : Refusal) (levels : List ℕ) → p ≡ painting.Refused w r₁ → GivesBack (gave (Refused w) noId 0 NoGeneration NoTime r₁) o
+  pub refused-goes : {r₁ : Record} {o : Out} (w : Refusal) (levels : List ℕ) → p ≡ painting.Refused w r₁ → GivesBack (gave (Refused w) noId 0 NoGeneration NoTime NoZone r₁) o
       → Goes false f r m o (record { memory = m₁; levels = levels; parents = m .parents })
   refused-goes {r₁} {o} w levels y b =
       let c = subst RefusesBy y (d .of-call) in
@@ -136,7 +137,7 @@ module _ {f : Files} {r : Record} {m : Lent} {p : painted.Painted} {m₁ : Memor
       }
 
   -- the memory was seen to be touched
-  pub touched-goes : {o : Out} (r₁ : Record) (levels : List ℕ) → p ≡ painting.Touched → GivesBack (gave End noId 0 NoGeneration NoTime r₁) o
+  pub touched-goes : {o : Out} (r₁ : Record) (levels : List ℕ) → p ≡ painting.Touched → GivesBack (gave End noId 0 NoGeneration NoTime NoZone r₁) o
       → Goes false f r m o (record { memory = m₁; levels = levels; parents = m .parents })
   touched-goes r₁ levels y b =
       let q = plain-end (m .parents) r₁ in

@@ -19,6 +19,9 @@ use Rattle.walk.specs.declared.MaybeLevel.{MaybeLevel}
 use Rattle.walk.specs.declared.MaybeLevel.the-variants.{Generation, NoGeneration}
 use Rattle.walk.specs.declared.MaybeSeconds.{MaybeSeconds}
 use Rattle.walk.specs.declared.MaybeSeconds.the-variants.{Time, NoTime}
+use Rattle.date.specs.declared.Zone.{Zone}
+use Rattle.date.specs.declared.Zone.the-variants.{Minutes, NoZone}
+use Rattle.object.specs.Read.{zoneGiven}
 use Rattle.walk.specs.Opening.{listIds}
 use Rattle.walk.specs.Next.{Kind, end, refused, handed, Answer}
 use Rattle.walk.specs.Calls.{shut}
@@ -28,7 +31,7 @@ use Rattle.walk.proofs.Whole.{length-list}
 use Rattle.walk.proofs.Width.{list-wide}
 use Rattle.state.specs.declared.Record.{Record}
 use Rattle.visit.specs.Taking.{gave}
-use Rattle.visit.specs.Plain.{Counted, ShapedBy, Plain}
+use Rattle.visit.specs.Plain.{Bare, Counted, ShapedBy, Plain}
 use Rattle.reading.proofs.Down.{set-down-none}
 use Rattle.traverse.specs.Contract.{closedAnswer, OfPaper}
 
@@ -78,6 +81,14 @@ seconds-in : (s : MaybeSeconds) → s ≡ secondsGiven (secondsIn s)
 seconds-in (Time s) = refl
 seconds-in NoTime = refl
 
+abbrev zoneIn : Zone → Option ℤ
+zoneIn (Minutes m) = some m
+zoneIn NoZone = none
+
+zone-in : (z : Zone) → z ≡ zoneGiven (zoneIn z)
+zone-in (Minutes m) = refl
+zone-in NoZone = refl
+
 abbrev kindIn : Outcome → Given → Kind
 kindIn Commit a = handed (a .info .id) (levelIn (a .info .generation)) (secondsIn (a .info .time))
 kindIn End a = end
@@ -113,12 +124,26 @@ counted-in Commit a s r e = let z : _≡_ {A = ℕ} 0 1 = cc in absurd (omega ar
 counted-in End a s r e = let z : _≡_ {A = ℕ} 0 1 = cc in absurd (omega arith)
 counted-in (Refused q) a s r e = let z : q ≡ r = cc in subst (λ (y : Refusal). Counted y (a .info .parents)) z (s .2)
 
+-- card 7: an answer without a commit has no zone
+bare-zone : (a : Given) → Bare a → zoneIn (a .info .zone) ≡ none
+bare-zone a b = ap zoneIn (b .no-zone)
+
+end-zone-in : (o : Outcome) (a : Given) → ShapedBy o a → kindIn o a ≡ end → zoneIn (a .info .zone) ≡ none
+end-zone-in Commit a s e = let z : _≡_ {A = ℕ} 0 1 = cc in absurd (omega arith)
+end-zone-in End a s e = bare-zone a (s .0)
+end-zone-in (Refused q) a s e = bare-zone a (s .0)
+
+refused-zone-in : (o : Outcome) (a : Given) → ShapedBy o a → (r : Refusal) → kindIn o a ≡ refused r → zoneIn (a .info .zone) ≡ none
+refused-zone-in Commit a s r e = let z : _≡_ {A = ℕ} 0 1 = cc in absurd (omega arith)
+refused-zone-in End a s r e = bare-zone a (s .0)
+refused-zone-in (Refused q) a s r e = bare-zone a (s .0)
+
 no-ids : (l : List Id) → length l ≡ 0 → l ≡ []
 no-ids [] e = refl
 no-ids (x ∷ l) e = absurd (omega (arith, e))
 
 abbrev modelOf : Given → List Id → Answer
-modelOf a ps = record { kind = kindIn (a .outcome) a; parents = ps; admitted = a .admitted; struck = a .struck; waiting = a .waiting }
+modelOf a ps = record { kind = kindIn (a .outcome) a; parents = ps; zone = zoneIn (a .info .zone); admitted = a .admitted; struck = a .struck; waiting = a .waiting }
 
 given-model : (a : Given) (ps : List Id) → ShapedBy (a .outcome) a → a .info .parents ≡ length ps → a ≡ given (modelOf a ps)
 unfolding given
@@ -126,7 +151,7 @@ given-model a ps s e =
     let f = fields-in (a .outcome) a s in
     λ k. record {
       outcome = outcome-in (a .outcome) a k;
-      info = record { id = f .id k; parents = e k; generation = f .generation k; time = f .time k };
+      info = record { id = f .id k; parents = e k; generation = f .generation k; time = f .time k; zone = zone-in (a .info .zone) k };
       admitted = a .admitted;
       struck = a .struck;
       waiting = a .waiting;
@@ -146,6 +171,8 @@ of-paper {b} {b′} {a} p l h =
       is = given-model a ps (p .shape) n;
       kind = λ r e. inl (of-call-in (a .outcome) a (p .shape) r e);
       bare-end = λ e. no-ids ps (sym n ∙ end-in (a .outcome) a (p .shape) e);
+      end-zone = λ e. end-zone-in (a .outcome) a (p .shape) e;
+      refused-zone = λ r e. refused-zone-in (a .outcome) a (p .shape) r e;
       bare-lost = λ e. no-ids ps (sym n ∙ counted-in (a .outcome) a (p .shape) CommitNotFound e .lost refl);
       crowded = λ e. inl (sym n ∙ counted-in (a .outcome) a (p .shape) TooManyParents e .crowded refl);
       few = omega (arith, n);
@@ -155,13 +182,15 @@ of-paper {b} {b′} {a} p l h =
     }
 
 -- an answer that carries nothing but the running numbers, and leaves the buffer as it was: painting's refusal
-pub of-paper-refused : (b : List ℕ) (n : Refusal) (r : Record) → OfCall n → OfPaper (gave (Refused n) noId 0 NoGeneration NoTime r .answer) b b
+pub of-paper-refused : (b : List ℕ) (n : Refusal) (r : Record) → OfCall n → OfPaper (gave (Refused n) noId 0 NoGeneration NoTime NoZone r .answer) b b
 unfolding parentsGiven joined given
 of-paper-refused b n r c = record {
-  model = record { kind = refused n; parents = []; admitted = r .admitted; struck = r .struck; waiting = r .queue .count };
+  model = record { kind = refused n; parents = []; zone = none; admitted = r .admitted; struck = r .struck; waiting = r .queue .count };
   is = refl;
   kind = λ q e. let z : n ≡ q = cc in inl (subst (λ (y : Refusal). OfCall y) z c);
   bare-end = λ e. refl;
+  end-zone = λ e. refl;
+  refused-zone = λ r e. refl;
   bare-lost = λ e. refl;
   crowded = λ e. inr refl;
   few = omega arith;
@@ -170,8 +199,8 @@ of-paper-refused b n r c = record {
 }
 
 -- and the end
-pub plain-end : (b : List ℕ) (r : Record) → Plain b b (gave End noId 0 NoGeneration NoTime r .answer)
-plain-end b r = record { shape = (record { no-id = refl; no-generation = refl; no-time = refl }, refl); few = omega arith; past = λ k h. refl }
+pub plain-end : (b : List ℕ) (r : Record) → Plain b b (gave End noId 0 NoGeneration NoTime NoZone r .answer)
+plain-end b r = record { shape = (record { no-id = refl; no-generation = refl; no-time = refl; no-zone = refl }, refl); few = omega arith; past = λ k h. refl }
 
 -- refusal 12
 pub of-paper-shut : (b : List ℕ) → OfPaper closedAnswer b b
@@ -181,6 +210,8 @@ of-paper-shut b = record {
   is = refl;
   kind = λ r e. inr refl;
   bare-end = λ e. refl;
+  end-zone = λ e. refl;
+  refused-zone = λ r e. refl;
   bare-lost = λ e. refl;
   crowded = λ e. inr refl;
   few = omega arith;

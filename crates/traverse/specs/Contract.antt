@@ -4,6 +4,7 @@ use Rattle.hash.specs.Bytes.{Id, idBytes}
 use Rattle.object.specs.Header.{most}
 use mathlib.Core.Path.{_≡_}
 use mathlib.Core.Logic.{_⊎_}
+use mathlib.Core.Option.{none}
 use mathlib.Core.Bool.{false}
 use mathlib.Core.List.{List, []}
 use lib.ListN.{length}
@@ -83,6 +84,9 @@ pub record OfPaper (a : Given) (before after : List ℕ) : Type 0 where
   pub is : a ≡ given model
   pub kind : (r : Refusal) → model .kind ≡ refused r → OfCall r ⊎ (model ≡ shut)
   pub bare-end : model .kind ≡ end → model .parents ≡ []
+  -- card 7: the zone is none "in a refusal or end"
+  pub end-zone : model .kind ≡ end → model .zone ≡ none
+  pub refused-zone : (r : Refusal) → model .kind ≡ refused r → model .zone ≡ none
   -- 9 comes before any line is read; 11 when 256 ids are read, or from painting, which gives none
   pub bare-lost : model .kind ≡ refused CommitNotFound → model .parents ≡ []
   pub crowded : model .kind ≡ refused TooManyParents → (length (model .parents) ≡ most) ⊎ (model .parents ≡ [])

@@ -1,5 +1,6 @@
 // A next call: the first of a walk paints, and each takes the next commit of the queue. The record of counters comes and goes by value.
 use super::Out;
+use date::Zone;
 use painting::Painted;
 use state::Record;
 use visit::Taken;
@@ -16,6 +17,7 @@ ghost use lib.ListN.{length};
 ghost use Rattle.walk.specs.declared.Outcome.the-variants.{Refused};
 ghost use Rattle.walk.specs.declared.MaybeLevel.the-variants.{NoGeneration};
 ghost use Rattle.walk.specs.declared.MaybeSeconds.the-variants.{NoTime};
+ghost use Rattle.date.specs.declared.Zone.the-variants.{NoZone};
 ghost use Rattle.walk.specs.Given.{noId};
 ghost use Rattle.opening.specs.Checks.{lengthsOf};
 ghost use Rattle.visit.specs.Taking.{gave};
@@ -52,13 +54,14 @@ fn is_whole(
 
 // What an answer without a commit says of one.
 fn no_commit() -> Info
-    ensures { λ i. ⌜ i ≡ record { id = noId; parents = 0; generation = NoGeneration; time = NoTime } ⌝ }
+    ensures { λ i. ⌜ i ≡ record { id = noId; parents = 0; generation = NoGeneration; time = NoTime; zone = NoZone } ⌝ }
 {
     Info {
         id: [0u8; 20],
         parents: 0,
         generation: MaybeLevel::NoGeneration,
         time: MaybeSeconds::NoTime,
+        zone: Zone::NoZone,
     }
 }
 
@@ -80,7 +83,7 @@ fn closed(r: Record) -> Out
 
 // An answer that carries no id, level, seconds or parents, with the running numbers of a record.
 fn bare(outcome: Outcome, r: Record) -> Out
-    ensures { λ o. ⌜ GivesBack (gave outcome noId 0 NoGeneration NoTime r) o ⌝ }
+    ensures { λ o. ⌜ GivesBack (gave outcome noId 0 NoGeneration NoTime NoZone r) o ⌝ }
 {
     let q = r.queue;
     Out {

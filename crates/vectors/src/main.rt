@@ -9,11 +9,13 @@ use commitgraph::parents::ParentList;
 use commitgraph::rows;
 use commitgraph::rows::Position;
 use date::Seconds;
+use date::Stamp;
+use date::Zone;
 use hash::Kind;
 use libc::STDOUT_FILENO;
 use object::Line;
 use object::Reading;
-use object::SecondsRead;
+use object::StampRead;
 use odb::Located;
 
 fn text(s: &[u8]) {
@@ -34,6 +36,22 @@ fn seconds(s: Seconds) {
         text(b"-");
     }
     io::print_decimal(STDOUT_FILENO, date::magnitude(s));
+}
+
+// A committer reading: the seconds, and the zone in signed minutes.
+fn zone(z: Zone) {
+    text(b" zone ");
+    match z {
+        Zone::Minutes(m) => seconds(Seconds(m)),
+        Zone::NoZone => text(b"none"),
+    }
+}
+
+fn stamp(s: Stamp) {
+    let time = s.seconds;
+    let beside = s.zone;
+    seconds(time);
+    zone(beside);
 }
 
 fn byte(b: u8) {
@@ -87,14 +105,11 @@ fn store_case(store: &[u8], ids: &[u8]) {
 
 fn reading(body: &[u8]) {
     match object::readable(Kind::Sha1, body) {
-        Reading::Readable {
-            parents,
-            seconds: s,
-        } => {
+        Reading::Readable { parents, stamp: s } => {
             text(b"readable");
             spaced(parents);
             text(b" ");
-            seconds(s);
+            stamp(s);
             text(b"\n");
         }
         Reading::Bad => text(b"bad\n"),
@@ -128,12 +143,12 @@ fn header_case(body: &[u8]) {
     reading(body);
     parent_lines(body);
     text(b"seconds ");
-    match object::seconds_only(Kind::Sha1, body) {
-        SecondsRead::Good(s) => {
-            seconds(s);
+    match object::stamp_only(Kind::Sha1, body) {
+        StampRead::Good(s) => {
+            stamp(s);
             text(b"\n");
         }
-        SecondsRead::Bad => text(b"bad\n"),
+        StampRead::Bad => text(b"bad\n"),
     }
 }
 

@@ -18,6 +18,8 @@ use Rattle.walk.specs.declared.MaybeSeconds.the-variants.{NoTime}
 use Rattle.walk.specs.AnyInput.{OfCall}
 use Rattle.walk.specs.Given.{noId}
 use Rattle.walk.specs.Lookup.{row, rowAt}
+use Rattle.date.specs.declared.Zone.{Zone}
+use Rattle.date.specs.declared.Zone.the-variants.{NoZone}
 use Rattle.reading.specs.declared.body.BodyEnd.{BodyEnd}
 use Rattle.reading.specs.declared.body.BodyEnd.the-variants.{Whole, Unreadable, Crowded}
 use Rattle.reading.proofs.Down.{set-down-past}
@@ -56,11 +58,11 @@ row-narrow g p ps v t e k h =
 
 -- ---- the shape of an answer
 
-pub plain-end : {b : List ℕ} (r : Record) → Plain b b (gave End noId 0 NoGeneration NoTime r .answer)
-plain-end r = record { shape = (record { no-id = refl; no-generation = refl; no-time = refl }, refl); few = omega arith; past = λ k h. refl }
+pub plain-end : {b : List ℕ} (r : Record) → Plain b b (gave End noId 0 NoGeneration NoTime NoZone r .answer)
+plain-end r = record { shape = (record { no-id = refl; no-generation = refl; no-time = refl; no-zone = refl }, refl); few = omega arith; past = λ k h. refl }
 
-pub plain-bare : {b b′ : List ℕ} {w : Refusal} {n : ℕ} (r : Record) → OfCall w → Counted w n → n ≤ most → Past n b b′ → Plain b b′ (gave (Refused w) noId n NoGeneration NoTime r .answer)
-plain-bare r c m h p = record { shape = (record { no-id = refl; no-generation = refl; no-time = refl }, c, m); few = h; past = p .same }
+pub plain-bare : {b b′ : List ℕ} {w : Refusal} {n : ℕ} (r : Record) → OfCall w → Counted w n → n ≤ most → Past n b b′ → Plain b b′ (gave (Refused w) noId n NoGeneration NoTime NoZone r .answer)
+plain-bare r c m h p = record { shape = (record { no-id = refl; no-generation = refl; no-time = refl; no-zone = refl }, c, m); few = h; past = p .same }
 
 -- 9
 pub counted-lost : Counted CommitNotFound 0
@@ -75,7 +77,15 @@ counted-many : {n : ℕ} → n ≡ most → Counted TooManyParents n
 counted-many h = record { lost = λ e. let z : _≡_ {A = ℕ} 0 1 = cc in absurd (omega arith); crowded = λ e. h }
 
 -- after a body's parents
-pub plain-ends : {b b′ : List ℕ} {n : ℕ} (e : BodyEnd) (x : Id) (t : MaybeSeconds) (r : Record) → (e ≡ Crowded → n ≡ most) → n ≤ most → Past n b b′ → Plain b b′ (endGiven e x n t r .answer)
-plain-ends Whole x t r m h p = record { shape = tt; few = h; past = p .same }
-plain-ends Unreadable x t r m h p = plain-bare r (omega arith, omega arith) counted-bad h p
-plain-ends Crowded x t r m h p = plain-bare r (omega arith, omega arith) (counted-many (m refl)) h p
+pub plain-ends : {b b′ : List ℕ} {n : ℕ} (e : BodyEnd) (x : Id) (t : MaybeSeconds) (z : Zone) (r : Record) → (e ≡ Crowded → n ≡ most) → n ≤ most → Past n b b′ → Plain b b′ (endGiven e x n t z r .answer)
+plain-ends Whole x t z r m h p = record { shape = tt; few = h; past = p .same }
+plain-ends Unreadable x t z r m h p = plain-bare r (omega arith, omega arith) counted-bad h p
+plain-ends Crowded x t z r m h p = plain-bare r (omega arith, omega arith) (counted-many (m refl)) h p
+
+-- ---- ends of a reading
+
+pub unreadable-not-whole : Unreadable ≡ Whole → ⊥
+unreadable-not-whole e = let z : _≡_ {A = ℕ} 0 1 = cc in omega arith
+
+pub crowded-not-whole : Crowded ≡ Whole → ⊥
+crowded-not-whole e = let z : _≡_ {A = ℕ} 0 1 = cc in omega arith

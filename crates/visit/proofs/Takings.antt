@@ -32,7 +32,10 @@ use Rattle.walk.specs.declared.MaybeSeconds.the-variants.{Time, NoTime}
 use Rattle.walk.specs.Settings.{followed, byTime, onlyFirst}
 use Rattle.walk.specs.Lookup.{secondsFor, World, Row, row, no-row, rowAt, worldOf}
 use Rattle.walk.specs.State.{Walk, State, withQueue, isEmpty}
-use Rattle.walk.specs.Next.{Kind, end, refused, handed, levelShown, Step, step, visitAll, withSeconds, queuedSeconds, ending, kindOf, fromRow, fromBody, takeStore, dropped, back, takeRow, takeQueue, takeNext}
+use Rattle.object.specs.Read.{zoneGiven}
+use Rattle.date.specs.declared.Zone.{Zone}
+use Rattle.date.specs.declared.Zone.the-variants.{NoZone}
+use Rattle.walk.specs.Next.{Kind, end, refused, handed, levelShown, Step, step, zoned, zoneShown, visitAll, withSeconds, queuedSeconds, ending, kindOf, fromRow, fromBody, takeStore, dropped, back, takeRow, takeQueue, takeNext}
 use Rattle.walk.specs.Given.{noId, outcomeOf, idOfKind, levelGiven, levelOfKind, secondsOfKind, secondsGiven, joined, given, parentsGiven}
 use Rattle.walk.proofs.Take.{followed-sub, followed-map, mem-map, with-seconds}
 use Rattle.reading.specs.Body.{refusalOf}
@@ -74,13 +77,14 @@ use Rattle.hash.specs.Bytes.{idBytes}
 -- ---- an answer as the code gives it
 
 module _ {sh : Shape} {m m′ : Memory} {b b′ : List ℕ} {r : Record} {st : State} where
-  pub gives-step : (k : Kind) (ps : List Id) {o : Outcome} {x : Id} {n : ℕ} {l : MaybeLevel} {t : MaybeSeconds} → Reads r m′ sh st → o ≡ outcomeOf k → x ≡ idOfKind k → n ≡ length ps → l ≡ levelOfKind k
-      → t ≡ secondsOfKind k → b′ ≡ setDown b 0 (joined ps) → ((j : ℕ) → sh .cap + sh .cap ≤ j → getD (m′ .line) j 0 ≡ getD (m .line) j 0) → Gives sh m m′ b b′ (gave o x n l t r) (step k ps st)
+  pub gives-zoned : (k : Kind) (ps : List Id) (y : Option ℤ) {o : Outcome} {x : Id} {n : ℕ} {l : MaybeLevel} {t : MaybeSeconds} → Reads r m′ sh st → o ≡ outcomeOf k → x ≡ idOfKind k → n ≡ length ps
+      → l ≡ levelOfKind k → t ≡ secondsOfKind k → b′ ≡ setDown b 0 (joined ps) → ((j : ℕ) → sh .cap + sh .cap ≤ j → getD (m′ .line) j 0 ≡ getD (m .line) j 0)
+      → Gives sh m m′ b b′ (gave o x n l t (zoneGiven y) r) (zoned y (step k ps st))
   unfolding given step parentsGiven
-  gives-step k ps g o x n l t d w = record {
+  gives-zoned k ps y g o x n l t d w = record {
     answer = λ i. record {
       outcome = o i;
-      info = record { id = x i; parents = n i; generation = l i; time = t i };
+      info = record { id = x i; parents = n i; generation = l i; time = t i; zone = zoneGiven y };
       admitted = sym (g .admitted) i;
       struck = sym (g .struck) i;
       waiting = sym (queue-length g) i;
@@ -89,6 +93,11 @@ module _ {sh : Shape} {m m′ : Memory} {b b′ : List ℕ} {r : Record} {st : S
     reads = g;
     line-kept = w;
   }
+
+  pub gives-step : (k : Kind) (ps : List Id) {o : Outcome} {x : Id} {n : ℕ} {l : MaybeLevel} {t : MaybeSeconds} → Reads r m′ sh st → o ≡ outcomeOf k → x ≡ idOfKind k → n ≡ length ps → l ≡ levelOfKind k
+      → t ≡ secondsOfKind k → b′ ≡ setDown b 0 (joined ps) → ((j : ℕ) → sh .cap + sh .cap ≤ j → getD (m′ .line) j 0 ≡ getD (m .line) j 0) → Gives sh m m′ b b′ (gave o x n l t NoZone r) (step k ps st)
+  unfolding step
+  gives-step k ps g o x n l t d w = gives-zoned k ps none g o x n l t d w
 
 -- the seconds that a commit was queued with
 pub time-right : {v : Walk} {sh : Shape} {excluded : List ℕ} {settings : Settings} {r : Record} {m : Memory} {st : State} → GoesBy v sh excluded settings → Reads r m sh st → (s : Seconds) (t : ℤ)
@@ -136,7 +145,7 @@ module _ {sh : Shape} {r : Record} {m : Memory} {st : State} {u : List Id} where
 
 pub takes-row : {excluded : List ℕ} {settings : Settings} {g : List ℕ} {l : Layout} {p n k : ℕ} {c : Level} {r r′ : Record} {x : Id} {s : Seconds} {m m′ : Memory} {b b′ : List ℕ}
     → Follows settings n k → VisitsRow excluded settings g l p k r m m′ b b′ r′
-    → TakesRow excluded settings g l p n c r x (s .0) m m′ b b′ (gave Commit x k (levelGiven (levelShown (c .0))) (timeGiven (r .queue .timed) s) r′)
+    → TakesRow excluded settings g l p n c r x (s .0) m m′ b b′ (gave Commit x k (levelGiven (levelShown (c .0))) (timeGiven (r .queue .timed) s) NoZone r′)
 unfolding fromRow
 takes-row {excluded} {settings} {g} {l} {p} {n} {k} {c} {r} {r′} {x} {s} {m} {m′} {b} {b′} f w = record {
   right = λ ok own ps q e i v sh st u t′ by d j t z.
@@ -158,21 +167,32 @@ takes-row {excluded} {settings} {g} {l} {p} {n} {k} {c} {r} {r′} {x} {s} {m} {
 
 -- ---- from the body
 
--- the kind of an answer after a body's parents
-ends-kind : {sh : Shape} {m m′ : Memory} {b b′ : List ℕ} {r : Record} {st : State} (e : BodyEnd) (o : Option Refusal) (ps : List Id) (x : Id) (z : Option ℤ) {n : ℕ} {t : MaybeSeconds} → refusalOf e ≡ o
+-- the kind of an answer after a body's parents, whose header has the zone y
+ends-kind : {sh : Shape} {m m′ : Memory} {b b′ : List ℕ} {r : Record} {st : State} (e : BodyEnd) (o : Option Refusal) (ps : List Id) (x : Id) (z y : Option ℤ) {n : ℕ} {t : MaybeSeconds} → refusalOf e ≡ o
     → Reads r m′ sh st → n ≡ length ps → t ≡ secondsGiven z → b′ ≡ setDown b 0 (joined ps) → ((j : ℕ) → sh .cap + sh .cap ≤ j → getD (m′ .line) j 0 ≡ getD (m .line) j 0)
-    → Gives sh m m′ b b′ (endGiven e x n t r) (step (kindOf o (handed x none z)) ps st)
+    → Gives sh m m′ b b′ (endGiven e x n t (zoneGiven y) r) (zoned (zoneShown o y) (step (kindOf o (handed x none z)) ps st))
 unfolding kindOf
-ends-kind Whole o ps x z e g n t d w = rw (sym e) (gives-step (handed x none z) ps g refl refl n refl t d w)
-ends-kind Unreadable o ps x z e g n t d w = rw (sym e) (gives-step (refused CommitUnreadable) ps g refl refl n refl refl d w)
-ends-kind Crowded o ps x z e g n t d w = rw (sym e) (gives-step (refused TooManyParents) ps g refl refl n refl refl d w)
+ends-kind Whole o ps x z y e g n t d w = rw (sym e) (gives-zoned (handed x none z) ps y g refl refl n refl t d w)
+ends-kind Unreadable o ps x z y e g n t d w = rw (sym e) (gives-zoned (refused CommitUnreadable) ps none g refl refl n refl refl d w)
+ends-kind Crowded o ps x z y e g n t d w = rw (sym e) (gives-zoned (refused TooManyParents) ps none g refl refl n refl refl d w)
 
 map-stored : (w : World) (l : List Id) → map (λ p. p .0) (stored w l) ≡ l
 map-stored w [] = refl
 map-stored w (x ∷ l) = ap (λ (r : List Id). x ∷ r) (map-stored w l)
 
+-- a zone counts where the commit is handed out alone
+same-end : (e : BodyEnd) (x : Id) (n : ℕ) (t : MaybeSeconds) (r : Record) {z y : Zone} → (e ≡ Whole → z ≡ y) → endGiven e x n t z r ≡ endGiven e x n t y r
+same-end Whole x n t r h = ap (λ (q : Zone). gave Commit x n NoGeneration t q r) (h refl)
+same-end Unreadable x n t r h = refl
+same-end Crowded x n t r h = refl
+
+-- a header that is not refused has a good tree line
+whole-tree : (s : Settings) (h : Header) → ending s h ≡ none → h .tree ≡ true
+unfolding ending
+whole-tree s h e = byCases (h .tree) (λ c. c) (λ c. let z : _≡_ {A = ℕ} 0 1 = cc in absurd (omega arith))
+
 pub takes-body : (d : List ℕ) {excluded : List ℕ} {settings : Settings} {store : List ℕ} {r : Record} {x : Id} {s : Seconds} {m m′ : Memory} {b b′ : List ℕ} {seen : BodyVisited} {a : Taken}
-    → VisitsBody excluded settings store (header idBytes d) r m m′ b b′ seen → EndsBody seen x (timeGiven (r .queue .timed) s) a → TakesBody excluded settings store (header idBytes d) r x (s .0) m m′ b b′ a
+    → VisitsBody excluded settings store (header idBytes d) r m m′ b b′ seen → EndsBody seen (header idBytes d) x (timeGiven (r .queue .timed) s) a → TakesBody excluded settings store (header idBytes d) r x (s .0) m m′ b b′ a
 unfolding fromBody
 takes-body d {excluded} {settings} {store} {r} {x} {s} {m} {m′} {b} {b′} {seen} {a} w k = record {
   right = λ ok g v sh st u t′ by own there e j t z.
@@ -188,23 +208,23 @@ takes-body d {excluded} {settings} {store} {r} {x} {s} {m} {m′} {b} {b′} {se
       (λ q c. j .inside x (q .0) h there (followed-sub (v .settings) (q .0) (h .ids) (with-seconds v fs q (subst (λ (l : List (Id × ℤ)). List·Memᴰ q l) (sym list) c) .0))) in
       let reads = subst (λ (l : List (Id × ℤ)). Reads (seen .after) m′ sh (visitAll v st l)) (sym list) (went .ready .reads) in
       let down = all .down z ∙ ap (λ (l : List Id). setDown b 0 (joined l)) (map-stored (worldOf store g) fs) in
-      subst (λ (q : Taken). Gives sh m m′ b b′ q (step (kindOf (ending (v .settings) h) (handed x none (queuedSeconds v t′))) fs (visitAll v st (withSeconds v fs)))) (sym (k .is))
-      (ends-kind (seen .ends) (ending (v .settings) h) fs x (queuedSeconds v t′) (w .ends ∙ ap (λ (q : Settings). ending q h) (sym (by .same-settings))) reads (w .parents ∙ ap length same)
+      subst (λ (q : Taken). Gives sh m m′ b b′ q (zoned (zoneShown (ending (v .settings) h) (h .zone)) (step (kindOf (ending (v .settings) h) (handed x none (queuedSeconds v t′))) fs (visitAll v st (withSeconds v fs))))) (sym (k .is ∙ same-end (seen .ends) x (seen .parents) (timeGiven (r .queue .timed) s) (seen .after) (λ c. k .right (whole-tree settings h (sym (w .ends) ∙ ap refusalOf c)) (omega (arith, w .parents, followed-take settings (h .ids) .1)) c)))
+      (ends-kind (seen .ends) (ending (v .settings) h) fs x (queuedSeconds v t′) (h .zone) (w .ends ∙ ap (λ (q : Settings). ending q h) (sym (by .same-settings))) reads (w .parents ∙ ap length same)
       (time-right by (e .reads) s t′ t) down (went .line-kept));
   plain =
       let h : Header = header idBytes d in
       let short : seen .parents ≤ most = omega (arith, w .parents, followed-take settings (h .ids) .1, header-few d) in
       let full : seen .ends ≡ Crowded → seen .parents ≡ most = λ z. w .parents ∙ crowded-followed settings d (sym (w .ends) ∙ ap refusalOf z) in
-      subst (λ (q : Taken). Plain b b′ (q .answer)) (sym (k .is)) (plain-ends (seen .ends) x (timeGiven (r .queue .timed) s) (seen .after) full short (w .past));
+      subst (λ (q : Taken). Plain b b′ (q .answer)) (sym (k .is)) (plain-ends (seen .ends) x (timeGiven (r .queue .timed) s) (k .zone) (seen .after) full short (w .past));
 }
 
 -- the store does not have the commit
 absent-gives : {sh : Shape} {m : Memory} {b : List ℕ} {r : Record} {st : State} (v : Walk) (x : Id) (t : ℤ) → Reads r m sh st
-    → Gives sh m m b b (gave (Refused CommitNotFound) noId 0 NoGeneration NoTime r) (fromBody v st x t none)
+    → Gives sh m m b b (gave (Refused CommitNotFound) noId 0 NoGeneration NoTime NoZone r) (fromBody v st x t none)
 unfolding fromBody joined
 absent-gives {b = b} v x t g = gives-step (refused CommitNotFound) [] g refl refl refl refl refl (set-down-none b) (λ k h. refl)
 
-pub plain-absent : {b : List ℕ} (r : Record) → Plain b b (gave (Refused CommitNotFound) noId 0 NoGeneration NoTime r .answer)
+pub plain-absent : {b : List ℕ} (r : Record) → Plain b b (gave (Refused CommitNotFound) noId 0 NoGeneration NoTime NoZone r .answer)
 plain-absent r = plain-bare r (omega arith, omega arith) counted-lost (omega arith) past-none
 
 -- ---- the first of the queue
@@ -231,14 +251,14 @@ pop-kept g p k h = p .for-line .kept k (omega (arith, h, g .cap))
 -- nothing waits
 ended : {sh : Shape} {r : Record} {names marks : List ℕ} {times : List ℤ} {line line′ : List ℕ} {st : State} {u : List Id} {n : Next} {b : List ℕ}
     → Rests sh r (mem names marks times line) st u → Pops r names times line line′ n → n .found ≡ false → (s : Step) → (st .queue ≡ [] → step end [] st ≡ s)
-    → Gives sh (mem names marks times line) (mem names marks times line′) b b (gave End noId 0 NoGeneration NoTime r) s
+    → Gives sh (mem names marks times line) (mem names marks times line′) b b (gave End noId 0 NoGeneration NoTime NoZone r) s
 unfolding joined
 ended {sh} {r} {names} {marks} {times} {line} {line′} {st} {u} {n} {b} d p f s c = go (st .queue) refl
   where
-    go : (q : List (Id × ℤ)) → st .queue ≡ q → Gives sh (mem names marks times line) (mem names marks times line′) b b (gave End noId 0 NoGeneration NoTime r) s
+    go : (q : List (Id × ℤ)) → st .queue ≡ q → Gives sh (mem names marks times line) (mem names marks times line′) b b (gave End noId 0 NoGeneration NoTime NoZone r) s
     go [] e =
         let g : Reads r (mem names marks times line′) sh st = rw (p .still f .1) (d .reads) in
-        subst (Gives sh (mem names marks times line) (mem names marks times line′) b b (gave End noId 0 NoGeneration NoTime r)) (c e)
+        subst (Gives sh (mem names marks times line) (mem names marks times line′) b b (gave End noId 0 NoGeneration NoTime NoZone r)) (c e)
         (gives-step end [] g refl refl refl refl refl (set-down-none b) (pop-kept (d .reads) p))
     go (y ∷ l) e = clash (p .some marks sh st (y .0) (y .1) l (d .reads) e .found) f
 
@@ -276,24 +296,24 @@ module _ {excluded : List ℕ} {settings : Settings} {store : List ℕ} {r : Rec
         (t .right ok g v sh (withQueue l st) u (c .1) by own there (popped-ready k) j (k .taken .seconds) z))
         (t .plain)
 
-    pub stored-absent : o ≡ Absent → TakesStored excluded settings store r (mem names marks times line) (mem names marks times line′) b b (gave (Refused CommitNotFound) noId 0 NoGeneration NoTime (n .rest))
+    pub stored-absent : o ≡ Absent → TakesStored excluded settings store r (mem names marks times line) (mem names marks times line′) b b (gave (Refused CommitNotFound) noId 0 NoGeneration NoTime NoZone (n .rest))
     stored-absent i =
         from-store
         (λ g ok v sh st u c l by own k j z.
         let there : v .world .store (idIn idBytes (n .id .bytes)) ≡ none = ap (λ (q : World). q .store (idIn idBytes (n .id .bytes))) own ∙ located-none g at i ok in
-        subst (λ (q : Option Header). Gives sh (mem names marks times line′) (mem names marks times line′) b b (gave (Refused CommitNotFound) noId 0 NoGeneration NoTime (n .rest)) (fromBody v (withQueue l st) (idIn idBytes (n .id .bytes)) (c .1) q))
+        subst (λ (q : Option Header). Gives sh (mem names marks times line′) (mem names marks times line′) b b (gave (Refused CommitNotFound) noId 0 NoGeneration NoTime NoZone (n .rest)) (fromBody v (withQueue l st) (idIn idBytes (n .id .bytes)) (c .1) q))
         (sym there) (absent-gives v (idIn idBytes (n .id .bytes)) (c .1) (k .taken .reads)))
         (plain-absent (n .rest))
 
   pub stored-none : Pops r names times line line′ n → n .found ≡ false
-      → TakesStored excluded settings store r (mem names marks times line) (mem names marks times line′) b b (gave End noId 0 NoGeneration NoTime r)
+      → TakesStored excluded settings store r (mem names marks times line) (mem names marks times line′) b b (gave End noId 0 NoGeneration NoTime NoZone r)
   unfolding takeStore
   stored-none p f = record { right = λ ok g v sh st u by own d j z. ended d p f (takeStore v st (st .queue)) (λ e. ap (takeStore v st) (sym e)); plain = plain-end r }
 
 -- ---- the next commit
 
 pub next-none : {excluded : List ℕ} {settings : Settings} {graph store : List ℕ} {r : Record} {names marks : List ℕ} {times : List ℤ} {line line′ : List ℕ} {b : List ℕ} {n : Next}
-    → Pops r names times line line′ n → n .found ≡ false → TakesNext excluded settings graph store r (mem names marks times line) (mem names marks times line′) b b (gave End noId 0 NoGeneration NoTime r)
+    → Pops r names times line line′ n → n .found ≡ false → TakesNext excluded settings graph store r (mem names marks times line) (mem names marks times line′) b b (gave End noId 0 NoGeneration NoTime NoZone r)
 unfolding takeNext takeQueue
 next-none p f = record { right = λ ok good v sh st u by fixed own d i j z. ended d p f (takeNext v st) (λ e. ap (takeQueue v st) (sym e)) }
 
@@ -419,11 +439,11 @@ module _ {excluded : List ℕ} {settings : Settings} {graph store : List ℕ} {r
       ))
 
   pub next-absent : e ≡ Either·Absent
-      → TakesNext excluded settings graph store r (mem names marks times line) (mem names marks times line′) b b (gave (Refused CommitNotFound) noId 0 NoGeneration NoTime (n .rest))
+      → TakesNext excluded settings graph store r (mem names marks times line) (mem names marks times line′) b b (gave (Refused CommitNotFound) noId 0 NoGeneration NoTime NoZone (n .rest))
   unfolding takeRow takeStore
   next-absent q = found-next (λ v sh st u y l ok good lay told by own same k i j h.
       let x : Id = idIn idBytes (n .id .bytes) in
-      let a : Taken = gave (Refused CommitNotFound) noId 0 NoGeneration NoTime (n .rest) in
+      let a : Taken = gave (Refused CommitNotFound) noId 0 NoGeneration NoTime NoZone (n .rest) in
       let c = found-absent (cacheOf graph (r .kept)) graph store x (sym told ∙ q) in
       let there : v .world .store x ≡ none = ap (λ (w : World). w .store x) own ∙ sym (same-store (cacheOf graph (r .kept)) graph store x) ∙ c .1 in (
         no-row,

@@ -10,6 +10,7 @@ use Rattle.walk.specs.declared.Outcome.{Outcome}
 use Rattle.walk.specs.declared.Outcome.the-variants.{Commit, End, Refused}
 use Rattle.walk.specs.declared.Refusal.{Refusal}
 use Rattle.walk.specs.declared.Refusal.the-variants.{CommitNotFound, TooManyParents}
+use Rattle.date.specs.declared.Zone.the-variants.{NoZone}
 use Rattle.walk.specs.declared.MaybeLevel.the-variants.{NoGeneration}
 use Rattle.walk.specs.declared.MaybeSeconds.the-variants.{NoTime}
 use Rattle.walk.specs.AnyInput.{OfCall}
@@ -19,11 +20,12 @@ use Rattle.walk.specs.Given.{Given, noId}
 pub record Past (n : ℕ) (b b′ : List ℕ) : Type 0 where
   pub same : (k : ℕ) → idBytes * n ≤ k → getD b′ k 0 ≡ getD b k 0
 
--- "A refusal or end carries no id, level or seconds (zeros there)"
+-- "A refusal or end carries no id, level or seconds (zeros there)"; card 7: the zone is none "in a refusal or end"
 pub record Bare (a : Given) : Type 0 where
   pub no-id : a .info .id ≡ noId
   pub no-generation : a .info .generation ≡ NoGeneration
   pub no-time : a .info .time ≡ NoTime
+  pub no-zone : a .info .zone ≡ NoZone
 
 -- the parents that a refusal counts: 9 comes before any line is read; 11 at "a good 257th parent line", when 256 ids are read
 pub record Counted (r : Refusal) (n : ℕ) : Type 0 where

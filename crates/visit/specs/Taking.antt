@@ -9,7 +9,10 @@ use lib.ListN.{length, getD}
 use lib.IntN.{ℤ}
 use Rattle.hash.specs.Bytes.{Id}
 use Rattle.date.specs.declared.Seconds.{Seconds}
+use Rattle.date.specs.declared.Zone.{Zone}
+use Rattle.date.specs.declared.Zone.the-variants.{NoZone}
 use Rattle.object.specs.Header.{Header, most}
+use Rattle.object.specs.Read.{zoneGiven}
 use Rattle.odb.specs.Store.{storeOk}
 use Rattle.commitgraph.specs.Graph.{graphOk, layoutOf}
 use Rattle.commitgraph.specs.declared.Layout.{Layout}
@@ -41,11 +44,11 @@ use Rattle.visit.specs.Plain.{Plain}
 use Rattle.hash.specs.Bytes.{idBytes}
 
 -- an answer with the running numbers of the record r
-abbrev pub gave : Outcome → Id → ℕ → MaybeLevel → MaybeSeconds → Record → Taken
-gave o x n l t r = record {
+abbrev pub gave : Outcome → Id → ℕ → MaybeLevel → MaybeSeconds → Zone → Record → Taken
+gave o x n l t z r = record {
   answer = record {
     outcome = o;
-    info = record { id = x; parents = n; generation = l; time = t };
+    info = record { id = x; parents = n; generation = l; time = t; zone = z };
     admitted = r .admitted;
     struck = r .struck;
     waiting = r .queue .count;
@@ -61,14 +64,16 @@ pub record Follows (settings : Settings) (n k : ℕ) : Type 0 where
   pub right : (ps : List (Id × ℤ)) → n ≡ length ps → k ≡ length (followed settings ps)
   pub few : k ≤ n
 
-abbrev pub endGiven : BodyEnd → Id → ℕ → MaybeSeconds → Record → Taken
-endGiven Whole x n t r = gave Commit x n NoGeneration t r
-endGiven Unreadable x n t r = gave (Refused CommitUnreadable) noId n NoGeneration NoTime r
-endGiven Crowded x n t r = gave (Refused TooManyParents) noId n NoGeneration NoTime r
+abbrev pub endGiven : BodyEnd → Id → ℕ → MaybeSeconds → Zone → Record → Taken
+endGiven Whole x n t z r = gave Commit x n NoGeneration t z r
+endGiven Unreadable x n t z r = gave (Refused CommitUnreadable) noId n NoGeneration NoTime NoZone r
+endGiven Crowded x n t z r = gave (Refused TooManyParents) noId n NoGeneration NoTime NoZone r
 
--- the answer after the parents of a body
-pub record EndsBody (seen : BodyVisited) (x : Id) (t : MaybeSeconds) (a : Taken) : Type 0 where
-  pub is : a ≡ endGiven (seen .ends) x (seen .parents) t (seen .after)
+-- the answer after the parents of a body with the header h, some of whose parents are seen: the zone of a commit that is handed out is the header's
+pub record EndsBody (seen : BodyVisited) (h : Header) (x : Id) (t : MaybeSeconds) (a : Taken) : Type 0 where
+  pub zone : Zone
+  pub right : h .tree ≡ true → seen .parents ≤ length (h .ids) → seen .ends ≡ Whole → zone ≡ zoneGiven (h .zone)
+  pub is : a ≡ endGiven (seen .ends) x (seen .parents) t zone (seen .after)
 
 -- the record r and the memory m read as the state st, whose ids lie in u; 256 commits more may be admitted
 pub record Rests (sh : Shape) (r : Record) (m : Memory) (st : State) (u : List Id) : Type 0 where

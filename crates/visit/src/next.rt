@@ -7,6 +7,7 @@ use commit::Either;
 use commitgraph::Layout;
 use commitgraph::Level;
 use date::Seconds;
+use date::Zone;
 use hash::Kind;
 use object::ObjectId;
 use odb::Located;
@@ -31,6 +32,7 @@ ghost use Rattle.walk.specs.Given.{noId};
 ghost use Rattle.hash.specs.Bytes.{idBytes};
 ghost use Rattle.object.specs.Header.{header};
 ghost use Rattle.object.specs.Ids.{idIn};
+ghost use Rattle.date.specs.declared.Zone.the-variants.{NoZone};
 ghost use Rattle.state.specs.Steps.{mem};
 ghost use Rattle.visit.specs.Taking.{gave, timeGiven, Follows, EndsBody, TakesRow, TakesBody, TakesStored, TakesCached, TakesNext};
 ghost use Rattle.visit.specs.Plain.{Plain};
@@ -57,9 +59,10 @@ fn give(
     parents: usize,
     generation: MaybeLevel,
     time: MaybeSeconds,
+    zone: Zone,
     r: Record,
 ) -> Taken
-    ensures { λ a. ⌜ a ≡ gave outcome (idIn idBytes (id .bytes)) parents generation time r ⌝ }
+    ensures { λ a. ⌜ a ≡ gave outcome (idIn idBytes (id .bytes)) parents generation time zone r ⌝ }
 {
     let q = r.queue;
     let bytes = id_given(id);
@@ -68,6 +71,7 @@ fn give(
         parents,
         generation,
         time,
+        zone,
     };
     let answer = Answer {
         outcome,
@@ -81,7 +85,7 @@ fn give(
 
 // A refusal, with the number of parents set down before it.
 fn refuse(why: Refusal, parents: usize, r: Record) -> Taken
-    ensures { λ a. ⌜ a ≡ gave (Refused why) noId parents NoGeneration NoTime r ⌝ }
+    ensures { λ a. ⌜ a ≡ gave (Refused why) noId parents NoGeneration NoTime NoZone r ⌝ }
 {
     give(
         Outcome::Refused(why),
@@ -89,6 +93,7 @@ fn refuse(why: Refusal, parents: usize, r: Record) -> Taken
         parents,
         MaybeLevel::NoGeneration,
         MaybeSeconds::NoTime,
+        Zone::NoZone,
         r,
     )
 }
@@ -160,13 +165,14 @@ fn take_row(
         n,
         reading::level_shown(level),
         time,
+        Zone::NoZone,
         at,
     )
 }
 
-// The answer after the parents of a body.
-fn end_body(seen: BodyVisited, id: ObjectId, time: MaybeSeconds) -> Taken
-    ensures { λ a. ⌜ EndsBody seen (idIn idBytes (id .bytes)) time a ⌝ }
+// The answer after the parents of a body, with the zone of its committer line, which is read past all parents.
+fn end_body(seen: BodyVisited, id: ObjectId, time: MaybeSeconds, body: &[u8]) -> Taken
+    ensures { λ a. ⌜ EndsBody seen (header idBytes (now (body .entry))) (idIn idBytes (id .bytes)) time a ⌝ }
 {
     let ends = seen.ends;
     match ends {
@@ -176,6 +182,7 @@ fn end_body(seen: BodyVisited, id: ObjectId, time: MaybeSeconds) -> Taken
             seen.parents,
             MaybeLevel::NoGeneration,
             time,
+            reading::zone_past(body, seen.parents),
             seen.after,
         ),
         BodyEnd::Unreadable => refuse(Refusal::CommitUnreadable, seen.parents, seen.after),
@@ -215,12 +222,12 @@ fn take_body(
         excluded,
         settings,
     );
-    end_body(seen, id, time_given(q.timed, s))
+    end_body(seen, id, time_given(q.timed, s), body)
 }
 
 // The end of the walk.
 fn end_walk(r: Record) -> Taken
-    ensures { λ a. ⌜ a ≡ gave Outcome.End noId 0 NoGeneration NoTime r ⌝ }
+    ensures { λ a. ⌜ a ≡ gave Outcome.End noId 0 NoGeneration NoTime NoZone r ⌝ }
 {
     give(
         Outcome::End,
@@ -228,6 +235,7 @@ fn end_walk(r: Record) -> Taken
         0,
         MaybeLevel::NoGeneration,
         MaybeSeconds::NoTime,
+        Zone::NoZone,
         r,
     )
 }

@@ -15,7 +15,7 @@ use Rattle.walk.specs.Lookup.{Row, no-row, row, corrupt}
 use Rattle.walk.specs.State.{Walk, State, ids, withQueue, isEmpty, nobody}
 use Rattle.walk.specs.Painting.{Paint, Painting, stop, going, paint, bothMarks}
 use Rattle.walk.specs.Calls.{calls}
-use Rattle.walk.specs.Next.{end, refused, handed, Step, step, levelShown, visitAll, dropped, back, withSeconds, queuedSeconds, fromRow, fromBody, ending, kindOf, takeStore, takeRow, takeQueue, takeNext, outside, paintedWith, afterPaint, firstCall, next}
+use Rattle.walk.specs.Next.{end, refused, handed, Step, step, zoned, zoneShown, levelShown, visitAll, dropped, back, withSeconds, queuedSeconds, fromRow, fromBody, ending, kindOf, takeStore, takeRow, takeQueue, takeNext, outside, paintedWith, afterPaint, firstCall, next}
 use Rattle.walk.proofs.Laws.{cond-both}
 
 -- the front of the queue is taken
@@ -26,8 +26,8 @@ pub data Takes (v : Walk) : State → Step → Type 0 where
   absent : {st : State} (x : Id × ℤ) (q : List (Id × ℤ)) → st .queue ≡ x ∷ q → v .world .store (x .0) ≡ none → Takes v st (step (refused CommitNotFound) [] (withQueue q st))
   -- x is read from the store: handed out, or refused as its header ends
   from-store : {st : State} (x : Id × ℤ) (q : List (Id × ℤ)) (h : Header) → st .queue ≡ x ∷ q → v .world .store (x .0) ≡ some h
-      → Takes v st (step (kindOf (ending (v .settings) h) (handed (x .0) none (queuedSeconds v (x .1)))) (followed (v .settings) (h .ids))
-      (visitAll v (withQueue q st) (withSeconds v (followed (v .settings) (h .ids)))))
+      → Takes v st (zoned (zoneShown (ending (v .settings) h) (h .zone)) (step (kindOf (ending (v .settings) h) (handed (x .0) none (queuedSeconds v (x .1)))) (followed (v .settings) (h .ids))
+      (visitAll v (withQueue q st) (withSeconds v (followed (v .settings) (h .ids))))))
   -- x is read from its row
   from-row : {st : State} (x : Id × ℤ) (q ps : List (Id × ℤ)) (l : ℕ) (s : ℤ) → st .queue ≡ x ∷ q → v .world .graph (x .0) ≡ row ps l s
       → Takes v st (step (handed (x .0) (levelShown l) (queuedSeconds v (x .1))) (map (λ p. p .0) (followed (v .settings) ps)) (visitAll v (withQueue q st) (followed (v .settings) ps)))

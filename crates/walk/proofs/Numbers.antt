@@ -4,7 +4,7 @@ use mathlib.Core.Path.{_≡_, refl, sym, subst}
 use mathlib.Core.Logic.{⊎-elim}
 use Prim.Native.Nat.{ℕ, zero, suc, _≤_}
 use mathlib.Core.Bool.{Bool, true, false, cond}
-use mathlib.Core.Option.{none, some}
+use mathlib.Core.Option.{Option, none, some}
 use mathlib.Core.List.{List, [], _∷_, map, List·Memᴰ·cases-cons, List·Memᴰ·not-nil}
 use native.Mathlib.Omega.{arith}
 use lib.ListN.{length, take, length-take, length-map}
@@ -17,7 +17,7 @@ use Rattle.walk.specs.Settings.{followed, onlyFirst}
 use Rattle.walk.specs.Lookup.{row}
 use Rattle.walk.specs.State.{Walk, State, ids, withQueue, nobody}
 use Rattle.walk.specs.Opening.{Input, walkOf, P, refusal, Opening, closed, opened, openWalk}
-use Rattle.walk.specs.Next.{Kind, end, refused, Answer, Step, step, paintedWith, next}
+use Rattle.walk.specs.Next.{zoned, zoneShown, ending, Kind, end, refused, Answer, Step, step, paintedWith, next}
 use Rattle.walk.specs.Calls.{calls, shutCalls, answersFrom, answers}
 use Rattle.walk.specs.Reach.{Mem}
 use Rattle.walk.specs.Sums.{Sums, SumLaw}
@@ -41,6 +41,9 @@ told : (k : Kind) (f : List Id) (st : State) → length f ≤ most → Told (ste
 unfolding step
 told k f st l = record { admitted-is = refl; struck-is = refl; waiting-is = refl; few = l }
 
+told-zoned : {r : Step} (z : Option ℤ) → Told r → Told (zoned z r)
+told-zoned z t = record { admitted-is = t .admitted-is; struck-is = t .struck-is; waiting-is = t .waiting-is; few = t .few }
+
 followed-few : {A : Type 0} (s : Settings) (l : List A) → length (followed s l) ≤ length l
 unfolding followed
 followed-few s l = go (onlyFirst s)
@@ -55,7 +58,8 @@ module _ (v : Walk)
   takes-told : {st : State} {r : Step} → Takes v st r → Told r
   takes-told {st} (nothing e) = told end [] st (omega arith)
   takes-told {st} (absent x q e k) = told (refused CommitNotFound) [] (withQueue q st) (omega arith)
-  takes-told (from-store x q h e k) = told _ (followed (v .settings) (h .ids)) _ (omega (arith, followed-few (v .settings) (h .ids), few-store (x .0) h k))
+  takes-told (from-store x q h e k) =
+      told-zoned (zoneShown (ending (v .settings) h) (h .zone)) (told _ (followed (v .settings) (h .ids)) _ (omega (arith, followed-few (v .settings) (h .ids), few-store (x .0) h k)))
   takes-told (from-row x q ps l s e k) =
       told _ (map (λ p. p .0) (followed (v .settings) ps)) _
       (omega (arith, length-map (followed (v .settings) ps) (λ (p : Id × ℤ). p .0), followed-few (v .settings) ps, few-rows (x .0) ps l s k))

@@ -72,9 +72,9 @@ module _ (v : Walk) (tips : List Id) (pre : Premises v tips) (coherent : Coheren
       let away : Away v tips front (x .0) = i .queue-away (x .0) (rw (ap ids is) (List·Memᴰ·head refl)) in
       let r : Region v tips (x .0) = away-region v tips pre coherent front (x .0) away in
       let g = take-given v tips pre coherent st x rest is r in
-      let e : takeNext v st .state ≡ visitAll v (withQueue rest st) (g .3) = ap (λ (q : Step). q .state) (g .4) in
+      let e : takeNext v st .state ≡ visitAll v (withQueue rest st) (g .3) = ap (λ (q : Step). q .state) (g .5) in
       let k : left us (visitAll v (withQueue rest st) (g .3)) ≤ left us (withQueue rest st) = visitAll-left v us (g .3) (withQueue rest st)
-      (λ p m. within (x .0) (p .0) r (followed-sub (v .settings) (p .0) (links (v .world) (x .0)) (rw (g .5) at (mem-map (λ (q : Id × ℤ). q .0) p (g .3) m)))) in
+      (λ p m. within (x .0) (p .0) r (followed-sub (v .settings) (p .0) (links (v .world) (x .0)) (rw (g .6) at (mem-map (λ (q : Id × ℤ). q .0) p (g .3) m)))) in
       let n : length (st .queue) ≡ suc (length rest) = ap length is in
       (omega (arith, ap (left us) e), ap (λ (s : State). s .painted) e ∙ visitAll-painted v (g .3) (withQueue rest st))
 

@@ -19,7 +19,7 @@ use Rattle.walk.specs.declared.Refusal.the-variants.{CommitUnreadable, T
 use Rattle.walk.specs.Settings.{followed, onlyFirst}
 use Rattle.walk.specs.Lookup.{World, Row, no-row, row, corrupt, fail, good, fromStore, parentsOf, Pair, storeSeconds, secondsFor, noGeneration}
 use Rattle.walk.specs.State.{Walk, State, ids, withQueue, isEmpty}
-use Rattle.walk.specs.Next.{handed, Step, step, levelShown, visitAll, withSeconds, queuedSeconds, fromRow, fromBody, ending, kindOf, takeStore, takeRow, takeQueue, takeNext}
+use Rattle.walk.specs.Next.{handed, Step, step, zoned, zoneShown, levelShown, visitAll, withSeconds, queuedSeconds, fromRow, fromBody, ending, kindOf, takeStore, takeRow, takeQueue, takeNext}
 use Rattle.walk.specs.Reach.{Mem, NoDup, links, Reaches, itself, through}
 use Rattle.walk.specs.Demand.{Readable, Region, Premises}
 use Rattle.walk.proofs.Queue.{Away, tip, link, Walked, Due, visitAll-went, nodup-tail, nodup-first}
@@ -142,8 +142,8 @@ module _ (v : Walk) (tips : List Id) (pre : Premises v tips) (coherent : Coheren
 
   -- what taking the commit x gives
   abbrev pub Given : State → Id → Step → Type 0
-  Given st x r = (k : Option ℕ) × (q : Option ℤ) × (f : List Id) × (ps : List (Id × ℤ))
-      × (r ≡ step (handed x k q) f (visitAll v st ps))
+  Given st x r = (k : Option ℕ) × (q : Option ℤ) × (f : List Id) × (ps : List (Id × ℤ)) × (z : Option ℤ)
+      × (r ≡ zoned z (step (handed x k q) f (visitAll v st ps)))
       × (map (λ p. p .0) ps ≡ followed (v .settings) (links (v .world) x))
       × ((p : Id × ℤ) → Mem p ps → p .1 ≡ secondsFor (v .world) (p .0))
 
@@ -156,6 +156,7 @@ module _ (v : Walk) (tips : List Id) (pre : Premises v tips) (coherent : Coheren
         queuedSeconds v t,
         f,
         withSeconds v f,
+        a .0 .zone,
         rw (a .1, ending-whole (v .settings) (a .0) (links (v .world) x) (a .2)),
         ids-with v f ∙ ap (followed (v .settings)) (a .2 .ids-are),
         (λ p m. with-seconds v f p m .1),
@@ -166,7 +167,7 @@ module _ (v : Walk) (tips : List Id) (pre : Premises v tips) (coherent : Coheren
   seconds-for x t e = rw e
 
   from-row : (st : State) (x : Id) (t : ℤ) (ps : List (Id × ℤ)) (l : ℕ) (s : ℤ) → Region v tips x → v .world .graph x ≡ row ps l s → Given st x (fromRow v st x t ps l)
-  unfolding fromRow Coherent
+  unfolding fromRow step Coherent
   from-row st x t ps l s r e =
       let f = followed (v .settings) ps in
       let same = pre .agrees x r .same-parents ps l s e in (
@@ -174,6 +175,7 @@ module _ (v : Walk) (tips : List Id) (pre : Premises v tips) (coherent : Coheren
         queuedSeconds v t,
         map (λ p. p .0) f,
         f,
+        none,
         refl,
         followed-map (v .settings) (λ p. p .0) ps ∙ ap (followed (v .settings)) same,
         (λ p m.
@@ -241,15 +243,15 @@ module _ (v : Walk) (tips : List Id) (pre : Premises v tips) (coherent : Coheren
         let g = take-given st x rest is (away-region front (x .0) away) in
         let ps = g .3 in
         let due : Due v tips front (x .0 ∷ l) (x .0) away ps =
-        λ p m. (rw (g .5) at (mem-map (λ (q : Id × ℤ). q .0) p ps m), g .6 p m) in
+        λ p m. (rw (g .6) at (mem-map (λ (q : Id × ℤ). q .0) p ps m), g .7 p m) in
         let a = visitAll-went v tips front (x .0 ∷ l) (x .0) away ps (withQueue rest st) (out-of-queue st l x rest is i) due in
-        rw (g .4) (record {
+        rw (g .5) (record {
           generation-of = g .0;
           seconds-of = g .1;
           says = refl;
           walked = a .after-it;
           closed = λ y k p m o. ⊎-elim
-              (λ e. a .seen-all p (rw (g .5) (rw e at m)) o)
+              (λ e. a .seen-all p (rw (g .6) (rw e at m)) o)
               (λ j. a .seen-old p (c y j p m o))
               (List·Memᴰ·cases-cons k);
         })

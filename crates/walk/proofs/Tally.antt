@@ -21,7 +21,7 @@ use Rattle.walk.specs.Settings.{goesBefore, byTime, followed}
 use Rattle.walk.specs.Lookup.{row}
 use Rattle.walk.specs.State.{Walk, State, withQueue, nobody}
 use Rattle.walk.specs.Painting.{bothMarks}
-use Rattle.walk.specs.Next.{levelShown, Kind, end, refused, handed, Answer, Step, step, visitAll, dropped, back, withSeconds, queuedSeconds, ending, kindOf, paintedWith, next}
+use Rattle.walk.specs.Next.{levelShown, zoned, zoneShown, Kind, end, refused, handed, Answer, Step, step, visitAll, dropped, back, withSeconds, queuedSeconds, ending, kindOf, paintedWith, next}
 use Rattle.walk.specs.Calls.{calls}
 use Rattle.walk.specs.Reach.{Mem}
 use Rattle.walk.specs.Sums.{usesKind, uses, Sums, EndsBy, before, over}
@@ -100,20 +100,26 @@ module _ (v : Walk) where
       let one : usesKind k (ltb (visitAll v st ps .struck) (visitAll v st ps .admitted)) ≡ 1 = used-one n k u f ps st t in
       record { sums = omega (arith, one, b .0, b .1); then-tally = omega (arith, one, b .0, b .1) }
 
+  -- a zone adds nothing
+  adds-zoned : {n : ℕ} {r : Step} (z : Option ℤ) → Adds n r → Adds n (zoned z r)
+  unfolding uses
+  adds-zoned z a = record { sums = a .sums; then-tally = a .then-tally }
+
   takes-adds : (n : ℕ) {st : State} {r : Step} → Takes v st r → Tally n st → Adds n r
   unfolding withQueue dropped visitAll Used
   takes-adds n {st} (nothing e) t = end-adds n st t
   takes-adds n {st} (absent x q e k) t = used-adds n (refused CommitNotFound) tt [] [] (withQueue q st) (omega (arith, ap length e))
   takes-adds n {st} (from-store x q h e k) t =
-      used-adds n (kindOf (ending (v .settings) h) (handed (x .0) none (queuedSeconds v (x .1)))) (used-kind (ending (v .settings) h) (x .0) none (queuedSeconds v (x .1)))
-      (followed (v .settings) (h .ids)) (withSeconds v (followed (v .settings) (h .ids))) (withQueue q st) (omega (arith, ap length e))
+      adds-zoned (zoneShown (ending (v .settings) h) (h .zone))
+      (used-adds n (kindOf (ending (v .settings) h) (handed (x .0) none (queuedSeconds v (x .1)))) (used-kind (ending (v .settings) h) (x .0) none (queuedSeconds v (x .1)))
+      (followed (v .settings) (h .ids)) (withSeconds v (followed (v .settings) (h .ids))) (withQueue q st) (omega (arith, ap length e)))
   takes-adds n {st} (from-row x q ps l s e k) t =
       used-adds n (handed (x .0) (levelShown l) (queuedSeconds v (x .1))) tt (map (λ p. p .0) (followed (v .settings) ps)) (followed (v .settings) ps) (withQueue q st) (omega (arith, ap length e))
   takes-adds n {st} (drops x q e t) s = takes-adds n t (omega (arith, ap length e, length-back v x q))
 
   -- whatever is taken and refused counts
   pub takes-uses : (n : ℕ) {st : State} {r : Step} → Takes v st r → Tally n st → (m : Refusal) → r .answer .kind ≡ refused m → uses (r .answer) ≡ 1
-  unfolding step withQueue dropped visitAll Used
+  unfolding step uses withQueue dropped visitAll Used
   takes-uses n {st} (nothing e) t m k = let z : _≡_ {A = ℕ} 0 1 = cc in absurd (omega arith)
   takes-uses n {st} (absent x q e b) t m k = used-one n (refused CommitNotFound) tt [] [] (withQueue q st) (omega (arith, ap length e))
   takes-uses n {st} (from-store x q h e b) t m k =

@@ -2,6 +2,7 @@
 -- files, lists and settings and the number of calls"). Assumes nothing.
 use Prim.Native.Nat.{ℕ, zero, suc}
 use mathlib.Core.Bool.{true}
+use mathlib.Core.Option.{none}
 use mathlib.Core.List.{List, [], _∷_}
 use Rattle.walk.specs.declared.Refusal.the-variants.{Closed}
 use Rattle.walk.specs.Settings.{timed, cutoffOf, notBefore, onlyFirst, byTime, takenBefore, sooner, goesBefore, followed}
@@ -25,7 +26,7 @@ stateAfter i (suc k) = next (walkOf i) (stateAfter i k) .state
 
 -- the answer to a call on a closed record: 12, and "12 carr[ies] zeros"
 abbrev pub shut : Answer
-shut = record { kind = refused Closed; parents = []; admitted = 0; struck = 0; waiting = 0 }
+shut = record { kind = refused Closed; parents = []; zone = none; admitted = 0; struck = 0; waiting = 0 }
 
 unfoldable pub answerOn : Walk → State → Opening → Answer
 answerOn w st (closed r) = shut

@@ -12,6 +12,9 @@ use Rattle.walk.specs.declared.MaybeLevel.{MaybeLevel}
 use Rattle.walk.specs.declared.MaybeLevel.the-variants.{Generation, NoGeneration}
 use Rattle.walk.specs.declared.MaybeSeconds.{MaybeSeconds}
 use Rattle.walk.specs.declared.MaybeSeconds.the-variants.{Time, NoTime}
+use Rattle.date.specs.declared.Zone.{Zone}
+use Rattle.date.specs.declared.Zone.the-variants.{Minutes, NoZone}
+use Rattle.object.specs.Read.{zoneGiven}
 use Rattle.walk.specs.declared.OpenOutcome.{OpenOutcome}
 use Rattle.walk.specs.declared.OpenOutcome.the-variants.{Accepted, NotOpened}
 use Rattle.walk.specs.declared.Info.{Info}
@@ -58,15 +61,15 @@ secondsOfKind end = NoTime
 secondsOfKind (refused r) = NoTime
 secondsOfKind (handed x g t) = secondsGiven t
 
--- what an answer says of a commit; n parents' ids stand in the buffer
-abbrev pub infoOf : Kind → ℕ → Info
-infoOf k n = record { id = idOfKind k; parents = n; generation = levelOfKind k; time = secondsOfKind k }
+-- what an answer says of a commit, with card 7's zone; n parents' ids stand in the buffer
+abbrev pub infoOf : Kind → ℕ → Option ℤ → Info
+infoOf k n z = record { id = idOfKind k; parents = n; generation = levelOfKind k; time = secondsOfKind k; zone = zoneGiven z }
 
 -- an answer of the walk, field by field as a call gives it; the parents' ids stand in the buffer, here is their number
 unfoldable pub given : Answer → Given
 given a = record {
   outcome = outcomeOf (a .kind);
-  info = infoOf (a .kind) (length (a .parents));
+  info = infoOf (a .kind) (length (a .parents)) (a .zone);
   admitted = a .admitted;
   struck = a .struck;
   waiting = a .waiting;
@@ -115,3 +118,8 @@ levelValue NoGeneration = 0
 abbrev pub secondsValue : MaybeSeconds → ℤ
 secondsValue (Time s) = s .0
 secondsValue NoTime = pos 0
+
+-- minutes, 0 where there is no zone
+abbrev pub zoneValue : Zone → ℤ
+zoneValue (Minutes m) = m
+zoneValue NoZone = pos 0

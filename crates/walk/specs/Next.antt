@@ -26,11 +26,12 @@ pub data Kind : Type 0 where
   refused : Refusal → Kind
   handed : Id → Option ℕ → Option ℤ → Kind
 
--- an answer: its kind, the parents' ids that stand at the start of the buffer parents, and "this walk's running numbers of commits
+-- an answer: its kind, the parents' ids that stand at the start of the buffer parents, card 7's zone, "signed minutes, or none", and "this walk's running numbers of commits
 -- admitted (those that ever waited), struck and waiting"
 pub record Answer : Type 0 where
   pub kind : Kind
   pub parents : List Id
+  pub zone : Option ℤ
   pub admitted : ℕ
   pub struck : ℕ
   pub waiting : ℕ
@@ -42,8 +43,22 @@ pub record Step : Type 0 where
 
 unfoldable pub step : Kind → List Id → State → Step
 step k ps st = record {
-  answer = record { kind = k; parents = ps; admitted = st .admitted; struck = st .struck; waiting = length (st .queue) };
+  answer = record { kind = k; parents = ps; zone = none; admitted = st .admitted; struck = st .struck; waiting = length (st .queue) };
   state = st;
+}
+
+-- the same with a zone
+abbrev pub zoned : Option ℤ → Step → Step
+zoned z s = record {
+  answer = record {
+    kind = s .answer .kind;
+    parents = s .answer .parents;
+    zone = z;
+    admitted = s .answer .admitted;
+    struck = s .answer .struck;
+    waiting = s .answer .waiting;
+  };
+  state = s .state;
 }
 
 -- ---- the parents of a commit
@@ -98,13 +113,19 @@ unfoldable pub kindOf : Option Refusal → Kind → Kind
 kindOf none k = k
 kindOf (some r) k = refused r
 
+-- card 7: "none when the commit came from the graph, which holds no zone; … and is none if a line up to committer is bad, and in a refusal or
+-- end": the zone z of a header that ends so
+abbrev pub zoneShown : Option Refusal → Option ℤ → Option ℤ
+zoneShown none z = z
+zoneShown (some r) z = none
+
 -- from the store. "9 to 11 use up the commit; after 10 and 11 ids already read stand at the start of parents, counted in the answer,
 -- and those admitted stay so"
 unfoldable pub fromBody : Walk → State → Id → ℤ → Option Header → Step
 fromBody w st x t none = step (refused CommitNotFound) [] st
 fromBody w st x t (some h) =
     let f = followed (w .settings) (h .ids) in
-    step (kindOf (ending (w .settings) h) (handed x none (queuedSeconds w t))) f (visitAll w st (withSeconds w f))
+    zoned (zoneShown (ending (w .settings) h) (h .zone)) (step (kindOf (ending (w .settings) h) (handed x none (queuedSeconds w t))) f (visitAll w st (withSeconds w f)))
 
 -- ---- the next commit of the queue
 

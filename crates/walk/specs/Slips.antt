@@ -221,12 +221,16 @@ idsFor (n ∷ ns) = idFor n ∷ idsFor ns
 
 -- a kind, parents, and the numbers of commits admitted, struck and waiting
 abbrev pub whole : Kind → List ℕ → ℕ → ℕ → ℕ → Answer
-whole k ps a s w = record { kind = k; parents = idsFor ps; admitted = a; struck = s; waiting = w }
+whole k ps a s w = record { kind = k; parents = idsFor ps; zone = none; admitted = a; struck = s; waiting = w }
+
+-- the same of a commit from the store, whose committer line has the zone +0000
+abbrev pub zonedWhole : Kind → List ℕ → ℕ → ℕ → ℕ → Answer
+zonedWhole k ps a s w = record { kind = k; parents = idsFor ps; zone = some (pos 0); admitted = a; struck = s; waiting = w }
 
 pub record Fields : Type 0 where
   -- tips 8 and 5, hide 5: 5 waited and is struck
   pub struck : answers (inputWith sample [] (8 ∷ 5 ∷ []) (5 ∷ []) (all BreadthFirst)) 2
-      ≡ whole (handed (idFor 8) none none) (6 ∷ 7 ∷ []) 4 1 2 ∷ whole (handed (idFor 6) none none) (5 ∷ []) 4 1 1 ∷ []
+      ≡ zonedWhole (handed (idFor 8) none none) (6 ∷ 7 ∷ []) 4 1 2 ∷ zonedWhole (handed (idFor 6) none none) (5 ∷ []) 4 1 1 ∷ []
   -- from a graph row come the level and the parents, in EDGE from the second on; under a time order the seconds that a commit was queued with
   pub graph-row : answers (inputWith fork listing (1 ∷ []) [] (all newest)) 2
       ≡ whole (handed (idFor 1) (some 2) (some (pos 9))) (2 ∷ 3 ∷ 4 ∷ []) 4 0 3 ∷ whole (handed (idFor 3) (some 1) (some (pos 6))) [] 4 0 2 ∷ []
@@ -235,12 +239,12 @@ pub record Fields : Type 0 where
       ≡ whole (handed (idFor 1) none (some (pos 9))) (2 ∷ 3 ∷ 4 ∷ []) 4 0 3 ∷ whole (handed (idFor 2) none (some (pos 8))) [] 4 0 2 ∷ []
   -- a corrupt list drops the graph for good
   pub no-graph : answers (inputWith fork cut (1 ∷ []) [] (all newest)) 2
-      ≡ whole (handed (idFor 1) none (some (pos 9))) (2 ∷ 3 ∷ 4 ∷ []) 4 0 3 ∷ whole (handed (idFor 3) none (some (pos 6))) [] 4 0 2 ∷ []
+      ≡ zonedWhole (handed (idFor 1) none (some (pos 9))) (2 ∷ 3 ∷ 4 ∷ []) 4 0 3 ∷ zonedWhole (handed (idFor 3) none (some (pos 6))) [] 4 0 2 ∷ []
   -- under First neither the other parents nor the seconds
-  pub first-parent : answers (inputWith fork [] (1 ∷ []) [] (firstOnly newest)) 1 ≡ whole (handed (idFor 1) none none) (2 ∷ []) 2 0 1 ∷ []
+  pub first-parent : answers (inputWith fork [] (1 ∷ []) [] (firstOnly newest)) 1 ≡ zonedWhole (handed (idFor 1) none none) (2 ∷ []) 2 0 1 ∷ []
   -- a refused commit is used up
   pub not-found : answers (inputWith lost [] (1 ∷ []) [] (all BreadthFirst)) 3
-      ≡ whole (handed (idFor 1) none none) (9 ∷ []) 2 0 1 ∷ whole (refused CommitNotFound) [] 2 0 0 ∷ whole end [] 2 0 0 ∷ []
+      ≡ zonedWhole (handed (idFor 1) none none) (9 ∷ []) 2 0 1 ∷ whole (refused CommitNotFound) [] 2 0 0 ∷ whole end [] 2 0 0 ∷ []
   -- painting's own refusal strikes all that waits
   pub not-painted : answers (inputWith lost [] (1 ∷ []) (1 ∷ []) (all BreadthFirst)) 2 ≡ whole (refused CommitNotFound) [] 1 1 0 ∷ whole end [] 1 1 0 ∷ []
   -- a refused opening: 12, and zeros

@@ -8,6 +8,7 @@ ghost use Rattle.walk.specs.Lookup.{pairOf, ltPair};
 ghost use Rattle.walk.specs.Settings.{timed, cutoffOf, notBefore};
 use commitgraph::Level;
 use date::Seconds;
+use date::Zone;
 
 // Which of two commits a time order takes first (document 01: newest, oldest).
 pub enum CommitTimeOrder {
@@ -87,6 +88,8 @@ pub struct Info {
     pub parents: usize,
     pub generation: MaybeLevel,
     pub time: MaybeSeconds,
+    // The minutes by which the committer's clock is ahead of UTC, where the commit came from the store.
+    pub zone: Zone,
 }
 
 // The answer of a call: its outcome, what it says of a commit, and the walk's running numbers.

@@ -15,7 +15,7 @@ use Rattle.walk.specs.declared.CommitTimeOrder.the-variants.{NewestFirst, Oldes
 use Rattle.walk.specs.declared.Parents.{Parents}
 use Rattle.walk.specs.declared.Parents.the-variants.{All, First}
 use Rattle.walk.specs.declared.OpenAnswer.{OpenAnswer}
-use Rattle.walk.specs.Given.{Given, outcomeNumber, openNumber, secondsValue}
+use Rattle.walk.specs.Given.{Given, outcomeNumber, openNumber, secondsValue, zoneValue}
 use Rattle.wire.specs.Words.{openWords, answerWords}
 
 -- ---- settings
@@ -46,4 +46,4 @@ pub record PutsAnswer (a : Given) (id id′ numbers numbers′ : List ℕ) (seco
   pub result : n ≡ outcomeNumber (a .outcome)
   pub id-is : id′ ≡ setDown id 0 (a .info .id)
   pub numbers-are : numbers′ ≡ setDown numbers 0 (answerWords a)
-  pub seconds-are : seconds′ ≡ set seconds 0 (secondsValue (a .info .time))
+  pub seconds-are : seconds′ ≡ set (set seconds 0 (secondsValue (a .info .time))) 1 (zoneValue (a .info .zone))

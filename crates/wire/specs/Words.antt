@@ -13,6 +13,8 @@ use Rattle.walk.specs.declared.MaybeLevel.{MaybeLevel}
 use Rattle.walk.specs.declared.MaybeLevel.the-variants.{Generation, NoGeneration}
 use Rattle.walk.specs.declared.MaybeSeconds.{MaybeSeconds}
 use Rattle.walk.specs.declared.MaybeSeconds.the-variants.{Time, NoTime}
+use Rattle.date.specs.declared.Zone.{Zone}
+use Rattle.date.specs.declared.Zone.the-variants.{Minutes, NoZone}
 use Rattle.walk.specs.declared.Refusal.the-variants.{Closed}
 use Rattle.walk.specs.Refusals.{numberOf}
 use Rattle.walk.specs.Given.{Given, levelValue}
@@ -103,10 +105,15 @@ abbrev pub hasSeconds : MaybeSeconds → ℕ
 hasSeconds (Time s) = 1
 hasSeconds NoTime = 0
 
--- the same numbers, how many ids stand in parents, whether the answer has a level, the level, and whether it has seconds
+abbrev pub hasZone : Zone → ℕ
+hasZone (Minutes m) = 1
+hasZone NoZone = 0
+
+-- the same numbers, how many ids stand in parents, whether the answer has a level, the level, whether it has seconds, and whether it has a zone
 unfoldable pub answerWords : Given → List ℕ
 answerWords a =
-    a .admitted ∷ a .struck ∷ a .waiting ∷ a .info .parents ∷ hasLevel (a .info .generation) ∷ levelValue (a .info .generation) ∷ hasSeconds (a .info .time) ∷ []
+    a .admitted ∷ a .struck ∷ a .waiting ∷ a .info .parents ∷ hasLevel (a .info .generation) ∷ levelValue (a .info .generation) ∷ hasSeconds (a .info .time)
+    ∷ hasZone (a .info .zone) ∷ []
 
 -- ---- room
 
@@ -114,6 +121,6 @@ answerWords a =
 unfoldable pub roomToOpen : List ℕ → List ℕ → Bool
 roomToOpen words numbers = leb recordWords (length words) && leb 3 (length numbers)
 
--- for the record's words, and a call's id, seven numbers and seconds
+-- for the record's words, and a call's id, eight numbers, and seconds and zone
 unfoldable pub roomToCall : List ℕ → List ℕ → List ℕ → List ℤ → Bool
-roomToCall words id numbers seconds = leb recordWords (length words) && leb idBytes (length id) && leb 7 (length numbers) && leb 1 (length seconds)
+roomToCall words id numbers seconds = leb recordWords (length words) && leb idBytes (length id) && leb 8 (length numbers) && leb 2 (length seconds)

@@ -2,6 +2,7 @@
 // numbers and lengths.
 use commitgraph::Layout;
 use date::Seconds;
+use date::Zone;
 use hash::Kind;
 use revwalk::queue::Queue;
 use state::Fixed;
@@ -21,8 +22,8 @@ ghost use Prim.Native.Nat.{_%_};
 ghost use lib.ListN.{getD, set};
 ghost use lib.Dec.{eqb};
 ghost use Rattle.hash.specs.Bytes.{setDown};
-ghost use Rattle.walk.specs.Given.{outcomeNumber, openNumber, levelValue, secondsValue};
-ghost use Rattle.wire.specs.Words.{bitOf, wordsOf, recordOf, queueOf, fixedIn, Encodes, PutsRecord, answerWords, hasLevel, hasSeconds, roomToOpen, roomToCall};
+ghost use Rattle.walk.specs.Given.{outcomeNumber, openNumber, levelValue, secondsValue, zoneValue};
+ghost use Rattle.wire.specs.Words.{bitOf, wordsOf, recordOf, queueOf, fixedIn, Encodes, PutsRecord, answerWords, hasLevel, hasSeconds, hasZone, roomToOpen, roomToCall};
 ghost use Rattle.wire.specs.Numbers.{timeOrder, sortingOf, parentsOf, settingsOf, PutsOpenAnswer, PutsAnswer};
 
 // How many words a record has.
@@ -31,7 +32,7 @@ const RECORD_WORDS: usize = 19;
 // How many numbers an opening's answer has, and a call's.
 const OPEN_NUMBERS: usize = 3;
 
-const CALL_NUMBERS: usize = 7;
+const CALL_NUMBERS: usize = 8;
 
 // Document 01's number of the refusal "closed".
 const CLOSED: u32 = 12;
@@ -62,7 +63,7 @@ pub fn can_call(words: &[u64], id: &[u8], numbers: &[u64], seconds: &[i64]) -> b
     if numbers.len() < CALL_NUMBERS {
         return false;
     }
-    1 <= seconds.len()
+    2 <= seconds.len()
 }
 
 fn bit(b: bool) -> u64
@@ -351,13 +352,42 @@ fn put_seconds(s: i64, out: &mut [i64])
     }
 }
 
+fn has_zone(z: Zone) -> u64
+    ensures { λ n. ⌜ n ≡ hasZone z ⌝ }
+{
+    match z {
+        Zone::Minutes(_) => 1,
+        Zone::NoZone => 0,
+    }
+}
+
+// The minutes of a zone, 0 where there is none.
+fn zone_value(z: Zone) -> i64
+    ensures { λ m. ⌜ m ≡ zoneValue z ⌝ }
+{
+    match z {
+        Zone::Minutes(m) => m,
+        Zone::NoZone => 0,
+    }
+}
+
+// A zone set down behind the seconds, if there is a place.
+fn put_zone(m: i64, out: &mut [i64])
+    ensures { λ r. ⌜ now (out .exit) ≡ set (now (out .entry)) 1 m ⌝ }
+{
+    if 1 < out.len() {
+        out[1] = m;
+    }
+}
+
 // The numbers of a call's answer.
-fn answer_words(a: Answer) -> [u64; 7]
+fn answer_words(a: Answer) -> [u64; 8]
     ensures { λ w. ⌜ w ≡ answerWords a ⌝ }
 {
     let info = a.info;
     let g = info.generation;
     let t = info.time;
+    let z = info.zone;
     [
         long(a.admitted),
         long(a.struck),
@@ -366,6 +396,7 @@ fn answer_words(a: Answer) -> [u64; 7]
         has_level(g),
         level_value(g),
         has_seconds(t),
+        has_zone(z),
     ]
 }
 
@@ -381,6 +412,8 @@ pub fn put_answer(a: Answer, id: &mut [u8], numbers: &mut [u64], seconds: &mut [
     let t = info.time;
     let s = seconds_value(t);
     put_seconds(s.0, seconds);
+    let z = info.zone;
+    put_zone(zone_value(z), seconds);
     let o = a.outcome;
     call_number(o)
 }

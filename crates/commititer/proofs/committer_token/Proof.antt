@@ -14,8 +14,8 @@ use Rattle.commititer.proofs.committer_token.Lts as lts
 committer-line-requires : tie.Need-committer-line-requires
 committer-line-requires c κs = search needs
 
-enum-known-seconds : tie.Need-enum-known-seconds
-enum-known-seconds c = search needs
+enum-known-stamp : tie.Need-enum-known-stamp
+enum-known-stamp c = search needs
 
 without-id-requires : tie.Need-without-id-requires
 without-id-requires c κs = search needs
@@ -31,7 +31,7 @@ returns c =
     let x = c .before .before .before .before .before .before .args in
     let b = x .«data» .now in
     c .without-id .ensures
-    ∙ sym (ap (tokenOf b (here (x .at) Committer)) (committer-good (committerLine (drop (x .at) b)) _ (sym (c .before .before .before .before .committer-line .ensures) ∙ c .before .before .seconds .given .1)))
+    ∙ sym (ap (tokenOf b (here (x .at) Committer)) (committer-good (committerLine (drop (x .at) b)) _ (sym (c .before .before .before .before .committer-line .ensures) ∙ c .before .before .stamp .given .1)))
 
 returns-2 : tie.Need-returns-2
 returns-2 c =
@@ -45,7 +45,7 @@ committer-token-spec =
     tie.close
     (tie.spec
     committer-line-requires
-    enum-known-seconds
+    enum-known-stamp
     without-id-requires
     enum-told
     no-line-requires

@@ -19,8 +19,8 @@ enum-told-2 c = search needs
 
 returns : tie.Need-returns
 returns c =
-    let x = c .before .before .before .before .before .args in
-    ap (bodyCommit (x .start) (x .end)) (sym (c .before .parents .given .1)) ∙ ap (bodyCommit (x .start) (x .end)) (c .before .before .before .readable .ensures)
+    let x = c .before .before .before .before .before .before .args in
+    ap (bodyCommit (x .start) (x .end)) (sym (c .before .before .parents .given .1)) ∙ ap (bodyCommit (x .start) (x .end)) (c .before .before .before .before .readable .ensures)
 
 returns-2 : tie.Need-returns-2
 returns-2 c =

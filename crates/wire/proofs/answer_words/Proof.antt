@@ -26,16 +26,20 @@ level-value-requires c κs = search needs
 has-seconds-requires : tie.Need-has-seconds-requires
 has-seconds-requires c κs = search needs
 
+has-zone-requires : tie.Need-has-zone-requires
+has-zone-requires c κs = search needs
+
 returns : tie.Need-returns
 unfolding answerWords
 returns c = λ k.
-    c .before .before .before .before .before .before .long .ensures k
-    ∷ c .before .before .before .before .before .long2 .ensures k
-    ∷ c .before .before .before .before .long3 .ensures k
-    ∷ c .before .before .before .long4 .ensures k
-    ∷ c .before .before .has-level .ensures k
-    ∷ c .before .level-value .ensures k
-    ∷ c .has-seconds .ensures k
+    c .before .before .before .before .before .before .before .long .ensures k
+    ∷ c .before .before .before .before .before .before .long2 .ensures k
+    ∷ c .before .before .before .before .before .long3 .ensures k
+    ∷ c .before .before .before .before .long4 .ensures k
+    ∷ c .before .before .before .has-level .ensures k
+    ∷ c .before .before .level-value .ensures k
+    ∷ c .before .has-seconds .ensures k
+    ∷ c .has-zone .ensures k
     ∷ []
 
 pub answer-words-spec : {M : Type 1} → statement M
@@ -49,4 +53,5 @@ answer-words-spec =
     has-level-requires
     level-value-requires
     has-seconds-requires
+    has-zone-requires
     returns)

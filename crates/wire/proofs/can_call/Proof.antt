@@ -31,7 +31,7 @@ returns-4 : tie.Need-returns-4
 unfolding roomToCall
 returns-4 c = let h : 19 ≤ length (c .before .before .before .before .before .before .before .args .words .now) = omega arith in
     let g : 20 ≤ length (c .before .before .before .before .before .before .before .args .id .now) = omega (arith, c .before .before .width .ensures .0) in
-    let f : 7 ≤ length (c .before .before .before .before .before .before .before .args .numbers .now) = omega arith in
+    let f : 8 ≤ length (c .before .before .before .before .before .before .before .args .numbers .now) = omega arith in
     rw (le-leb _ _ h, le-leb _ _ g, le-leb _ _ f)
 
 pub can-call-spec : {M : Type 1} → statement M

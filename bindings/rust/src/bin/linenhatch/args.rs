@@ -10,7 +10,7 @@ pub const HELP: &str = "\
 linenhatch: lists the commits of a git repository, with a walk that is proved to list each one that it should, once
 
 usage: linenhatch [-C DIR] [--order newest|oldest|breadth] [-n N] [--count] [--reverse] [--since SECONDS] [--first-parent]
-                  [--hide REV]... [--exclude REV]... [--no-graph] [--parents] [--time] [--progress] [REV...]
+                  [--hide REV]... [--exclude REV]... [--no-graph] [--parents] [--time] [--zone] [--progress] [REV...]
        linenhatch --check-names [-C DIR] [--no-graph] [--progress] [REV...]
 
 Lists what the REVs reach (HEAD if none is given), one id on a line. A REV is any name of a commit that git knows; ^A is --hide A, and A..B is
@@ -33,6 +33,8 @@ Lists what the REVs reach (HEAD if none is given), one id on a line. A REV is an
   --time            prints SECONDS/GENERATION after the id, - where there is none: seconds are there in an order by time without
                     --first-parent, a generation for a commit that came from a commit-graph file with
                     generations (in which none is 0)
+  --zone            prints the committer's time zone after the id, as +hhmm or -hhmm, - where there is none: a commit that came from the
+                    commit-graph file has none, which holds no zones (--no-graph), nor one whose committer line has none that can be read
   --check-names     lists nothing: checks that each commit which the REVs reach is under the id that git makes of its body, and that git's
                     commit-graph file ends in the digest of the rest. Says which commit is at fault. The commits must fit in one store, whole
   --progress        shows on standard error how far the work is, also where that is no terminal
@@ -68,6 +70,7 @@ pub struct Args {
     pub graph: bool,
     pub parents: bool,
     pub time: bool,
+    pub zone: bool,
     pub progress: bool,
     pub check_names: bool,
     pub revs: Vec<OsString>,
@@ -90,6 +93,7 @@ pub fn parse(words: impl IntoIterator<Item = OsString>) -> Result<Task, String> 
         graph: true,
         parents: false,
         time: false,
+        zone: false,
         progress: false,
         check_names: false,
         revs: Vec::new(),
@@ -124,6 +128,7 @@ pub fn parse(words: impl IntoIterator<Item = OsString>) -> Result<Task, String> 
             "--no-graph" => args.graph = false,
             "--parents" => args.parents = true,
             "--time" => args.time = true,
+            "--zone" => args.zone = true,
             "--progress" => args.progress = true,
             "--check-names" => args.check_names = true,
             "--help" | "-h" => return Ok(Task::Help),

@@ -214,12 +214,21 @@ fn print(commit: &Commit, args: &Args, out: &mut impl Write) -> io::Result<()> {
     if args.time {
         write!(out, " {}/{}", or_dash(commit.time), or_dash(commit.generation))?;
     }
+    if args.zone {
+        write!(out, " {}", or_dash(commit.zone.map(clock)))?;
+    }
     if args.parents {
         for parent in &commit.parents {
             write!(out, " {parent}")?;
         }
     }
     writeln!(out)
+}
+
+/// Minutes ahead of UTC as git writes a zone; 0 is +0000.
+fn clock(minutes: i32) -> String {
+    let sign = if minutes < 0 { '-' } else { '+' };
+    format!("{sign}{:02}{:02}", minutes.abs() / 60, minutes.abs() % 60)
 }
 
 fn or_dash<T: ToString>(value: Option<T>) -> String {

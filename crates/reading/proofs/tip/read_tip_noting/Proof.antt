@@ -7,14 +7,14 @@ use Rattle.reading.proofs.tip.read_tip_noting.Tie as tie
 try-find-noting-requires : tie.Need-try-find-noting-requires
 try-find-noting-requires c κs = search needs
 
-seconds-only-requires : tie.Need-seconds-only-requires
-seconds-only-requires c κs = search needs
+stamp-only-requires : tie.Need-stamp-only-requires
+stamp-only-requires c κs = search needs
 
 tip-seconds-requires : tie.Need-tip-seconds-requires
 tip-seconds-requires c κs = search needs
 
 returns : tie.Need-returns
-returns c = (tip-body (c .before .before .before .try-find-noting .ensures .0) (c .before .before .if1 .taken) (c .before .seconds-only .ensures) (c .tip-seconds .ensures), c .before .before .before .try-find-noting .ensures .1)
+returns c = (tip-body (c .before .before .before .try-find-noting .ensures .0) (c .before .before .if1 .taken) (c .before .stamp-only .ensures) (c .tip-seconds .ensures), c .before .before .before .try-find-noting .ensures .1)
 
 returns-2 : tie.Need-returns-2
 returns-2 c = (tip-missing (c .before .try-find-noting .ensures .0) (c .if1 .left), c .before .try-find-noting .ensures .1)
@@ -24,7 +24,7 @@ read-tip-noting-spec =
     tie.close
     (tie.spec
     try-find-noting-requires
-    seconds-only-requires
+    stamp-only-requires
     tip-seconds-requires
     returns
     returns-2)

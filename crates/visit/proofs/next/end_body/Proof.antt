@@ -4,12 +4,17 @@ use Rattle.reading.specs.declared.body.BodyEnd.{BodyEnd}
 use Rattle.visit.specs.Taking.{endGiven}
 use Rattle.hash.specs.Bytes.{idBytes}
 use Rattle.object.specs.Ids.{idIn}
+use Rattle.date.specs.declared.Zone.the-variants.{NoZone}
+use Rattle.visit.proofs.Past.{unreadable-not-whole, crowded-not-whole}
 use borrow.Author.Needs.{needs}
 use Rattle.visit.proofs.next.end_body.Statement.{statement}
 use Rattle.visit.proofs.next.end_body.Tie as tie
 
 enum-told : tie.Need-enum-told
 enum-told c = search needs
+
+zone-past-requires : tie.Need-zone-past-requires
+zone-past-requires c κs = search needs
 
 give-requires : tie.Need-give-requires
 give-requires c κs = search needs
@@ -27,19 +32,41 @@ refuse-requires-2 : tie.Need-refuse-requires-2
 refuse-requires-2 c κs = search needs
 
 returns : tie.Need-returns
-returns c = let a = c .before .before .before .args in record { is = c .give .ensures ∙ ap (λ (e : BodyEnd). endGiven e (idIn idBytes (a .id .bytes)) (a .seen .parents) (a .time) (a .seen .after)) (sym (c .before .enum-told .given .1)) }
+returns c =
+    let a = c .before .before .before .before .before .args in
+    let z = c .before .zone-past .result in
+    record {
+      zone = z;
+      right = λ g h e. c .before .zone-past .ensures g h;
+      is = c .give .ensures ∙ ap (λ (e : BodyEnd). endGiven e (idIn idBytes (a .id .bytes)) (a .seen .parents) (a .time) z (a .seen .after)) (sym (c .before .before .enum-told .given .1));
+    }
 
 returns-2 : tie.Need-returns-2
-returns-2 c = let a = c .before .before .before .args in record { is = c .refuse .ensures ∙ ap (λ (e : BodyEnd). endGiven e (idIn idBytes (a .id .bytes)) (a .seen .parents) (a .time) (a .seen .after)) (sym (c .before .enum-told2 .given .1)) }
+returns-2 c =
+    let a = c .before .before .before .before .args in
+    let e = c .before .enum-told2 .given .1 in
+    record {
+      zone = NoZone;
+      right = λ g h k. absurd (unreadable-not-whole (sym e ∙ k));
+      is = c .refuse .ensures ∙ ap (λ (e : BodyEnd). endGiven e (idIn idBytes (a .id .bytes)) (a .seen .parents) (a .time) NoZone (a .seen .after)) (sym e);
+    }
 
 returns-3 : tie.Need-returns-3
-returns-3 c = let a = c .before .before .before .args in record { is = c .refuse2 .ensures ∙ ap (λ (e : BodyEnd). endGiven e (idIn idBytes (a .id .bytes)) (a .seen .parents) (a .time) (a .seen .after)) (sym (c .before .enum-told3 .given .1)) }
+returns-3 c =
+    let a = c .before .before .before .before .args in
+    let e = c .before .enum-told3 .given .1 in
+    record {
+      zone = NoZone;
+      right = λ g h k. absurd (crowded-not-whole (sym e ∙ k));
+      is = c .refuse2 .ensures ∙ ap (λ (e : BodyEnd). endGiven e (idIn idBytes (a .id .bytes)) (a .seen .parents) (a .time) NoZone (a .seen .after)) (sym e);
+    }
 
 pub end-body-spec : {M : Type 1} → statement M
 end-body-spec =
     tie.close
     (tie.spec
     enum-told
+    zone-past-requires
     give-requires
     enum-told-2
     refuse-requires
