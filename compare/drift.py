@@ -69,6 +69,7 @@ def make(repository, parents, seconds, zones=None):
     """The ids of the commits, in order. zones: of each commit the author's and the committer's."""
     stream = []
     for n, links in enumerate(parents):
+        stream += ["reset refs/heads/main\n\n"] if n and not links else []  # a further root; else it would go on from the commit before
         text = f"run {n}\n"
         people = [f"{who} Bench <bench@example.org> {seconds[n]} {zone}\n" for who, zone in zip(("author", "committer"), zones[n] if zones else ["+0000"] * 2)]
         stream.append(f"commit refs/heads/main\nmark :{n + 1}\n{''.join(people)}data {len(text)}\n{text}")

@@ -2,6 +2,7 @@
 
 `Files` is what the two files say of an id. `Walk` is an opening and its next calls. Sentences in quotation marks are the documents'.
 `commit_id` and `check_names` are card 2.
+`merge_base` is cards 8 and 11.
 """
 import hashlib
 import os
@@ -336,3 +337,47 @@ def check_names(store, graph):
     if graph and hashlib.sha1(graph[:-20]).digest() != graph[-20:]:
         return 17, 0
     return 0, 0
+
+
+def reach(files, tip):
+    """What a tip reaches over the parents in the book; "A tip counts as its own ancestor." """
+    met, left = set(), [tip]
+    while left:
+        name = left.pop()
+        if name not in met:
+            met.add(name)
+            left += files.header(name).ids if readable(files, name) else []
+    return met
+
+
+def readable(files, name):
+    header = files.header(name)
+    return header is not None and header.fault() is None
+
+
+def best_common(files, one, other):
+    """Card 8: "reachable from both, and not reachable from another commit that is". The common ones and the best ones."""
+    common = reach(files, one) & reach(files, other)
+    return common, {x for x in common if not any(x in reach(files, y) for y in common if y != x)}
+
+
+def merge_base(store, one, other, room=True):
+    """The number of the refusal, 0 where there is none, and the best commits, None where there is none. "Refused: 23 tangled reach, exactly then; before it
+    13, for a commit reachable from either tip that is not readable, and before that 2, 4 and 1". room: whether the memory is enough. """
+    if len(store) > MOST_BYTES:
+        return 2, None
+    files = Files(store, b"")
+    if files.fault is not None:
+        return files.fault, None
+    if not room:
+        return 1, None
+    if not all(readable(files, name) for name in reach(files, one) | reach(files, other)):
+        return 13, None
+    common, best = best_common(files, one, other)
+    # "Say none exactly when no commit is reachable from both."
+    if not common:
+        return 0, None
+    if not best:
+        return 23, None
+    # "Any one of them will do."
+    return 0, best

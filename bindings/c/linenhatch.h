@@ -38,6 +38,7 @@ extern "C" {
 #define LINENHATCH_NUMBERS 8u                                             /* uint64_t, of a call */
 #define LINENHATCH_SECONDS 2u                                             /* int64_t */
 #define LINENHATCH_CHECK_NUMBERS 1u                                       /* uint64_t, of a check of names */
+#define LINENHATCH_BASE_NUMBERS 1u                                        /* uint64_t, of where two series part */
 
 /* ---- where a number stands in numbers */
 
@@ -59,12 +60,15 @@ extern "C" {
 /* of a check of names alone: */
 #define LINENHATCH_ENTRY 0 /* after 16 the number of the first entry at fault, counted from 0 in the order of ids, else 0 */
 
+/* of where two series part alone: */
+#define LINENHATCH_HAS_BASE 0 /* 1 where id holds a commit, else 0 */
+
 /* ---- results: a commit or an opening that is accepted is 0, the end 100, no room 101, all others are refusals */
 
 #define LINENHATCH_ACCEPTED 0u
 #define LINENHATCH_COMMIT 0u
 #define LINENHATCH_END 100u
-#define LINENHATCH_NO_ROOM 101u /* record, numbers, id or seconds is too short: lend each the length above; nothing was done */
+#define LINENHATCH_NO_ROOM 101u /* record, numbers, id, seconds or a tip is too short: lend each the length above; nothing was done */
 
 /* of an opening */
 #define LINENHATCH_BUFFER_TOO_SMALL 1u /* a buffer of names to parents is below its size */
@@ -82,9 +86,15 @@ extern "C" {
 #define LINENHATCH_TOO_MANY_PARENTS 11u  /* over 256 parents */
 #define LINENHATCH_CLOSED 12u            /* the record is closed, or the memory was touched */
 
+/* of where two series part */
+#define LINENHATCH_UNREADABLE_REACH 13u /* a commit that a tip reaches is not in the store, or cannot be read there */
+
 /* of a check of names */
 #define LINENHATCH_FALSE_NAME 16u     /* a commit's id is not the digest of its body */
 #define LINENHATCH_FALSE_CHECKSUM 17u /* the graph file does not end in the digest of the rest */
+
+/* of where two series part */
+#define LINENHATCH_TANGLED_REACH 23u /* commits are reachable from both tips and none is best: parents run in a circle */
 
 /* How many places a walk over these files and lists needs. It depends on no setting and on no excluded id, and is given for any bytes,
  * also for files that an opening would refuse. */
@@ -162,6 +172,32 @@ uint32_t linenhatch_next(
 uint32_t linenhatch_check_names(
     const uint8_t *store, size_t store_len,
     const uint8_t *graph, size_t graph_len,
+    uint64_t *numbers, size_t numbers_len);
+
+/* Where two series part (git's merge-base): 0 where it is said, else the number of the first refusal in the order 2, 4, 1, 13, 23.
+ *
+ * one, other: a tip each, of which the first 20 bytes count. A commit is common where it is reachable from both over the store's parents; a
+ * tip is reachable from itself. A common commit is best where it is not reachable from another. Any best one is
+ * given. numbers says 1 and id holds the commit; or 0 and zeros, exactly where no commit is common.
+ *
+ * 13: a commit that a tip reaches, the tip too, is not in the store, or is not readable there (a header line is bad, or it has over 256
+ * parents). 23: commits are common and none is best, which needs parents that run in a circle. After a refusal numbers says 0 and id zeros.
+ *
+ * names to parents are memory of the lengths above, with places = linenhatch_places of the store, no graph, the two tips end to end and nothing
+ * hidden: 2 and a 48th of the store's length, rounded down. times and parents are not read or written: their lengths are tested. After
+ * 2, 4 and 1 not a byte of it is altered; after all else what it holds is not said. Where one or other has under 20 bytes, or id or numbers is
+ * itself too short, the result is 101, before all other tests, and nothing at all is altered. It takes time in proportion to the links. */
+uint32_t linenhatch_merge_base(
+    const uint8_t *store, size_t store_len,
+    const uint8_t *one, size_t one_len,
+    const uint8_t *other, size_t other_len,
+    uint8_t *names, size_t names_len,
+    uint8_t *marks, size_t marks_len,
+    uint32_t *generations, size_t generations_len,
+    const int64_t *times, size_t times_len,
+    uint32_t *line, size_t line_len,
+    const uint8_t *parents, size_t parents_len,
+    uint8_t *id, size_t id_len,
     uint64_t *numbers, size_t numbers_len);
 
 #ifdef __cplusplus

@@ -597,6 +597,8 @@ static void all_at_once(void)
     disturbed(anything, chance(50) ? 0 : 60);
 }
 
+#include "parting.h"
+
 static const struct {
     const char *name;
     void (*run)(void);
@@ -645,6 +647,7 @@ static const struct {
     {"record and memory made up", made_up, 10},
     {"all random", all_random, 6},
     {"all of these at once", all_at_once, 10},
+    {"where two series part", parted, 20},
 };
 #define KINDS (sizeof kinds / sizeof *kinds)
 
@@ -765,6 +768,7 @@ static void print_table(void)
         calls += c[j];
     printf("%" PRIu64 " openings and %" PRIu64 " next calls; the longest call took %.1f ms (case %" PRIu64 ", %s)\n", openings, calls,
            1000 * longest, longest_case, kind_name(longest_kind));
+    print_partings();
 }
 
 static uint64_t calls = 5000000;

@@ -16,6 +16,8 @@ pub(crate) const CALL_NUMBERS: usize = 8;
 pub(crate) const CALL_SECONDS: usize = 2;
 /// How many numbers a check of names sets down.
 pub(crate) const CHECK_NUMBERS: usize = 1;
+/// How many numbers the call for where two series part sets down.
+pub(crate) const BASE_NUMBERS: usize = 1;
 
 /// The files, lists and settings that an opening and each of its calls are lent. No call reads the tips.
 #[derive(Clone, Debug)]
@@ -138,6 +140,31 @@ unsafe extern "C" {
         numbers: *mut u64,
         numbers_len: usize,
     ) -> u32;
+
+    fn linenhatch_merge_base(
+        store: *const u8,
+        store_len: usize,
+        one: *const u8,
+        one_len: usize,
+        other: *const u8,
+        other_len: usize,
+        names: *mut u8,
+        names_len: usize,
+        marks: *mut u8,
+        marks_len: usize,
+        generations: *mut u32,
+        generations_len: usize,
+        times: *const i64,
+        times_len: usize,
+        line: *mut u32,
+        line_len: usize,
+        parents: *const u8,
+        parents_len: usize,
+        id: *mut u8,
+        id_len: usize,
+        numbers: *mut u64,
+        numbers_len: usize,
+    ) -> u32;
 }
 
 /// How many places a walk over these files and lists needs.
@@ -247,6 +274,44 @@ pub(crate) fn check_names(store: &[u8], graph: &[u8], numbers: &mut [u64; CHECK_
     unsafe { linenhatch_check_names(store.as_ptr(), store.len(), graph.as_ptr(), graph.len(), numbers.as_mut_ptr(), numbers.len()) }
 }
 
+/// Where two series part: 0, or the number of the refusal; never 101, as in `open`. The memory's record plays no part.
+pub(crate) fn merge_base(
+    store: &[u8],
+    one: &[u8; 20],
+    other: &[u8; 20],
+    memory: &mut Memory,
+    id: &mut [u8; 20],
+    numbers: &mut [u64; BASE_NUMBERS],
+) -> u32 {
+    // SAFETY: as in `open`; the mutable ones are all of one field each of `memory`, `id` and `numbers`, each borrowed alone through `&mut`.
+    unsafe {
+        linenhatch_merge_base(
+            store.as_ptr(),
+            store.len(),
+            one.as_ptr(),
+            one.len(),
+            other.as_ptr(),
+            other.len(),
+            memory.names.as_mut_ptr(),
+            memory.names.len(),
+            memory.marks.as_mut_ptr(),
+            memory.marks.len(),
+            memory.generations.as_mut_ptr(),
+            memory.generations.len(),
+            memory.times.as_ptr(),
+            memory.times.len(),
+            memory.line.as_mut_ptr(),
+            memory.line.len(),
+            memory.parents.as_ptr(),
+            memory.parents.len(),
+            id.as_mut_ptr(),
+            id.len(),
+            numbers.as_mut_ptr(),
+            numbers.len(),
+        )
+    }
+}
+
 /// The functions themselves, with buffers that the safe ones above never lend.
 #[cfg(test)]
 mod tests {
@@ -331,6 +396,29 @@ mod tests {
         let mut numbers = [7u64; CHECK_NUMBERS];
         assert_eq!((check_names(&STORE, &[], &mut numbers), numbers), (0, [0]));
         assert_eq!((check_names(&STORE[..7], &[], &mut numbers), numbers), (4, [0]));
+    }
+
+    /// Before all else: also of a store that would be refused.
+    #[test]
+    fn a_parting_without_room() {
+        for store in [&STORE[..], &STORE[..7]] {
+            for (one, other, id, count) in [(19, 20, 20, 1), (20, 19, 20, 1), (20, 20, 19, 1), (20, 20, 20, 0), (0, 0, 0, 0)] {
+                let mut memory = Memory { parents: vec![7; 5120], ..Memory::with_places(2) };
+                memory.names.fill(7);
+                let before = format!("{memory:?}");
+                let (tip, mut out, mut numbers) = ([0u8; 20], [7u8; 20], [7u64; BASE_NUMBERS]);
+                // SAFETY: as in `open`; no length is over the array's.
+                #[rustfmt::skip]
+                let result = unsafe {
+                    linenhatch_merge_base(
+                        store.as_ptr(), store.len(), tip.as_ptr(), one, tip.as_ptr(), other, memory.names.as_mut_ptr(), memory.names.len(),
+                        memory.marks.as_mut_ptr(), memory.marks.len(), memory.generations.as_mut_ptr(), memory.generations.len(), memory.times.as_ptr(),
+                        memory.times.len(), memory.line.as_mut_ptr(), memory.line.len(), memory.parents.as_ptr(), memory.parents.len(),
+                        out.as_mut_ptr(), id, numbers.as_mut_ptr(), count)
+                };
+                assert_eq!((result, out, numbers, format!("{memory:?}")), (NoRoom::NUMBER, [7; 20], [7], before));
+            }
+        }
     }
 
     /// Also of a record that is not open, which with room is refused with 12.

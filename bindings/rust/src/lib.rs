@@ -32,6 +32,8 @@
 mod ffi;
 mod id;
 #[cfg(feature = "walk")]
+mod merge_base;
+#[cfg(feature = "walk")]
 mod names;
 mod order;
 mod refusal;
@@ -40,6 +42,8 @@ mod store;
 mod walk;
 
 pub use id::{ObjectId, ParseIdError, ID_BYTES};
+#[cfg(feature = "walk")]
+pub use merge_base::merge_base;
 #[cfg(feature = "walk")]
 pub use names::{check_names, Fault};
 pub use order::Order;

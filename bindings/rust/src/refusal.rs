@@ -34,15 +34,20 @@ pub enum Refusal {
     /// 12: the walk was not opened, or its memory was touched. A [`Walk`](crate::Walk) is open and alone has its memory, so it never
     /// meets this.
     Closed,
+    /// 13: a commit that a tip reaches is not in the store, or cannot be read there. [`merge_base`](crate::merge_base) meets this.
+    UnreadableReach,
     /// 16: a commit of the store is not under the digest of its body. [`check_names`](crate::check_names) alone meets this.
     FalseName,
     /// 17: the commit-graph file does not end in the digest of the rest. [`check_names`](crate::check_names) alone meets this.
     FalseChecksum,
+    /// 23: commits are reachable from both tips, and none of them is best, since parents run in a circle. [`merge_base`](crate::merge_base) alone
+    /// meets this.
+    TangledReach,
 }
 
 impl Refusal {
     /// All of them, in the order of their numbers.
-    pub const ALL: [Refusal; 14] = [
+    pub const ALL: [Refusal; 16] = [
         Refusal::BufferTooSmall,
         Refusal::InputTooLarge,
         Refusal::PartialId,
@@ -55,8 +60,10 @@ impl Refusal {
         Refusal::CommitUnreadable,
         Refusal::TooManyParents,
         Refusal::Closed,
+        Refusal::UnreadableReach,
         Refusal::FalseName,
         Refusal::FalseChecksum,
+        Refusal::TangledReach,
     ];
 
     /// The refusal with a number, if one has it.
@@ -64,7 +71,7 @@ impl Refusal {
         Refusal::ALL.into_iter().find(|refusal| refusal.number() == number)
     }
 
-    /// Its number: 1 to 12, 16, 17.
+    /// Its number: 1 to 13, 16, 17, 23.
     pub fn number(self) -> u32 {
         match self {
             Refusal::BufferTooSmall => 1,
@@ -79,8 +86,10 @@ impl Refusal {
             Refusal::CommitUnreadable => 10,
             Refusal::TooManyParents => 11,
             Refusal::Closed => 12,
+            Refusal::UnreadableReach => 13,
             Refusal::FalseName => 16,
             Refusal::FalseChecksum => 17,
+            Refusal::TangledReach => 23,
         }
     }
 
@@ -99,8 +108,10 @@ impl Refusal {
             Refusal::CommitUnreadable => "commit unreadable",
             Refusal::TooManyParents => "too many parents",
             Refusal::Closed => "closed",
+            Refusal::UnreadableReach => "unreadable reach",
             Refusal::FalseName => "false name",
             Refusal::FalseChecksum => "false checksum",
+            Refusal::TangledReach => "tangled reach",
         }
     }
 
@@ -120,8 +131,14 @@ impl Refusal {
             Refusal::CommitUnreadable => "a commit cannot be read: a line of its header is bad",
             Refusal::TooManyParents => "a commit has more than 256 parents",
             Refusal::Closed => "the walk is closed, or its memory was touched between calls",
+            Refusal::UnreadableReach => {
+                "a commit that the tips or hidden tips reach is not in the commit store, or cannot be read there: complete or mend the history"
+            }
             Refusal::FalseName => "a commit is not under the digest of its body",
             Refusal::FalseChecksum => "the commit-graph file does not end in the digest of the rest",
+            Refusal::TangledReach => {
+                "both tips reach the same commits, whose parents run in a circle, so that none is best: such a store is no history, make it anew"
+            }
         }
     }
 }
@@ -173,8 +190,10 @@ mod tests {
             (10, "commit unreadable"),
             (11, "too many parents"),
             (12, "closed"),
+            (13, "unreadable reach"),
             (16, "false name"),
             (17, "false checksum"),
+            (23, "tangled reach"),
         ];
         assert_eq!(names.len(), Refusal::ALL.len());
         for (number, name) in names {
@@ -187,7 +206,7 @@ mod tests {
 
     #[test]
     fn no_other_number() {
-        for number in [0, 13, 14, 15, 18, 100, NoRoom::NUMBER, u32::MAX] {
+        for number in [0, 14, 15, 18, 22, 24, 100, NoRoom::NUMBER, u32::MAX] {
             assert_eq!(Refusal::from_number(number), None);
         }
     }

@@ -125,6 +125,11 @@ impl<'a> Lister<'a> {
         })
     }
 
+    /// How many places the walk needs.
+    pub(crate) fn places(&self) -> usize {
+        ffi::places(&self.input(), &joined(&self.tips))
+    }
+
     fn input(&self) -> Input<'a> {
         Input {
             store: self.store,
@@ -156,7 +161,7 @@ fn refusal(number: u32) -> Refusal {
 }
 
 impl Memory {
-    fn with_places(places: usize) -> Memory {
+    pub(crate) fn with_places(places: usize) -> Memory {
         Memory {
             names: vec![0; ID_BYTES * places],
             marks: vec![0; places],

@@ -156,3 +156,43 @@ fn names_need_not_be_text() {
         other => panic!("{other:?}"),
     }
 }
+
+fn pair(line: &str) -> args::Pair {
+    match task(line) {
+        Ok(Task::MergeBase(pair)) => pair,
+        other => panic!("{line}: {other:?}"),
+    }
+}
+
+#[test]
+fn where_two_part() {
+    let given = pair("merge-base a b");
+    assert_eq!((given.dir.as_path(), given.progress), (Path::new("."), false));
+    assert_eq!(given.revs, ["a", "b"]);
+    let given = pair("-C x --progress merge-base a -C y -- merge-base");
+    assert_eq!((given.dir.as_path(), given.progress), (Path::new("./x/y"), true));
+    assert_eq!(given.revs, ["a", "merge-base"]);
+    assert_eq!(pair("merge-base merge-base merge-base").revs, ["merge-base", "merge-base"]);
+    for (line, why) in [
+        ("merge-base", "there are none"),
+        ("merge-base a", "there is one"),
+        ("merge-base a b c", "there are 3"),
+        ("merge-base a ^b", "not the name of one commit"),
+        ("merge-base a -- -b", "no name of a commit"),
+        ("merge-base --count a b", "no option --count"),
+        ("merge-base a b -C", "-C needs a folder"),
+    ] {
+        assert!(refused(line).contains(why), "{line}: {}", refused(line));
+    }
+    assert_eq!(task("merge-base -h"), Ok(Task::Help));
+    assert_eq!(task("merge-base --version"), Ok(Task::Version));
+}
+
+/// A branch of that name is still listed, where the word is not the first.
+#[test]
+fn a_branch_of_that_name() {
+    assert_eq!(list("-- merge-base").revs, ["merge-base"]);
+    assert_eq!(list("--count merge-base").revs, ["merge-base"]);
+    assert_eq!(list("main merge-base").revs, ["main", "merge-base"]);
+    assert_eq!(list("--hide merge-base").revs, ["HEAD"]);
+}

@@ -46,7 +46,13 @@ fn rust_type(kind: &str) -> &str {
 
 #[test]
 fn the_same_in_both_languages() {
-    for (name, parameters) in [("linenhatch_places", 8), ("linenhatch_open", 30), ("linenhatch_next", 32), ("linenhatch_check_names", 6)] {
+    for (name, parameters) in [
+        ("linenhatch_places", 8),
+        ("linenhatch_open", 30),
+        ("linenhatch_next", 32),
+        ("linenhatch_check_names", 6),
+        ("linenhatch_merge_base", 22),
+    ] {
         let rust = in_rust(name);
         assert_eq!(rust.0.len(), parameters, "{name}");
         assert_eq!(rust, in_c(name), "{name}");
@@ -66,6 +72,7 @@ fn the_same_numbers() {
         ("NUMBERS", "CALL_NUMBERS: usize"),
         ("SECONDS", "CALL_SECONDS: usize"),
         ("CHECK_NUMBERS", "CHECK_NUMBERS: usize"),
+        ("BASE_NUMBERS", "BASE_NUMBERS: usize"),
     ] {
         assert_eq!(between(RUST, &format!("const {line} = "), ";"), defined(name).to_string(), "{name}");
     }

@@ -185,6 +185,41 @@ mod tool {
         assert!(list.is_empty() && why.trim_end().ends_with(&format!("(refusal 16, false name): {}", ids[0])), "{why}");
     }
 
+    /// The tool's answer is one of git's, and the newest of them.
+    #[test]
+    fn where_two_series_part() {
+        if !has_git() {
+            return;
+        }
+        let repository = history("parting");
+        for (one, other) in
+            [("main", "side"), ("old", "side"), ("main", "main"), ("merge", "old"), ("main~3", "main~7"), ("merge^2", "merge^3")]
+        {
+            let expected = repository.git(&format!("merge-base --all {one} {other}"));
+            assert_eq!(expected.len(), 1, "{one} {other}");
+            assert_eq!(repository.list(&format!("merge-base {one} {other}")), expected);
+            assert_eq!(repository.list(&format!("merge-base {other} {one}")), expected);
+        }
+        let (list, why) = repository.fails("merge-base merge^4 old");
+        assert!(list.is_empty() && why.contains("no commit is reachable from both"), "{why}");
+
+        let [one, other] = [5, 9].map(|seconds| repository.commit(1_800_000_000 + seconds, &[]));
+        repository.point("left", &repository.commit(1_800_000_100, &[&one, &other]));
+        repository.point("right", &repository.commit(1_800_000_100, &[&other, &one]));
+        assert_eq!(repository.git("merge-base --all left right").len(), 2);
+        assert_eq!(repository.list("merge-base left right"), [other.clone()]);
+        assert_eq!(repository.list("merge-base right left"), [other.clone()]);
+
+        fs::remove_file(repository.dir.join(".git/objects").join(&one[..2]).join(&one[2..])).unwrap();
+        let (list, why) = repository.fails("merge-base left right");
+        assert!(
+            list.is_empty()
+                && why.contains("refusal 13, unreadable reach")
+                && why.contains(&format!("not in the repository: 1 commit ({one})")),
+            "{why}"
+        );
+    }
+
     fn compare(repository: &Repository, graph: bool) {
         let no = if graph { "" } else { "--no-graph" };
         for (words, same) in [

@@ -1,16 +1,14 @@
 -- Painting over a list of commits, step by step: after i steps the memory reads as the painting over the first i commits. Where painting
 -- is ended by a refusal, the steps that are left do nothing, in the memory and in the walk's painting alike. Assumes nothing.
 use mathlib.Core.Path.{_≡_, refl, sym, _∙_, ap, subst}
-use Prim.Native.Nat.{ℕ, zero, suc, _+_, _-_, _*_, _/_, _≤_, _<_}
+use Prim.Native.Nat.{ℕ, zero, suc, _+_, _-_, _≤_, _<_}
 use mathlib.Core.Bool.{Bool, true, false, cond}
-use mathlib.Core.List.{List, [], _∷_, _++_, List·Memᴰ, List·Memᴰ·head, List·Memᴰ·tail}
+use mathlib.Core.List.{List, [], _∷_, _++_, List·Memᴰ}
 use native.Mathlib.Omega.{arith}
-use native.Mathlib.Numerals.{add-one}
-use lib.ListN.{length, take, drop, getD}
-use lib.Seq.{take-suc, take-all, drop-drop}
-use Rattle.hash.specs.Bytes.{Id, idBytes, at, idsOf}
+use lib.ListN.{length, take, getD}
+use lib.Seq.{take-all}
+use Rattle.hash.specs.Bytes.{Id, idBytes}
 use Rattle.hash.proofs.Tests.{byCases}
-use Rattle.hash.proofs.Bytes.{length-at}
 use Rattle.commit.specs.declared.Cache.{Cache}
 use Rattle.hashtable.specs.Table.{Table, markFor, Finds}
 use Rattle.hashtable.specs.declared.table.Slot.{Slot}
@@ -18,13 +16,12 @@ use Rattle.hashtable.specs.declared.table.Slot.the-variants.{Found, Vacant, Ful
 use Rattle.hashtable.proofs.TableView.{found-mark, vacant-mark, mark-absent, full-absent}
 use Rattle.pending.specs.declared.Pending.{Pending}
 use Rattle.walk.specs.Lookup.{World, Read, fail, good, read, parentsOf}
-use Rattle.walk.specs.Opening.{listIds}
 use Rattle.walk.specs.Painting.{Paint, Painting, stop, going, then, Marks, mark, markAll, lacks, pass}
 use Rattle.walk.specs.declared.GenThenTime.{GenThenTime}
 use Rattle.walk.specs.declared.Refusal.{Refusal}
-use Rattle.walk.proofs.Whole.{length-list}
 use Rattle.reading.specs.Files.{worldUnder}
 use Rattle.reading.specs.Whole.{Has, Tells, IsRead, parentCount, GivesParent}
+use Rattle.reading.proofs.IdLists.{mem-at, one-more}
 use Rattle.reading.proofs.Whole.{commit-parent-right}
 use Rattle.reading.specs.declared.Commit.{Commit}
 use Rattle.reading.specs.declared.Commit.the-variants.{Row, Body, Failed}
@@ -117,14 +114,6 @@ pass-snoc w m (y ∷ ys) x st =
     (λ e. rw e (pass-snoc w m ys x st))
 
 -- ---- the first i commits of a list
-
-mem-at : (xs : List Id) (i : ℕ) → i < length xs → List·Memᴰ (getD xs i []) xs
-mem-at [] i h = absurd (omega arith)
-mem-at (x ∷ xs) zero h = List·Memᴰ·head refl
-mem-at (x ∷ xs) (suc i) h = List·Memᴰ·tail (mem-at xs i (omega arith))
-
-one-more : (xs : List Id) (i : ℕ) → i < length xs → take (i + 1) xs ≡ take i xs ++ (getD xs i [] ∷ [])
-one-more xs i h = rw add-one (take-suc xs i [] h)
 
 -- painting over the first i commits has come to the memory m and the answer r
 pub record Upto (steps : Steps) (w : World) (cap : ℕ) (m₀ m : Lent) (p : Pending) (xs : List Id) (bits i : ℕ) (r : Marked) : Type 0 where
@@ -245,23 +234,6 @@ module _ (step : Step) (steps : Steps) (nil : Nil steps) (snoc : Snoc step steps
       go (Going p) so = record { right = λ f. upto-last step steps nil snoc (so f) (omega arith) }
       go (Stop k) so = so
       go NoRoom so = so
-
--- ---- the ids of a list of bytes
-
-ids-at : (k : ℕ) (b : List ℕ) (i : ℕ) → i < k → getD (idsOf idBytes k b) i [] ≡ at b (idBytes * i) idBytes
-unfolding idsOf at
-ids-at zero b i h = absurd (omega arith)
-ids-at (suc k) b zero h = refl
-ids-at (suc k) b (suc i) h =
-    let e : idBytes + idBytes * i ≡ idBytes * suc i = omega arith in
-    ids-at k (drop idBytes b) i (omega arith) ∙ ap (take idBytes) (drop-drop (idBytes * i) idBytes b ∙ ap (λ (j : ℕ). drop j b) e)
-
-pub list-at : (b : List ℕ) (i : ℕ) → i < length b / idBytes → at b (idBytes * i) idBytes ≡ getD (listIds b) i []
-unfolding listIds
-list-at b i h = sym (ids-at (length b / idBytes) b i h)
-
-pub list-width : (b : List ℕ) (i : ℕ) → i < length b / idBytes → length (at b (idBytes * i) idBytes) ≡ idBytes
-list-width b i h = length-at b (idBytes * i) idBytes (omega arith)
 
 -- ---- one parent
 

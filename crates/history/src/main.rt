@@ -85,8 +85,12 @@ fn word(r: Refusal) {
         Refusal::CommitUnreadable => text(b" blurred commit"),
         Refusal::TooManyParents => text(b" crowded commit"),
         Refusal::Closed => text(b" closed"),
+        Refusal::UnreadableReach => text(b" unreadable reach"),
+        Refusal::GraphAtOdds => text(b" graph at odds"),
+        Refusal::PairNotFalling => text(b" pair not falling"),
         Refusal::FalseName => text(b" false name"),
         Refusal::FalseChecksum => text(b" graph checksum false"),
+        Refusal::TangledReach => text(b" tangled reach"),
     }
 }
 

@@ -5,7 +5,10 @@ ghost use mathlib.Core.Path.{_≡_};
 ghost use mathlib.Core.List.{List};
 ghost use Rattle.walk.specs.declared.Settings.{Settings};
 ghost use Rattle.walk.specs.Opening.{P};
-ghost use Rattle.opening.specs.Checks.{inputOf};
+ghost use lib.ListN.{length};
+ghost use Rattle.opening.specs.Checks.{inputOf, lengthsOf};
+ghost use Rattle.reach.specs.Memory.{lent};
+ghost use Rattle.mergewire.specs.Wire.{LibraryMergeBase};
 ghost use Rattle.traverse.specs.Open.{lentOf};
 ghost use Rattle.traverse.specs.Next.{filesLent};
 ghost use Rattle.wire.specs.Numbers.{settingsOf};
@@ -135,4 +138,38 @@ pub extern "C" fn linenhatch_check_names(store: &[u8], graph: &[u8], numbers: &m
     wire::put(numbers, &w);
     let o = r.outcome;
     fsck::number(o)
+}
+
+// Where two series part (document 02, cards 8 and 11): the result is 0, the first number 1 and the id that of the first best common commit; or
+// 0, 0 and zeros where no commit is reachable from both; else the number of the refusal, 0 and zeros. After 2, 4 and 1 the lent memory is as it
+// was. Where a tip is shorter than an id, or there is no room for the answer, the result is 101: nothing is read, and nothing is altered.
+#[no_mangle]
+pub extern "C" fn linenhatch_merge_base(
+    store: &[u8],
+    one: &[u8],
+    other: &[u8],
+    names: &mut [u8],
+    marks: &mut [u8],
+    levels: &mut [u32],
+    times: &[i64],
+    line: &mut [u32],
+    parents: &[u8],
+    id: &mut [u8],
+    numbers: &mut [u64],
+) -> u32
+    ensures { λ n. ⌜ LibraryMergeBase (now (store .entry)) (now (one .entry)) (now (other .entry)) (lengthsOf (length (now (names .entry))) (length (now (marks .entry))) (length (now (levels .entry))) (length (now (times .entry))) (length (now (line .entry))) (length (now (parents .entry)))) (lent (now (names .entry)) (now (marks .entry)) (now (line .entry))) (lent (now (names .exit)) (now (marks .exit)) (now (line .exit))) (now (levels .entry)) (now (levels .exit)) (now (id .entry)) (now (id .exit)) (now (numbers .entry)) (now (numbers .exit)) n ⌝ }
+{
+    mergewire::merge_base(
+        store,
+        one,
+        other,
+        names,
+        marks,
+        levels,
+        times,
+        line,
+        parents,
+        id,
+        numbers,
+    )
 }

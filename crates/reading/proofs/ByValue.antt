@@ -35,7 +35,7 @@ either-length : (b : Bool) (x y : List ℕ) → length x ≡ idRoom → length y
 either-length true x y h k = h
 either-length false x y h k = k
 
-parent-length : (b : List ℕ) (k : ℕ) → length (parentIdAt b k) ≡ idRoom
+pub parent-length : (b : List ℕ) (k : ℕ) → length (parentIdAt b k) ≡ idRoom
 unfolding parentIdAt parentAt
 parent-length b k = either-length (ltb k most) _ _ (read-length (idLine idBytes parentWord (drop (parentPlace k) b))) refl
 

@@ -6,4 +6,5 @@ pub mod Down
 pub mod Lines
 pub mod Bodies
 pub mod Whole
+pub mod StoredBodies
 pub mod ByValue

@@ -93,16 +93,16 @@ pub body-commit : {r : Commit} (a e : ℕ) {b d : List ℕ} → r ≡ bodyCommit
 body-commit a e p f = p ∙ ap (λ (c : List ℕ). bodyCommit a e (readingOf (header idBytes c))) f
 
 -- the commit m of the body from a to e, whose header reads as d and has n parents
-record BodyTold (a e n : ℕ) (d : Read) (m : Commit) : Type 0 where
-  tells : Tells m d
-  few : parentCount m ≤ n
-  names : (f : Either) → f ≡ CommitRefIter a e → Names m f
+pub record BodyTold (a e n : ℕ) (d : Read) (m : Commit) : Type 0 where
+  pub tells : Tells m d
+  pub few : parentCount m ≤ n
+  pub names : (f : Either) → f ≡ CommitRefIter a e → Names m f
 
 told-failed : (a e n : ℕ) (r : Refusal) → BodyTold a e n (fail r) (Failed r)
 told-failed a e n r = record { tells = refl; few = omega arith; names = λ f k. tt }
 
 -- the header's lines decide in their order
-body-told : (a e : ℕ) (h : Header) → BodyTold a e (length (h .ids)) (fromStore (some h)) (bodyCommit a e (readingOf h))
+pub body-told : (a e : ℕ) (h : Header) → BodyTold a e (length (h .ids)) (fromStore (some h)) (bodyCommit a e (readingOf h))
 unfolding readingOf fromStore
 body-told a e h = go (h .tree) (h .crowded) (h .author) (h .seconds)
   where
@@ -180,7 +180,7 @@ from-row w x g p ps q e = go (graphParents idBytes g p) refl e
     go none k e′ = let z : _≡_ {A = ℕ} 0 1 = cc in absurd (omega arith)
     go (some qs) k e′ = (map (parentAt g) qs, generation idBytes g p, graphSeconds idBytes g p, rw k, cc)
 
-from-body : (h : Header) (ps : List Id) (q : Pair) → fromStore (some h) ≡ good ps q → (h .tree ≡ true) × (h .ids ≡ ps)
+pub from-body : (h : Header) (ps : List Id) (q : Pair) → fromStore (some h) ≡ good ps q → (h .tree ≡ true) × (h .ids ≡ ps)
 unfolding fromStore
 from-body h ps q e = go (h .tree) (h .crowded) (h .author) (h .seconds) refl e
   where

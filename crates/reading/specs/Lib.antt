@@ -3,3 +3,4 @@ pub mod Tip
 pub mod Row
 pub mod Body
 pub mod Whole
+pub mod Stored

@@ -3,6 +3,7 @@
 mod body;
 mod ids;
 mod row;
+mod stored;
 mod tip;
 
 pub use body::BodyEnd;
@@ -25,6 +26,7 @@ pub use row::RowRead;
 pub use row::collect_parents;
 pub use row::level_shown;
 pub use row::row_parent;
+pub use stored::stored_body;
 pub use tip::TipRead;
 pub use tip::read_tip;
 pub use tip::seconds_for;

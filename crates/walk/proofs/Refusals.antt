@@ -6,14 +6,15 @@ use mathlib.Core.List.{List, [], _∷_}
 use lib.ListN.{getD}
 use Rattle.hash.proofs.Tests.{some-in}
 use Rattle.walk.specs.declared.Refusal.{Refusal}
-use Rattle.walk.specs.declared.Refusal.the-variants.{BufferTooSmall, InputTooLarge, PartialId, CorruptStore, UnknownGraph, CorruptGraph, TipNotFound, TipUnreadable, CommitNotFound, CommitUnreadable, TooManyParents, Closed, FalseName, FalseChecksum}
+use Rattle.walk.specs.declared.Refusal.the-variants.{BufferTooSmall, InputTooLarge, PartialId, CorruptStore, UnknownGraph, CorruptGraph, TipNotFound, TipUnreadable, CommitNotFound, CommitUnreadable, TooManyParents, Closed, UnreadableReach, GraphAtOdds, PairNotFalling, FalseName, FalseChecksum, TangledReach}
 use Rattle.walk.specs.Refusals.{numberOf}
 
 -- by rising number, from 0; none where no refusal has the number
 inOrder : List (Option Refusal)
 inOrder =
     none ∷ some BufferTooSmall ∷ some InputTooLarge ∷ some PartialId ∷ some CorruptStore ∷ some UnknownGraph ∷ some CorruptGraph ∷ some TipNotFound
-    ∷ some TipUnreadable ∷ some CommitNotFound ∷ some CommitUnreadable ∷ some TooManyParents ∷ some Closed ∷ none ∷ none ∷ none ∷ some FalseName ∷ some FalseChecksum
+    ∷ some TipUnreadable ∷ some CommitNotFound ∷ some CommitUnreadable ∷ some TooManyParents ∷ some Closed ∷ some UnreadableReach ∷ some GraphAtOdds ∷ some PairNotFalling
+    ∷ some FalseName ∷ some FalseChecksum ∷ none ∷ none ∷ none ∷ none ∷ none ∷ some TangledReach
     ∷ []
 
 number-back : (r : Refusal) → getD inOrder (numberOf r) none ≡ some r
@@ -30,8 +31,12 @@ number-back CommitNotFound = refl
 number-back CommitUnreadable = refl
 number-back TooManyParents = refl
 number-back Closed = refl
+number-back UnreadableReach = refl
+number-back GraphAtOdds = refl
+number-back PairNotFalling = refl
 number-back FalseName = refl
 number-back FalseChecksum = refl
+number-back TangledReach = refl
 
 pub number-once : (r s : Refusal) → numberOf r ≡ numberOf s → r ≡ s
 number-once r s e = some-in (sym (number-back r) ∙ ap (λ (n : ℕ). getD inOrder n none) e ∙ number-back s)

@@ -2,7 +2,7 @@
 -- Assumes nothing.
 use Prim.Native.Nat.{ℕ}
 use Rattle.walk.specs.declared.Refusal.{Refusal}
-use Rattle.walk.specs.declared.Refusal.the-variants.{BufferTooSmall, InputTooLarge, PartialId, CorruptStore, UnknownGraph, CorruptGraph, TipNotFound, TipUnreadable, CommitNotFound, CommitUnreadable, TooManyParents, Closed, FalseName, FalseChecksum}
+use Rattle.walk.specs.declared.Refusal.the-variants.{BufferTooSmall, InputTooLarge, PartialId, CorruptStore, UnknownGraph, CorruptGraph, TipNotFound, TipUnreadable, CommitNotFound, CommitUnreadable, TooManyParents, Closed, UnreadableReach, GraphAtOdds, PairNotFalling, FalseName, FalseChecksum, TangledReach}
 
 -- "no. | word | when"
 abbrev pub numberOf : Refusal → ℕ
@@ -18,5 +18,9 @@ numberOf CommitNotFound = 9  -- lost commit: in neither file
 numberOf CommitUnreadable = 10  -- blurred commit: header line bad
 numberOf TooManyParents = 11  -- crowded commit: a good 257th parent line; of 10 and 11 the earlier line decides
 numberOf Closed = 12  -- closed: record closed, or memory touched
+numberOf UnreadableReach = 13  -- unreadable reach: a commit reachable from the tips that the book does not have readable (cards 1, 8, 12)
+numberOf GraphAtOdds = 14  -- graph at odds: a reached commit whose row has other parents, other seconds or a corrupt list (card 1)
+numberOf PairNotFalling = 15  -- pair not falling: from a reached commit to a parent of it (card 1)
 numberOf FalseName = 16  -- false name: an entry's id is not the digest of its body (card 2)
 numberOf FalseChecksum = 17  -- graph checksum false (card 2)
+numberOf TangledReach = 23  -- tangled reach: two tips have common commits and no best one (card 8)

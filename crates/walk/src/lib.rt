@@ -58,8 +58,12 @@ pub enum Refusal {
     CommitUnreadable,
     TooManyParents,
     Closed,
+    UnreadableReach,
+    GraphAtOdds,
+    PairNotFalling,
     FalseName,
     FalseChecksum,
+    TangledReach,
 }
 
 // What a call gives: a commit, the end, or a refusal.
@@ -132,8 +136,12 @@ pub fn number(r: Refusal) -> u8
         Refusal::CommitUnreadable => 10,
         Refusal::TooManyParents => 11,
         Refusal::Closed => 12,
+        Refusal::UnreadableReach => 13,
+        Refusal::GraphAtOdds => 14,
+        Refusal::PairNotFalling => 15,
         Refusal::FalseName => 16,
         Refusal::FalseChecksum => 17,
+        Refusal::TangledReach => 23,
     }
 }
 

@@ -12,6 +12,7 @@ linenhatch: lists the commits of a git repository, with a walk that is proved to
 usage: linenhatch [-C DIR] [--order newest|oldest|breadth] [-n N] [--count] [--reverse] [--since SECONDS] [--first-parent]
                   [--hide REV]... [--exclude REV]... [--no-graph] [--parents] [--time] [--zone] [--progress] [REV...]
        linenhatch --check-names [-C DIR] [--no-graph] [--progress] [REV...]
+       linenhatch [-C DIR] [--progress] merge-base REV REV
 
 Lists what the REVs reach (HEAD if none is given), one id on a line. A REV is any name of a commit that git knows; ^A is --hide A, and A..B is
 --hide A B, HEAD where A or B is left out.
@@ -37,6 +38,8 @@ Lists what the REVs reach (HEAD if none is given), one id on a line. A REV is an
                     commit-graph file has none, which holds no zones (--no-graph), nor one whose committer line has none that can be read
   --check-names     lists nothing: checks that each commit which the REVs reach is under the id that git makes of its body, and that git's
                     commit-graph file ends in the digest of the rest. Says which commit is at fault. The commits must fit in one store, whole
+  merge-base        as the first word that is no -C or --progress: lists nothing, prints where two REVs part. That is the best commit which both
+                    reach; of several any one. Status 1 if both reach none. A branch of this name is listed with -- merge-base
   --progress        shows on standard error how far the work is, also where that is no terminal
   -h, --help, -V, --version
 
@@ -51,6 +54,7 @@ Exit status: 0 if all was listed, or no name is false; 1 if it was not, and stan
 #[derive(Debug, PartialEq)]
 pub enum Task {
     List(Args),
+    MergeBase(Pair),
     Help,
     Version,
 }
@@ -76,8 +80,20 @@ pub struct Args {
     pub revs: Vec<OsString>,
 }
 
+/// Two names, of which is asked where they part.
+#[derive(Debug, PartialEq)]
+pub struct Pair {
+    pub dir: PathBuf,
+    pub progress: bool,
+    pub revs: [OsString; 2],
+}
+
 /// The command line's words, without the program's name.
 pub fn parse(words: impl IntoIterator<Item = OsString>) -> Result<Task, String> {
+    let words: Vec<OsString> = words.into_iter().collect();
+    if is_merge_base(&words) {
+        return parse_pair(words);
+    }
     let mut words = words.into_iter();
     let mut order = None;
     let mut args = Args {
@@ -144,6 +160,51 @@ pub fn parse(words: impl IntoIterator<Item = OsString>) -> Result<Task, String> 
         args.revs.push("HEAD".into());
     }
     Ok(Task::List(args))
+}
+
+/// Whether the first word that is no -C or --progress is the command.
+fn is_merge_base(words: &[OsString]) -> bool {
+    let mut words = words.iter();
+    while let Some(word) = words.next() {
+        match word.to_str() {
+            Some("-C") => drop(words.next()),
+            Some("--progress") => {}
+            other => return other == Some("merge-base"),
+        }
+    }
+    false
+}
+
+fn parse_pair(words: Vec<OsString>) -> Result<Task, String> {
+    let mut words = words.into_iter();
+    let (mut dir, mut progress, mut named, mut revs) = (PathBuf::from("."), false, false, Vec::new());
+    while let Some(word) = words.next() {
+        match word.to_str() {
+            Some("merge-base") if !named => named = true,
+            Some("-C") => dir.push(words.next().ok_or("-C needs a folder")?),
+            Some("--progress") => progress = true,
+            Some("--help" | "-h") => return Ok(Task::Help),
+            Some("--version" | "-V") => return Ok(Task::Version),
+            Some("--") => {
+                for rev in words.by_ref() {
+                    revs.push(name(rev)?);
+                }
+            }
+            _ if word.as_bytes().starts_with(b"-") => return Err(format!("merge-base has no option {}", word.to_string_lossy())),
+            _ => revs.push(name(word)?),
+        }
+    }
+    let count = revs.len();
+    let revs = revs.try_into().map_err(|_| format!("merge-base needs two names of commits, and there {}", are(count)))?;
+    Ok(Task::MergeBase(Pair { dir, progress, revs }))
+}
+
+fn are(count: usize) -> String {
+    match count {
+        0 => "are none".into(),
+        1 => "is one".into(),
+        _ => format!("are {count}"),
+    }
 }
 
 impl Args {

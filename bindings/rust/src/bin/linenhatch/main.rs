@@ -10,23 +10,24 @@ use std::ffi::OsString;
 use std::io::{self, BufWriter, IsTerminal, Write};
 use std::process::ExitCode;
 
-use args::{Args, Task};
-use linenhatch::{check_names, Commit, Fault, Lister, ObjectId, Refusal, Walk, MAX_FILE_BYTES, MAX_IDS};
+use args::{Args, Pair, Task};
+use linenhatch::{check_names, merge_base, Commit, Fault, Lister, ObjectId, Refusal, Walk, MAX_FILE_BYTES, MAX_IDS};
 use progress::Progress;
 use refused::{counted, named, Refused};
 use repository::{Commits, Repository};
 
 fn main() -> ExitCode {
-    let args = match args::parse(env::args_os().skip(1)) {
+    let done = match args::parse(env::args_os().skip(1)) {
         Ok(Task::Help) => return show(args::HELP),
         Ok(Task::Version) => return show(concat!("linenhatch ", env!("CARGO_PKG_VERSION"), "\n")),
-        Ok(Task::List(args)) => args,
+        Ok(Task::List(args)) if args.check_names => check(&args),
+        Ok(Task::List(args)) => list(&args),
+        Ok(Task::MergeBase(pair)) => part(&pair),
         Err(message) => {
             say("error", &format!("{message}\n(linenhatch --help says how it is used)"));
             return ExitCode::from(2);
         }
     };
-    let done = if args.check_names { check(&args) } else { list(&args) };
     match done {
         Ok(()) => ExitCode::SUCCESS,
         Err(message) => {
@@ -94,6 +95,32 @@ fn check(args: &Args) -> Result<(), String> {
     check_names(&store, &graph).map_err(|fault| at_fault(fault, &store))?;
     let _ = writeln!(io::stdout(), "{} under the right name", counted(count, "commit"));
     Ok(())
+}
+
+/// Prints where two names part; or says why there is nothing to print.
+fn part(pair: &Pair) -> Result<(), String> {
+    let repository = Repository::open(pair.dir.clone())?;
+    let [one, other] = [repository.resolve(&pair.revs[0])?, repository.resolve(&pair.revs[1])?];
+    let mut progress = Progress::new(pair.progress || io::stderr().is_terminal(), "commits read");
+    let commits = repository.read(&[one, other], &mut progress);
+    progress.make_way();
+    let mut commits = commits?;
+    let absent = std::mem::take(&mut commits.absent);
+    let store = store(commits)?;
+    match merge_base(&store, one, other) {
+        Ok(Some(id)) => {
+            let _ = writeln!(io::stdout(), "{id}");
+            Ok(())
+        }
+        Ok(None) => Err(format!("no commit is reachable from both {one} and {other}")),
+        Err(Refusal::UnreadableReach) => Err(format!(
+            "{}{}{}",
+            Refusal::UnreadableReach,
+            refused::unread(&store, &absent),
+            if repository.is_shallow() { "\nThis is a shallow clone: `git fetch --unshallow` brings what is not there." } else { "" },
+        )),
+        Err(refusal) => Err(refusal.to_string()),
+    }
 }
 
 /// What a check found, with the commit that is meant.

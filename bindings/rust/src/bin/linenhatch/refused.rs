@@ -44,6 +44,17 @@ impl Refused {
     }
 }
 
+/// The commits that cannot be read, a line for each way.
+pub fn unread(store: &[u8], absent: &[ObjectId]) -> String {
+    let ways = [
+        ("not in the repository", absent.to_vec()),
+        ("not to be read", alone(store, Refusal::CommitUnreadable, true)),
+        ("with more than 256 parents", alone(store, Refusal::TooManyParents, true)),
+    ];
+    let some = ways.iter().filter(|(_, ids)| !ids.is_empty());
+    some.map(|(what, ids)| format!("\n  {what}: {} ({})", counted(ids.len(), "commit"), named(ids))).collect()
+}
+
 /// A number and a word.
 pub fn counted(count: usize, word: &str) -> String {
     format!("{count} {word}{}", if count == 1 { "" } else { "s" })

@@ -8,7 +8,8 @@ use Rattle.walk.specs.Opening.{listIds}
 use Rattle.walk.specs.Painting.{mark, markAll}
 use Rattle.walk.proofs.Whole.{length-list}
 use Rattle.frontier.specs.Paint.{lent}
-use Rattle.frontier.proofs.Steps.{Turning, on-first, on-next, on-last, markAll-nil, markAll-snoc, list-at, list-width}
+use Rattle.reading.proofs.IdLists.{list-at, list-width}
+use Rattle.frontier.proofs.Steps.{Turning, on-first, on-next, on-last, markAll-nil, markAll-snoc}
 use borrow.Author.Needs.{needs}
 use Rattle.frontier.proofs.lists.mark_list.Statement.{statement}
 use Rattle.frontier.proofs.lists.mark_list.Tie as tie

@@ -1,0 +1,4 @@
+pub mod Early
+pub mod Partings
+pub mod Call
+pub mod OneAnswer

@@ -1,0 +1,74 @@
+-- What the steps of the call do in lent memory. Assumes nothing.
+use Prim.Native.Nat.{ℕ, _+_, _/_, _≤_}
+use mathlib.Core.Path.{_≡_}
+use mathlib.Core.Bool.{true, false}
+use mathlib.Core.List.{List, [], _∷_}
+use lib.ListN.{length}
+use Rattle.hash.specs.Bytes.{Id, idBytes}
+use Rattle.odb.specs.Store.{storeOk}
+use Rattle.hashtable.specs.Table.{Sized, idOf}
+use Rattle.walk.specs.declared.Refusal.the-variants.{UnreadableReach, TangledReach}
+use Rattle.walk.specs.Lookup.{World, worldOf}
+use Rattle.walk.specs.Opening.{parentBytes}
+use Rattle.walk.specs.Reach.{Mem, links}
+use Rattle.reach.specs.Search.{Reached, Stuck, AllReadable}
+use Rattle.reach.specs.Memory.{mostSlots, Lent, In, Lists, Named}
+use Rattle.parting.specs.Best.{Common, Best}
+use Rattle.parting.specs.Searched.{Searched}
+use Rattle.parting.specs.declared.Choice.{Choice}
+use Rattle.parting.specs.declared.Choice.the-variants.{Nothing as NoChoice, Tangled, Commit as Chosen}
+use Rattle.mergebase.specs.declared.MergeBase.{MergeBase}
+use Rattle.mergebase.specs.declared.Place.{Place}
+use Rattle.mergebase.specs.declared.Place.the-variants.{Nothing, Commit, Refused}
+use Rattle.mergebase.specs.Parting.{noBase, refusedBase, baseAt}
+
+-- a choice, as a place
+abbrev pub partedOf : Choice → Place
+partedOf NoChoice = Nothing
+partedOf Tangled = Refused TangledReach
+partedOf (Chosen slot) = Commit slot
+
+-- the answer by its place
+abbrev pub answerOf : List ℕ → Place → MergeBase
+answerOf names Nothing = noBase
+answerOf names (Commit slot) = baseAt (idOf idBytes names slot)
+answerOf names (Refused r) = refusedBase r
+
+-- what is said of the tips, the commit by the slot that holds it
+pub data PartsAt (w : World) (a b : Id) (cap : ℕ) (m : Lent) : Place → Type 0 where
+  unreadable : Stuck w (a ∷ b ∷ []) → PartsAt w a b cap m (Refused UnreadableReach)
+  nothing : AllReadable w (a ∷ b ∷ []) → ((x : Id) → Common w a b x → ⊥) → PartsAt w a b cap m Nothing
+  best : AllReadable w (a ∷ b ∷ []) → (x : Id) → Best w a b x → (slot : ℕ) → In cap m x slot → PartsAt w a b cap m (Commit slot)
+  tangled : AllReadable w (a ∷ b ∷ []) → (x : Id) → Common w a b x → ((y : Id) → Best w a b y → ⊥) → PartsAt w a b cap m (Refused TangledReach)
+
+-- what `best_of` does after both searches
+pub record BestOf (s : List ℕ) (m : Lent) (levels : List ℕ) (cap n : ℕ) (r : Place) : Type 0 where
+  pub right : storeOk idBytes s ≡ true → (g : List ℕ) (a b : Id) (l : List Id) → Searched (worldOf s g) a b cap m n l → AllReadable (worldOf s g) (a ∷ b ∷ [])
+      → cap ≤ length levels → PartsAt (worldOf s g) a b cap m r
+
+-- the search from a has met the n commits of l; that from b has not begun, and u has all that it can meet
+pub record Begun (w : World) (u : List Id) (a b : Id) (cap : ℕ) (m : Lent) (n : ℕ) (l : List Id) : Type 0 where
+  pub one : Lists false cap 0 m n l
+  pub reached : Reached w (a ∷ []) l
+  pub readable : AllReadable w (a ∷ [])
+  pub other : Lists true cap cap m 0 []
+  pub named : Named cap u m
+  pub tip-in : Mem b u
+  pub parents-in : (x p : Id) → Mem p (links w x) → Mem p u
+
+-- what `part_from` does
+pub record PartsFrom (s : List ℕ) (m m′ : Lent) (levels : List ℕ) (cap n : ℕ) (roots : List Id) (r : Place) : Type 0 where
+  pub right : storeOk idBytes s ≡ true → (g : List ℕ) (u : List Id) (a b : Id) (l : List Id) → Begun (worldOf s g) u a b cap m n l → roots ≡ b ∷ []
+      → cap ≤ length levels → PartsAt (worldOf s g) a b cap m′ r
+
+-- room for both searches and the stains
+pub record Roomy (s : List ℕ) (m : Lent) (levels : List ℕ) (cap : ℕ) : Type 0 where
+  pub sized : Sized idBytes (m .names) (m .marks) cap
+  pub two-runs : cap + cap ≤ length (m .line)
+  pub stains : cap ≤ length levels
+  pub enough : 2 + length s / parentBytes ≤ cap
+  pub small : cap ≤ mostSlots
+
+-- what `part_tips` does
+pub record PartsTips (s : List ℕ) (m m′ : Lent) (levels : List ℕ) (cap : ℕ) (one other : List Id) (r : Place) : Type 0 where
+  pub right : storeOk idBytes s ≡ true → (g : List ℕ) (a b : Id) → Roomy s m levels cap → one ≡ a ∷ [] → other ≡ b ∷ [] → PartsAt (worldOf s g) a b cap m′ r

@@ -1,0 +1,3 @@
+pub mod Bests
+pub mod Choosing
+pub mod Chosen

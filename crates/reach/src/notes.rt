@@ -1,0 +1,170 @@
+// An id is noted: unless it has the search's mark it gets it, and its slot enters the line.
+use crate::bits;
+use hash::Kind;
+use hashtable::table;
+use hashtable::table::Slot;
+ghost use mathlib.Core.Path.{_≡_};
+ghost use Prim.Native.Nat.{_+_, _<_};
+ghost use Rattle.object.specs.Header.{header};
+ghost use Rattle.hash.specs.Bytes.{idBytes};
+ghost use Rattle.walk.specs.Opening.{listIds};
+ghost use Rattle.reach.specs.Memory.{mostSlots, freshAt, Raises, MarksId, Puts, lent, Notes, NotesNext, NotesAll, NotesParents};
+
+// What came of an id: it was new to this search and stands in a slot; it was known; or there is no slot for it.
+pub enum Marking {
+    Fresh(u32),
+    Known,
+    Full,
+}
+
+// How many slots the line has now; or that the lent memory is too small.
+pub enum Grown {
+    Count(usize),
+    NoRoom,
+}
+
+// A slot as the line holds it.
+fn fresh(slot: usize) -> Marking
+    ensures { λ r. ⌜ (slot < mostSlots → r ≡ freshAt slot) ⌝ }
+{
+    if slot < 4294967296 {
+        return Marking::Fresh(slot as u32);
+    }
+    Marking::Full
+}
+
+// Gives the mark to a slot that lacks it.
+fn raise(marks: &mut [u8], slot: usize, second: bool) -> Marking
+    ensures { λ r. ⌜ Raises second (now (marks .entry)) (now (marks .exit)) slot r ⌝ }
+{
+    let m = table::mark_of(marks, slot);
+    if bits::has_bit(second, m) {
+        return Marking::Known;
+    }
+    table::set_mark(marks, slot, bits::with_bit(second, m));
+    fresh(slot)
+}
+
+// Gives the mark to an id, which enters the table where it is not there.
+fn mark_id(names: &mut [u8], marks: &mut [u8], cap: usize, second: bool, id: &[u8]) -> Marking
+    ensures { λ r. ⌜ MarksId second (now (names .entry)) (now (marks .entry)) (now (names .exit)) (now (marks .exit)) cap (now (id .entry)) r ⌝ }
+{
+    let first = bits::with_bit(second, 0);
+    let s = table::insert(Kind::Sha1, names, marks, cap, false, id, first);
+    match s {
+        Slot::Found(k) => raise(marks, k, second),
+        Slot::Vacant(k) => fresh(k),
+        Slot::Full => Marking::Full,
+    }
+}
+
+// Sets a slot down at the end of the line's n from `from` on.
+fn put(line: &mut [u32], from: usize, n: usize, slot: u32) -> Grown
+    ensures { λ r. ⌜ Puts (now (line .entry)) (now (line .exit)) from n slot r ⌝ }
+{
+    if line.len() <= from {
+        return Grown::NoRoom;
+    }
+    if line.len() - from <= n {
+        return Grown::NoRoom;
+    }
+    line[from + n] = slot;
+    Grown::Count(n + 1)
+}
+
+// Notes one id.
+pub fn note(
+    names: &mut [u8],
+    marks: &mut [u8],
+    line: &mut [u32],
+    cap: usize,
+    second: bool,
+    from: usize,
+    n: usize,
+    id: &[u8],
+) -> Grown
+    ensures { λ r. ⌜ Notes second cap from (lent (now (names .entry)) (now (marks .entry)) (now (line .entry))) (lent (now (names .exit)) (now (marks .exit)) (now (line .exit))) n (now (id .entry)) r ⌝ }
+{
+    let marked = mark_id(names, marks, cap, second, id);
+    match marked {
+        Marking::Fresh(slot) => put(line, from, n, slot),
+        Marking::Known => Grown::Count(n),
+        Marking::Full => Grown::NoRoom,
+    }
+}
+
+// The same after an answer: where there is no room, nothing is done.
+pub fn note_next(
+    names: &mut [u8],
+    marks: &mut [u8],
+    line: &mut [u32],
+    cap: usize,
+    second: bool,
+    from: usize,
+    past: Grown,
+    id: &[u8],
+) -> Grown
+    ensures { λ r. ⌜ NotesNext second cap from (lent (now (names .entry)) (now (marks .entry)) (now (line .entry))) (lent (now (names .exit)) (now (marks .exit)) (now (line .exit))) past (now (id .entry)) r ⌝ }
+{
+    match past {
+        Grown::Count(n) => note(names, marks, line, cap, second, from, n, id),
+        Grown::NoRoom => Grown::NoRoom,
+    }
+}
+
+// Notes each id of a list, in order.
+pub fn note_list(
+    names: &mut [u8],
+    marks: &mut [u8],
+    line: &mut [u32],
+    cap: usize,
+    second: bool,
+    from: usize,
+    past: Grown,
+    list: &[u8],
+) -> Grown
+    ensures { λ r. ⌜ NotesAll second cap from (lent (now (names .entry)) (now (marks .entry)) (now (line .entry))) (lent (now (names .exit)) (now (marks .exit)) (now (line .exit))) past (listIds (now (list .entry))) r ⌝ }
+{
+    let count = hash::ids_in(Kind::Sha1, list.len());
+    let mut r = past;
+    let mut i = 0;
+    while i < count {
+        let id = hash::nth(Kind::Sha1, list, i);
+        r = note_next(names, marks, line, cap, second, from, r, id);
+        i += 1;
+    }
+    r
+}
+
+// Notes the parents of a commit, in order: the ids of the first `count` parent lines of its body, which a good tree line stands before.
+pub fn note_parents(
+    names: &mut [u8],
+    marks: &mut [u8],
+    line: &mut [u32],
+    cap: usize,
+    second: bool,
+    from: usize,
+    past: Grown,
+    body: &[u8],
+    count: usize,
+) -> Grown
+    ensures { λ r. ⌜ NotesParents second cap from (header idBytes (now (body .entry))) (lent (now (names .entry)) (now (marks .entry)) (now (line .entry))) (lent (now (names .exit)) (now (marks .exit)) (now (line .exit))) past count r ⌝ }
+{
+    let mut r = past;
+    let mut i = 0;
+    while i < count {
+        let id = reading::body_parent(body, i);
+        r = note_next(
+            names,
+            marks,
+            line,
+            cap,
+            second,
+            from,
+            r,
+            object::id_slice(Kind::Sha1, &id.bytes),
+        );
+        i += 1;
+    }
+    r
+}
