@@ -362,7 +362,7 @@ def best_common(files, one, other):
 
 
 def merge_base(store, one, other, room=True):
-    """The number of the refusal, 0 where there is none, and the best commits, None where there is none. "Refused: 23 tangled reach, exactly then; before it
+    """The number of the refusal, 0 where there is none, and the commit, None where there is none. "Refused: 23 tangled reach, exactly then; before it
     13, for a commit reachable from either tip that is not readable, and before that 2, 4 and 1". room: whether the memory is enough. """
     if len(store) > MOST_BYTES:
         return 2, None
@@ -379,5 +379,5 @@ def merge_base(store, one, other, room=True):
         return 0, None
     if not best:
         return 23, None
-    # "Any one of them will do."
-    return 0, best
+    # card 11: "give the first: greatest book seconds, then the smallest id"
+    return 0, min(best, key=lambda name: (-files.header(name).seconds, name))

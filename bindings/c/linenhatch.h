@@ -177,8 +177,9 @@ uint32_t linenhatch_check_names(
 /* Where two series part (git's merge-base): 0 where it is said, else the number of the first refusal in the order 2, 4, 1, 13, 23.
  *
  * one, other: a tip each, of which the first 20 bytes count. A commit is common where it is reachable from both over the store's parents; a
- * tip is reachable from itself. A common commit is best where it is not reachable from another. Any best one is
- * given. numbers says 1 and id holds the commit; or 0 and zeros, exactly where no commit is common.
+ * tip is reachable from itself. A common commit is best where it is not reachable from another. Of the best ones the first is given: that with
+ * the greatest committer seconds in the store, among equals that with the smallest id. So it is the same with the tips exchanged, and clocks
+ * decide nothing else. numbers says 1 and id holds the commit; or 0 and zeros, exactly where no commit is common.
  *
  * 13: a commit that a tip reaches, the tip too, is not in the store, or is not readable there (a header line is bad, or it has over 256
  * parents). 23: commits are common and none is best, which needs parents that run in a circle. After a refusal numbers says 0 and id zeros.

@@ -9,7 +9,8 @@ use crate::walk::Lister;
 /// commit is reachable from both.
 ///
 /// A commit is common where it is reachable from both, each being reachable from itself; it is best where it is not reachable from another common
-/// commit. Of several any one is given.
+/// commit. Of several the one with the greatest committer time is first, among equals the one with the smallest id: the same commit for
+/// everyone, and with the two exchanged. Times decide nothing else.
 ///
 /// The refusals come in the order 2, 4, 13, 23: the store is too large or its layout is broken; a commit that one of the two reaches is not in the
 /// store or cannot be read there; or parents run in a circle, so that of the common commits none is best.

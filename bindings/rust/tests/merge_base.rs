@@ -46,6 +46,18 @@ fn none() {
 }
 
 #[test]
+fn of_several_the_newest_then_the_smallest() {
+    let mut commits = CRISS_CROSS;
+    for (two, three, first) in
+        [(20, 30, 3), (30, 20, 2), (20, 20, 2), (-1, -2, 2), (-2, -1, 3), (-1, 0, 3), (i64::from(i32::MAX), 5_000_000_000, 3)]
+    {
+        (commits[1].1, commits[2].1) = (two, three);
+        assert_eq!(parted(&store(&commits), 6, 7), Ok(Some(id(first))), "{two}, {three}");
+    }
+}
+
+/// Times decide between best commits alone: a base that is newer than its children is no better for it, and an old best one is best.
+#[test]
 fn times_that_run_backwards() {
     assert_eq!(parted(&store(&[(1, 900, &[]), (2, 5, &[1]), (3, 1, &[2]), (4, 2, &[2])]), 3, 4), Ok(Some(id(2))));
 }

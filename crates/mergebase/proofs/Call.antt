@@ -4,7 +4,7 @@ use Prim.Native.Nat.{ℕ, _+_, _/_}
 use mathlib.Core.Option.{Option, none, some}
 use mathlib.Core.List.{List, [], _∷_}
 use native.Mathlib.Omega.{arith}
-use lib.ListN.{length, take}
+use lib.ListN.{length}
 use lib.Seq.{take-all}
 use Rattle.hash.specs.Bytes.{Id, idBytes, idsOf}
 use Rattle.walk.specs.declared.Refusal.{Refusal}
@@ -16,7 +16,8 @@ use Rattle.opening.specs.declared.Checked.the-variants.{Fine, Refused}
 use Rattle.reach.specs.Memory.{Lent, lent}
 use Rattle.mergebase.specs.declared.MergeBase.{MergeBase}
 use Rattle.mergebase.specs.declared.Place.{Place}
-use Rattle.mergebase.specs.Parting.{earlyRefusal, refusedBase, Parts, MergeBaseSays}
+use Rattle.mergebase.specs.Parting.{earlyRefusal, refusedBase}
+use Rattle.mergebase.specs.Call.{FirstParts, MergeBaseSays}
 use Rattle.mergebase.specs.Memory.{answerOf, PartsTips}
 use Rattle.mergebase.proofs.Early.{all-passed, roomy}
 use Rattle.mergebase.proofs.Partings.{answers}
@@ -58,6 +59,6 @@ module _ (store : List ℕ) (a b : Id) (names marks levels line : List ℕ) (tim
         early = λ k h. fine-refused (ap checkedOf (sym o ∙ h));
         parts = λ h g.
             let s = all-passed store a b l h in
-            subst (Parts (worldOf store g) a b) (sym z)
+            subst (FirstParts (worldOf store g) a b) (sym z)
             (answers (t .right (s .1) g a b (roomy store names marks line levels a b l cap refl refl refl refl pa pb c (s .0) (s .2)) (ap listIds ea ∙ one-id a pa) (ap listIds eb ∙ one-id b pb)));
       }

@@ -1,4 +1,5 @@
 pub mod Early
 pub mod Partings
-pub mod Call
 pub mod OneAnswer
+pub mod SameForAll
+pub mod Call

@@ -1,6 +1,5 @@
 -- The four answers of card 8 exclude each other, so each comes exactly where its reason holds. Assumes nothing.
 use mathlib.Core.Path.{_≡_, refl}
-use mathlib.Core.Logic.{_↔_}
 use Prim.Native.Nat.{ℕ}
 use mathlib.Core.List.{List, [], _∷_}
 use native.Mathlib.Omega.{arith}
@@ -8,9 +7,7 @@ use Rattle.hash.specs.Bytes.{Id}
 use Rattle.walk.specs.declared.Refusal.the-variants.{UnreadableReach, TangledReach}
 use Rattle.walk.specs.Lookup.{World}
 use Rattle.reach.specs.Search.{Stuck, AllReadable}
-use Rattle.parting.specs.Best.{Common, Best}
 use Rattle.mergebase.specs.declared.MergeBase.{MergeBase}
-use Rattle.mergebase.specs.declared.Parted.{Parted}
 use Rattle.mergebase.specs.declared.Parted.the-variants.{Nothing, Commit, Refused}
 use Rattle.mergebase.specs.Parting.{Parts, unreadable, nothing, best, tangled}
 use Rattle.mergebase.specs.Exactly.{Exactly}

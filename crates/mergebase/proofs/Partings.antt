@@ -2,7 +2,7 @@
 -- first in cleared memory. Assumes nothing.
 use mathlib.Core.Path.{_≡_, refl, sym, _∙_, ap, subst}
 use mathlib.Core.Logic.{_⊎_, ⊎-elim}
-use Prim.Native.Nat.{ℕ, _+_, _/_, _≤_, _<_}
+use Prim.Native.Nat.{ℕ}
 use mathlib.Core.Bool.{true, false}
 use mathlib.Core.List.{List, [], _∷_, List·Memᴰ·head, List·Memᴰ·tail, List·Memᴰ·cases-cons, List·Memᴰ·eq-of-singleton}
 use native.Mathlib.Omega.{arith}
@@ -16,9 +16,9 @@ use Rattle.hashtable.specs.Table.{idOf, cleared}
 use Rattle.hashtable.proofs.TableClear.{length-cleared}
 use Rattle.walk.specs.declared.Refusal.the-variants.{UnreadableReach}
 use Rattle.walk.specs.Lookup.{World, worldOf}
-use Rattle.walk.specs.Reach.{Mem, Reaches}
-use Rattle.reach.specs.Search.{ReachedBy, Stuck, AllReadable}
-use Rattle.reach.specs.Memory.{Lent, lent, In, Lists, Named}
+use Rattle.walk.specs.Reach.{Mem}
+use Rattle.reach.specs.Search.{Stuck, AllReadable}
+use Rattle.reach.specs.Memory.{Lent, lent, In}
 use Rattle.reach.specs.Seek.{ToldSought, Finds, SeeksFrom}
 use Rattle.reach.specs.declared.seek.Sought.{Sought}
 use Rattle.reach.specs.declared.seek.Sought.the-variants.{Whole, Unreadable, NoRoom}
@@ -26,18 +26,19 @@ use Rattle.reach.proofs.Closure.{reachNames}
 use Rattle.reach.proofs.Noting.{listed-few}
 use Rattle.reach.proofs.Starting.{empty-lists, empty-named, names-few, roots-met, parents-met, other-empty, other-kept}
 use Rattle.stain.specs.Stain.{bothIn, Stains, BelowFirst, StainsAll}
-use Rattle.parting.specs.Best.{Common, Best}
+use Rattle.parting.specs.Best.{Best}
+use Rattle.parting.specs.First.{First}
 use Rattle.parting.specs.Choice.{ToldChoice, Chooses}
 use Rattle.parting.specs.Searched.{Searched}
 use Rattle.parting.specs.declared.Choice.{Choice}
 use Rattle.parting.specs.declared.Choice.the-variants.{Nothing as NoChoice, Tangled, Commit as Chosen}
-use Rattle.parting.proofs.Chosen.{in-place, place-common, common-place, clean-best, best-clean}
+use Rattle.parting.proofs.Chosen.{in-place, place-common, common-place, best-clean, chosen-first}
 use Rattle.mergebase.specs.declared.MergeBase.{MergeBase}
 use Rattle.mergebase.specs.declared.Parted.the-variants.{Commit as Given}
 use Rattle.mergebase.specs.declared.Place.{Place}
-use Rattle.mergebase.specs.declared.Place.the-variants.{Nothing, Commit, Refused}
-use Rattle.mergebase.specs.Parting.{Parts}
-use Rattle.mergebase.specs.Memory.{partedOf, answerOf, PartsAt, unreadable, nothing, best, tangled, BestOf, Begun, PartsFrom, Roomy, PartsTips}
+use Rattle.mergebase.specs.declared.Place.the-variants.{Commit, Refused}
+use Rattle.mergebase.specs.Call.{FirstParts}
+use Rattle.mergebase.specs.Memory.{partedOf, answerOf, PartsAt, unreadable, nothing, first, tangled, BestOf, Begun, PartsFrom, Roomy, PartsTips}
 
 -- ---- readable or not, from two tips
 
@@ -65,23 +66,23 @@ module _ {w : World} {a b : Id} where
 
 -- ---- the choice
 
-module _ {w : World} {a b : Id} {cap : ℕ} {m : Lent} {n : ℕ} {l : List Id} (s : Searched w a b cap m n l) (all : AllReadable w (a ∷ b ∷ [])) (levels : List ℕ) {levels′ : List ℕ}
-    (t : Stains (m .names) (m .marks) cap (cleared cap levels) levels′ (BelowFirst w (bothIn (m .names) (m .marks) cap) l n)) where
-  chosen-parts : (r : Choice) → ToldChoice (m .marks) levels′ (m .line) n r → PartsAt w a b cap m (partedOf r)
-  chosen-parts NoChoice c = nothing all (λ x h. let o = common-place s x h in clash (o .3) (c (o .0) (o .1)))
-  chosen-parts Tangled c = tangled all (getD l (c .place) []) (place-common s (c .place) (c .low) (c .both)) (λ y g.
-      let o = common-place s y (g .common) in
-      clash (c .stained (o .0) (o .1) (o .3)) (best-clean s levels t (o .0) (o .1) (subst (Best w a b) (sym (o .2)) g)))
+module _ (s g : List ℕ) {a b : Id} {cap : ℕ} {m : Lent} {n : ℕ} {l : List Id} (ok : storeOk idBytes s ≡ true) (h : Searched (worldOf s g) a b cap m n l)
+    (all : AllReadable (worldOf s g) (a ∷ b ∷ [])) (levels : List ℕ) {levels′ : List ℕ}
+    (t : Stains (m .names) (m .marks) cap (cleared cap levels) levels′ (BelowFirst (worldOf s g) (bothIn (m .names) (m .marks) cap) l n)) where
+  chosen-parts : (r : Choice) → ToldChoice s (m .names) (m .marks) levels′ (m .line) n r → PartsAt (worldOf s g) a b cap m (partedOf r)
+  chosen-parts NoChoice c = nothing all (λ x k. let o = common-place h x k in clash (o .3) (c (o .0) (o .1)))
+  chosen-parts Tangled c = tangled all (getD l (c .place) []) (place-common h (c .place) (c .low) (c .both)) (λ y k.
+      let o = common-place h y (k .common) in
+      clash (c .stained (o .0) (o .1) (o .3)) (best-clean h levels t (o .0) (o .1) (subst (Best (worldOf s g) a b) (sym (o .2)) k)))
   chosen-parts (Chosen slot) c =
-      best all (getD l (c .place) []) (clean-best s levels t (c .place) (c .low) (c .both) (c .clean)) slot
-      (subst (In cap m (getD l (c .place) [])) (c .is) (in-place s (c .place) (c .low)))
+      first all (getD l (c .place) []) (chosen-first h levels t g refl ok c) slot (subst (In cap m (getD l (c .place) [])) (c .is) (in-place h (c .place) (c .low)))
 
 pub best-chosen : {s : List ℕ} {m : Lent} {levels₁ levels₂ : List ℕ} {cap n : ℕ} {c : Choice} {r : Place} (levels : List ℕ) → levels₁ ≡ cleared cap levels → StainsAll s m levels₁ levels₂ cap n
-    → Chooses (m .marks) levels₂ (m .line) n c → r ≡ partedOf c → BestOf s m levels cap n r
+    → Chooses s (m .names) (m .marks) levels₂ (m .line) n c → r ≡ partedOf c → BestOf s m levels cap n r
 best-chosen {s} {m} {levels₁} {levels₂} {cap} {n} {c} {r} levels e st ch q = record {
   right = λ ok g a b l h all room.
       let t = subst (λ (v : List ℕ). StainsAll s m v levels₂ cap n) e st .right ok g l (h .one) (omega (arith, length-cleared cap levels)) in
-      subst (PartsAt (worldOf s g) a b cap m) (sym q) (chosen-parts h all levels t c (ch .told));
+      subst (PartsAt (worldOf s g) a b cap m) (sym q) (chosen-parts s g ok h all levels t c (ch .told));
 }
 
 -- ---- the second search
@@ -162,11 +163,11 @@ module _ {s names marks line : List ℕ} {m₁ : Lent} {cap : ℕ} {marks₀ : L
 -- ---- the answer
 
 -- the slot holds the commit, so its id is the answer's
-pub answers : {w : World} {a b : Id} {cap : ℕ} {m : Lent} {p : Place} → PartsAt w a b cap m p → Parts w a b (answerOf (m .names) p)
-answers (unreadable s) = Parts.unreadable s
-answers (nothing r n) = Parts.nothing r n
-answers {w} {a} {b} {m = m} (best r x h slot o) = Parts.best r _ (subst (Best w a b) (sym (o .is)) h)
-answers (tangled r x c n) = Parts.tangled r x c n
+pub answers : {w : World} {a b : Id} {cap : ℕ} {m : Lent} {p : Place} → PartsAt w a b cap m p → FirstParts w a b (answerOf (m .names) p)
+answers (unreadable s) = FirstParts.unreadable s
+answers (nothing r n) = FirstParts.nothing r n
+answers {w} {a} {b} {m = m} (first r x h slot o) = FirstParts.first r _ (subst (First w a b) (sym (o .is)) h)
+answers (tangled r x c n) = FirstParts.tangled r x c n
 
 pub base-told : {o : ObjectId} {x : List ℕ} (names : List ℕ) (slot : ℕ) → o .bytes ≡ padded x → x ≡ idOf idBytes names slot → _≡_ {A = MergeBase} (record { outcome = Given; commit = o }) (answerOf names (Commit slot))
 base-told names slot e f = λ j. record { outcome = Given; commit = record { bytes = (e ∙ ap padded f) j } }

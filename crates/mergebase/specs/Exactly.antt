@@ -1,7 +1,7 @@
 -- What the answers of card 8 (document 02) tell, both ways. Assumes nothing.
 use mathlib.Core.Path.{_≡_}
 use mathlib.Core.Logic.{_↔_}
-use mathlib.Core.List.{List, [], _∷_}
+use mathlib.Core.List.{[], _∷_}
 use Rattle.hash.specs.Bytes.{Id}
 use Rattle.walk.specs.declared.Refusal.the-variants.{UnreadableReach, TangledReach}
 use Rattle.walk.specs.Lookup.{World}

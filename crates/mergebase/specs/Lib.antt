@@ -1,3 +1,4 @@
 pub mod Parting
-pub mod Memory
 pub mod Exactly
+pub mod Call
+pub mod Memory

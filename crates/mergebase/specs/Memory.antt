@@ -14,6 +14,7 @@ use Rattle.walk.specs.Reach.{Mem, links}
 use Rattle.reach.specs.Search.{Reached, Stuck, AllReadable}
 use Rattle.reach.specs.Memory.{mostSlots, Lent, In, Lists, Named}
 use Rattle.parting.specs.Best.{Common, Best}
+use Rattle.parting.specs.First.{First}
 use Rattle.parting.specs.Searched.{Searched}
 use Rattle.parting.specs.declared.Choice.{Choice}
 use Rattle.parting.specs.declared.Choice.the-variants.{Nothing as NoChoice, Tangled, Commit as Chosen}
@@ -38,7 +39,7 @@ answerOf names (Refused r) = refusedBase r
 pub data PartsAt (w : World) (a b : Id) (cap : ℕ) (m : Lent) : Place → Type 0 where
   unreadable : Stuck w (a ∷ b ∷ []) → PartsAt w a b cap m (Refused UnreadableReach)
   nothing : AllReadable w (a ∷ b ∷ []) → ((x : Id) → Common w a b x → ⊥) → PartsAt w a b cap m Nothing
-  best : AllReadable w (a ∷ b ∷ []) → (x : Id) → Best w a b x → (slot : ℕ) → In cap m x slot → PartsAt w a b cap m (Commit slot)
+  first : AllReadable w (a ∷ b ∷ []) → (x : Id) → First w a b x → (slot : ℕ) → In cap m x slot → PartsAt w a b cap m (Commit slot)
   tangled : AllReadable w (a ∷ b ∷ []) → (x : Id) → Common w a b x → ((y : Id) → Best w a b y → ⊥) → PartsAt w a b cap m (Refused TangledReach)
 
 -- what `best_of` does after both searches

@@ -3,7 +3,6 @@
 -- set with a cycle may have common ancestors and no best one. Refused: 23 tangled reach, exactly then; before it 13, for a commit reachable
 -- from either tip that is not readable, and before that 2, 4 and 1 (P with two tips and no graph)." Assumes nothing.
 use Prim.Native.Nat.{ℕ}
-use mathlib.Core.Path.{_≡_}
 use mathlib.Core.Bool.{cond}
 use mathlib.Core.Option.{Option, none, some}
 use mathlib.Core.List.{List, [], _∷_, _++_}
@@ -13,16 +12,14 @@ use Rattle.hash.specs.Bytes.{Id, idBytes}
 use Rattle.object.specs.Ids.{padded}
 use Rattle.odb.specs.Store.{storeOk}
 use Rattle.reading.specs.Body.{noBytes}
-use Rattle.walk.specs.declared.Settings.{Settings}
 use Rattle.walk.specs.declared.Sorting.the-variants.{BreadthFirst}
 use Rattle.walk.specs.declared.Parents.the-variants.{All}
 use Rattle.walk.specs.declared.Refusal.{Refusal}
 use Rattle.walk.specs.declared.Refusal.the-variants.{BufferTooSmall, InputTooLarge, CorruptStore, UnreadableReach, TangledReach}
-use Rattle.walk.specs.Lookup.{World, worldOf}
+use Rattle.walk.specs.Lookup.{World}
 use Rattle.walk.specs.Opening.{Input, Lengths, roomFor}
 use Rattle.opening.specs.Checks.{inputOf}
 use Rattle.reach.specs.Search.{Stuck, AllReadable}
-use Rattle.reach.specs.Memory.{Lent}
 use Rattle.parting.specs.Best.{Common, Best}
 use Rattle.mergebase.specs.declared.MergeBase.{MergeBase}
 use Rattle.mergebase.specs.declared.Parted.{Parted}
@@ -61,10 +58,3 @@ pub data Parts (w : World) (a b : Id) : MergeBase → Type 0 where
   nothing : AllReadable w (a ∷ b ∷ []) → ((x : Id) → Common w a b x → ⊥) → Parts w a b noBase
   best : AllReadable w (a ∷ b ∷ []) → (x : Id) → Best w a b x → Parts w a b (baseAt x)
   tangled : AllReadable w (a ∷ b ∷ []) → (x : Id) → Common w a b x → ((y : Id) → Best w a b y → ⊥) → Parts w a b (refusedBase TangledReach)
-
--- ---- the call
-
--- after 2, 4 and 1 nothing is altered; otherwise what is said is right, whatever a graph file would say
-pub record MergeBaseSays (store : List ℕ) (a b : Id) (l : Lengths) (m m′ : Lent) (levels levels′ : List ℕ) (r : MergeBase) : Type 0 where
-  pub early : (n : Refusal) → earlyRefusal store a b l ≡ some n → (r ≡ refusedBase n) × (m′ ≡ m) × (levels′ ≡ levels)
-  pub parts : earlyRefusal store a b l ≡ none → (g : List ℕ) → Parts (worldOf store g) a b r

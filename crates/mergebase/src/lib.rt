@@ -1,6 +1,6 @@
-// Where two series part (document 02, card 8; git's merge-base): a best common ancestor of two tips, from the commit store alone. Two searches mark
-// what each tip reaches, common commits stain their parents, and a common commit that is not stained is best. Every function is total and
-// safe on any bytes and numbers.
+// Where two series part (document 02, cards 8 and 11; git's merge-base): of all best common ancestors of two tips the first, from the commit store
+// alone. Two searches mark what each tip reaches, common commits stain their parents, and a common commit that is not stained is best. Every
+// function is total and safe on any bytes and numbers.
 use hash::Kind;
 use hashtable::table;
 use object::ObjectId;
@@ -16,10 +16,12 @@ ghost use Rattle.object.specs.Ids.{idIn};
 ghost use Rattle.walk.specs.Opening.{parentBytes, listIds};
 ghost use Rattle.opening.specs.Checks.{lengthsOf, checkedOf};
 ghost use Rattle.reach.specs.Memory.{lent};
-ghost use Rattle.mergebase.specs.Parting.{earlyRefusal, MergeBaseSays};
+ghost use Rattle.mergebase.specs.Parting.{earlyRefusal};
+ghost use Rattle.mergebase.specs.Call.{MergeBaseSays};
 ghost use Rattle.mergebase.specs.Memory.{partedOf, answerOf, PartsFrom, BestOf, PartsTips};
 
-// What is said of two tips: no commit is reachable from both; the commit is a best one of those that are; or why nothing is said.
+// What is said of two tips: no commit is reachable from both; the commit is the first of the best of those that are; or why
+// nothing is said.
 pub enum Parted {
     Nothing,
     Commit,
@@ -92,7 +94,7 @@ fn place_of(choice: Choice) -> Place
     }
 }
 
-// A best commit after both searches, the first of which met n.
+// The first best commit after both searches, the first of which met n.
 fn best_of(
     names: &[u8],
     marks: &[u8],
@@ -106,7 +108,7 @@ fn best_of(
 {
     stain::clear(levels, cap);
     stain::stain_all(names, marks, levels, line, cap, store, n);
-    place_of(parting::choose(marks, levels, line, n))
+    place_of(parting::choose(names, marks, levels, line, store, n))
 }
 
 // The search from the other tip, after that from one, which met n.

@@ -14,7 +14,7 @@ use Rattle.object.specs.Ids.{idRoom, idIn, padded}
 use Rattle.walk.specs.Opening.{Lengths}
 use Rattle.reach.specs.Memory.{Lent}
 use Rattle.mergebase.specs.declared.MergeBase.{MergeBase}
-use Rattle.mergebase.specs.Parting.{MergeBaseSays}
+use Rattle.mergebase.specs.Call.{MergeBaseSays}
 use Rattle.mergewire.specs.Wire.{noRoom, roomToPart, PutsBase, LibraryMergeBase}
 
 -- the id in a value is the first bytes that it was made of

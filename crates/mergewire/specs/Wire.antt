@@ -13,7 +13,7 @@ use Rattle.reach.specs.Memory.{Lent}
 use Rattle.mergebase.specs.declared.MergeBase.{MergeBase}
 use Rattle.mergebase.specs.declared.Parted.{Parted}
 use Rattle.mergebase.specs.declared.Parted.the-variants.{Nothing, Commit, Refused}
-use Rattle.mergebase.specs.Parting.{MergeBaseSays}
+use Rattle.mergebase.specs.Call.{MergeBaseSays}
 
 -- the result where the tips, the id or the numbers are too short: none of document 01's numbers, and no answer's (`no-room-base` in
 -- proofs/NoRoom.antt)

@@ -2,27 +2,27 @@
 -- common ones that are not stained. Assumes nothing.
 use mathlib.Core.Path.{_≡_, refl, sym, _∙_, ap, subst}
 use mathlib.Core.Logic.{_⊎_, ⊎-elim}
-use Prim.Native.Nat.{ℕ, _+_, _≤_, _<_}
-use mathlib.Core.Bool.{Bool, true, false, _&&_}
-use mathlib.Core.List.{List, [], _∷_}
+use Prim.Native.Nat.{ℕ, _+_, _<_}
+use mathlib.Core.Bool.{true, false, _&&_}
+use mathlib.Core.List.{List, []}
 use native.Mathlib.Omega.{arith}
-use lib.ListN.{length, getD}
+use lib.ListN.{getD}
 use lib.Dec.{eqb}
 use Rattle.hash.specs.Bytes.{Id, idBytes}
 use Rattle.hash.proofs.Tests.{clash, not-yes, and-both, and-of}
 use Rattle.hashtable.specs.Marks.{frontier}
-use Rattle.hashtable.specs.Table.{Holds, cleared}
+use Rattle.hashtable.specs.Table.{cleared}
 use Rattle.hashtable.proofs.TableClear.{cleared-low}
 use Rattle.hashtable.proofs.TableView.{mark-held}
-use Rattle.walk.specs.Lookup.{World}
+use Rattle.odb.specs.Store.{storeOk}
+use Rattle.walk.specs.Lookup.{World, worldOf}
 use Rattle.walk.specs.Reach.{Mem, links}
-use Rattle.reading.proofs.IdLists.{mem-at}
-use Rattle.reach.specs.Search.{Reached}
-use Rattle.reach.specs.Memory.{hasBit, Lent, markIn, In, Lists}
+use Rattle.reach.specs.Memory.{hasBit, Lent, markIn, In}
 use Rattle.reach.proofs.Growth.{place-of}
-use Rattle.stain.specs.Stain.{isStained, bothIn, Stains, BelowFirst}
+use Rattle.stain.specs.Stain.{bothIn, Stains, BelowFirst}
 use Rattle.parting.specs.Best.{Common, Best}
-use Rattle.parting.specs.Choice.{bothAt, stainAt}
+use Rattle.parting.specs.First.{goesFirst, First}
+use Rattle.parting.specs.Choice.{bothAt, stainAt, idAt, Picked}
 use Rattle.parting.specs.Searched.{Searched}
 use Rattle.parting.proofs.Bests.{best-unparented, unparented-best, from-tip, into-list}
 
@@ -83,3 +83,17 @@ module _ {w : World} {a b : Id} {cap : ℕ} {m : Lent} {n : ℕ} {l : List Id} (
         (λ q. clash q (ap (λ (v : ℕ). eqb v 1) (cleared-low cap levels (getD (m .line) i 0) (in-place i h .low))))
         (λ q. best-unparented g .no-child (getD l (q .place) []) (both-common (getD l (q .place) []) (q .below .both)) (q .below .other) (q .below .parent))
         (t .only (getD l i []) (getD (m .line) i 0) (in-place i h) e))
+
+    -- what is chosen goes before every other best one
+    pub chosen-first : {st : List ℕ} {slot : ℕ} (g : List ℕ) → w ≡ worldOf st g → storeOk idBytes st ≡ true → (c : Picked st (m .names) (m .marks) levels′ (m .line) n slot) → First w a b (getD l (c .place) [])
+    chosen-first {st} {slot} g v ok c = record {
+      best = clean-best (c .place) (c .low) (c .both) (c .clean);
+      first = λ y h d.
+          let o = common-place y (h .common) in
+          let here : idAt (m .names) (m .line) (c .place) ≡ getD l (c .place) [] = in-place (c .place) (c .low) .is in
+          let there : idAt (m .names) (m .line) (o .0) ≡ y = in-place (o .0) (o .1) .is ∙ o .2 in
+          ap (λ (u : World). goesFirst u (getD l (c .place) []) y) v
+          ∙ ap (λ (z : Id). goesFirst (worldOf st g) z y) (sym here)
+          ∙ ap (goesFirst (worldOf st g) (idAt (m .names) (m .line) (c .place))) (sym there)
+          ∙ c .first ok g (o .0) (o .1) (o .3) (best-clean (o .0) (o .1) (subst (Best w a b) (sym (o .2)) h)) (λ e. d (sym there ∙ e ∙ here));
+    }

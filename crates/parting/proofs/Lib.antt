@@ -1,3 +1,4 @@
 pub mod Bests
+pub mod Firsts
 pub mod Choosing
 pub mod Chosen

@@ -12,7 +12,7 @@ has-both-requires : tie.Need-has-both-requires
 has-both-requires c κs = search needs
 
 returns : tie.Need-returns
-returns c = let x = c .before .before .before .before .before .args in next-passed (x .marks .now) (x .levels .now) (x .slot) (c .before .before .mark-of .ensures) (c .before .has-both .ensures) (x .past) (not-true (c .before .has-both .result) (c .if1 .taken))
+returns c = let x = c .before .before .before .before .before .before .before .args in next-passed (x .store .now) (x .names .now) (x .marks .now) (x .levels .now) (x .slot) (c .before .before .mark-of .ensures) (c .before .has-both .ensures) (x .past) (not-true (c .before .has-both .result) (c .if1 .taken))
 
 is-stained-requires : tie.Need-is-stained-requires
 is-stained-requires c κs = search needs
@@ -21,10 +21,13 @@ met-requires : tie.Need-met-requires
 met-requires c κs = search needs
 
 returns-2 : tie.Need-returns-2
-returns-2 c = let x = c .before .before .before .before .before .before .before .before .args in next-met (x .marks .now) (x .levels .now) (x .slot) (c .before .before .before .before .before .mark-of .ensures) (c .before .before .before .before .has-both .ensures) (not-false (c .before .before .before .before .has-both .result) (c .before .before .before .if1 .left)) (c .before .before .is-stained .ensures) (c .before .if2 .taken) (c .met .ensures)
+returns-2 c = let x = c .before .before .before .before .before .before .before .before .before .before .args in next-met (x .store .now) (x .names .now) (x .marks .now) (x .levels .now) (x .slot) (c .before .before .before .before .before .mark-of .ensures) (c .before .before .before .before .has-both .ensures) (not-false (c .before .before .before .before .has-both .result) (c .before .before .before .if1 .left)) (c .before .before .is-stained .ensures) (c .before .if2 .taken) (c .met .ensures)
+
+sooner-requires : tie.Need-sooner-requires
+sooner-requires c κs = search needs
 
 returns-3 : tie.Need-returns-3
-returns-3 c = let x = c .before .before .before .before .before .before .before .args in next-taken (x .marks .now) (x .levels .now) (x .slot) (c .before .before .before .before .mark-of .ensures) (c .before .before .before .has-both .ensures) (x .past) (not-false (c .before .before .before .has-both .result) (c .before .before .if1 .left)) (c .before .is-stained .ensures) (c .if2 .left)
+returns-3 c = let x = c .before .before .before .before .before .before .before .before .before .before .args in next-taken (x .store .now) (x .names .now) (x .marks .now) (x .levels .now) (x .slot) (c .before .before .before .before .before .mark-of .ensures) (c .before .before .before .before .has-both .ensures) (not-false (c .before .before .before .before .has-both .result) (c .before .before .before .if1 .left)) (c .before .before .is-stained .ensures) (c .before .if2 .left) (c .sooner .ensures)
 
 pub choose-next-spec : {M : Type 1} → statement M
 choose-next-spec =
@@ -36,4 +39,5 @@ choose-next-spec =
     is-stained-requires
     met-requires
     returns-2
+    sooner-requires
     returns-3)

@@ -39,7 +39,8 @@ Lists what the REVs reach (HEAD if none is given), one id on a line. A REV is an
   --check-names     lists nothing: checks that each commit which the REVs reach is under the id that git makes of its body, and that git's
                     commit-graph file ends in the digest of the rest. Says which commit is at fault. The commits must fit in one store, whole
   merge-base        as the first word that is no -C or --progress: lists nothing, prints where two REVs part. That is the best commit which both
-                    reach; of several any one. Status 1 if both reach none. A branch of this name is listed with -- merge-base
+                    reach; of several the newest by committer time, among equals the smallest id, so it is the same for everyone and with
+                    the two exchanged. Status 1 if both reach none. A branch of this name is listed with -- merge-base
   --progress        shows on standard error how far the work is, also where that is no terminal
   -h, --help, -V, --version
 
