@@ -1,14 +1,15 @@
 """drift.py: hiding where clocks drift. Makes histories of 300 commits in git, 15 percent of the clocks set back by up to 4,000 seconds. Each commit
 is hidden in turn, all that the tip reaches is listed, and each list is judged by plain reachability: right are the commits that the tip reaches
-and the hidden commit does not, each once. Listed by the tool `linenhatch` with no commit-graph file, with one of the older half (a stale one)
-and with one of all commits, and by `git rev-list` with no such file and with one of all commits.
+and the hidden commit does not, each once. Listed by the tool `linenhatch`, tested and with --untested, with no commit-graph file, with one of the
+older half (a stale one) and with one of all commits, and by `git rev-list` with no such file and with one of all commits. A list that the tool
+refuses is counted apart; it may give refusal 15 and no other.
 
     rt staticlib linenhatch && (cd bindings/rust && cargo build --release --offline)
     python3 compare/drift.py
 
 Options: --seeds N (5 histories, of the seeds 1 to N), --commits N (300), --tool FILE. A seed always gives the same history. Ends with status 1 if
-a list of ours with the file of all commits is wrong: there the premises of the theorem hold. With no such file they do not, and git is no judge
-either: the counts say how often each is wrong. Needs python3 and git; a minute or two.
+a tested list of ours is wrong, or one with the file of all commits is wrong or refused: there the premises of the theorem hold. With no such file
+they do not, and git is no judge either: the counts say how often each is wrong. Needs python3 and git; a minute or two.
 """
 import argparse
 import os
@@ -23,7 +24,7 @@ TOOL = os.path.join(HERE, "..", "bindings", "rust", "target", "release", "linenh
 BENCHES, APART = 4, 60                                 # lines of runs; seconds from one commit to the next
 PART, MOST_BACK = 0.15, 4_000                          # of the clocks; seconds
 ENV = {k: v for k, v in os.environ.items() if not k.startswith("GIT_")} | {"GIT_CONFIG_GLOBAL": "/dev/null", "GIT_CONFIG_NOSYSTEM": "1"}
-FAULTS = ("wrong", "with commits too many", "with commits missing or twice", "commits too many")
+FAULTS = ("wrong", "with commits too many", "with commits missing or twice", "commits too many", "refused")
 
 
 # ---- a history: for each commit its seconds and its parents' numbers, parents first, the tip last
@@ -92,8 +93,8 @@ def with_graph(repository, copy, ids):
 
 # ---- the lists
 
-def ours(tool, repository, graph):
-    words = [tool, "-C", repository, "--order", "newest"] + ([] if graph else ["--no-graph"])
+def ours(tool, repository, graph, tested=True):
+    words = [tool, "-C", repository, "--order", "newest"] + ([] if graph else ["--no-graph"]) + ([] if tested else ["--untested"])
     return lambda tip, hidden: words + ["--hide", hidden, tip]
 
 
@@ -106,7 +107,12 @@ def judge(command, ids, reached):
     """The counts of FAULTS over the lists."""
     counts = [0] * len(FAULTS)
     for n, hidden in enumerate(ids):
-        out = subprocess.run(command(ids[-1], hidden), stdout=subprocess.PIPE, check=True, env=ENV).stdout.decode().split()
+        done = subprocess.run(command(ids[-1], hidden), stdout=subprocess.PIPE, stderr=subprocess.PIPE, env=ENV)
+        if done.returncode == 1 and not done.stdout and b"(refusal 15, " in done.stderr:
+            counts[-1] += 1
+            continue
+        done.check_returncode()
+        out = done.stdout.decode().split()
         listed, right = set(out), {ids[m] for m in reached[-1] - reached[n]}
         more, less = len(listed - right), len(right - listed) + len(out) - len(listed)
         for i, x in enumerate((bool(more or less), bool(more), bool(less), more)):
@@ -125,9 +131,8 @@ def run(seed, count, tool):
         ids = make(plain, parents, seconds)
         whole = with_graph(plain, os.path.join(room, "whole"), ids)
         stale = with_graph(plain, os.path.join(room, "stale"), ids[:len(ids) // 2])
-        commands = {("linenhatch", "none"): ours(tool, plain, False),
-                    ("linenhatch", "of the older half"): ours(tool, stale, True),
-                    ("linenhatch", "of all commits"): ours(tool, whole, True),
+        commands = {(name, what): ours(tool, repository, what != "none", name == "linenhatch") for name in ("linenhatch", "linenhatch --untested")
+                    for what, repository in (("none", plain), ("of the older half", stale), ("of all commits", whole))} | {
                     ("git rev-list", "none"): rev_list(plain, False),
                     ("git rev-list", "of all commits"): rev_list(whole, True)}
         return {name: judge(command, ids, reached) for name, command in commands.items()}
@@ -149,10 +154,13 @@ def main():
     for name in runs[0]:
         sums = [f"{sum(column):,}" for column in zip(*(r[name] for r in runs))]
         print(f"| {' | '.join(name)} | {', '.join(str(r[name][0]) for r in runs)} | {' | '.join(sums)} |")
-    if any(r["linenhatch", "of all commits"][0] for r in runs):
-        print("\nFAILED: with a commit-graph file of all commits a list of ours is wrong")
+    if any(r[name][0] for r in runs for name in r if name[0] == "linenhatch"):
+        print("\nFAILED: a tested list of ours is wrong")
         return 1
-    print("\nwith a commit-graph file of all commits no list of ours is wrong")
+    if any(r[name, "of all commits"][0] + r[name, "of all commits"][-1] for r in runs for name in ("linenhatch", "linenhatch --untested")):
+        print("\nFAILED: with a commit-graph file of all commits a list of ours is wrong or refused")
+        return 1
+    print("\nno tested list of ours is wrong, and with a commit-graph file of all commits none is refused")
     return 0
 
 

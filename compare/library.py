@@ -12,6 +12,7 @@ import random
 import sys
 
 import generate
+import model
 from compare import expected
 
 ENDED, NO_ROOM, CLOSED = 100, 101, 12
@@ -47,9 +48,10 @@ class Library:
     def __init__(self, path):
         self.lib = ctypes.CDLL(path)
         self.lib.linenhatch_places.restype = ctypes.c_size_t
-        self.lib.linenhatch_open.restype = self.lib.linenhatch_next.restype = ctypes.c_uint32
+        self.lib.linenhatch_open.restype = self.lib.linenhatch_open_tested.restype = self.lib.linenhatch_next.restype = ctypes.c_uint32
 
-    def open(self, case, record=RECORD, numbers=NUMBERS):
+    def open(self, case, record=RECORD, numbers=NUMBERS, tested=False, short=None, memory=None):
+        """short: which buffer is lent one element less than its size, 0 for names to 5 for parents. memory: buffers to be lent again."""
         lists = [case.pair.store, case.pair.graph, b"".join(case.tips), b"".join(case.hidden), b"".join(case.barred)]
         lent = [lend(data) for data in lists]
         self.kept = [part for _, part in lent]
@@ -58,11 +60,13 @@ class Library:
         settings = [ctypes.c_uint32(order), ctypes.c_uint32(case.sorting >= generate.CUTOFF_NEWEST), ctypes.c_int64(case.cutoff), ctypes.c_uint32(case.first)]
         self.places = self.lib.linenhatch_places(*store, *graph, *tips, *hidden)
         p = min(self.places, MOST_PLACES)
-        self.memory = [Buffer(k, n) for k, n in ((ctypes.c_uint8, 20 * p), (ctypes.c_uint8, p), (ctypes.c_uint32, p), (ctypes.c_int64, p), (ctypes.c_uint32, 5 * p), (ctypes.c_uint8, 5120))]
+        sizes = [(ctypes.c_uint8, 20 * p), (ctypes.c_uint8, p), (ctypes.c_uint32, p), (ctypes.c_int64, p), (ctypes.c_uint32, 5 * p), (ctypes.c_uint8, 5120)]
+        self.memory = memory or [Buffer(kind, max(0, n - (at == short))) for at, (kind, n) in enumerate(sizes)]
         self.record, self.id, self.numbers, self.seconds = Buffer(ctypes.c_uint64, record), Buffer(ctypes.c_uint8, 20), Buffer(ctypes.c_uint64, numbers), Buffer(ctypes.c_int64, SECONDS)
         self.files = [*store, *graph, *hidden, *barred, *settings]
         memory = [w for b in self.memory for w in b.words()]
-        return self.lib.linenhatch_open(*store, *graph, *tips, *hidden, *barred, *settings, *memory, *self.record.words(), *self.numbers.words())
+        call = self.lib.linenhatch_open_tested if tested else self.lib.linenhatch_open
+        return call(*store, *graph, *tips, *hidden, *barred, *settings, *memory, *self.record.words(), *self.numbers.words())
 
     def next(self):
         memory = [w for b in self.memory for w in b.words()]
@@ -78,10 +82,10 @@ class Library:
         return all(b.sound() for b in self.memory + self.own())
 
 
-def without_room(library, case):
+def without_room(library, case, tested=False):
     """None, or what differs where one of the library's own buffers is too short: that is said before all else, and nothing is altered."""
     for record, numbers in ((RECORD - 1, NUMBERS), (RECORD, 2), (0, 0)):
-        result = library.open(case, record, numbers)
+        result = library.open(case, record, numbers, tested)
         if result != NO_ROOM or not library.unaltered(library.own() + library.memory):
             return "opening without room: %d" % result
     opened = library.open(case)
@@ -98,22 +102,29 @@ def without_room(library, case):
     return "call after those without room: %d" % result if (result == CLOSED) != (opened != 0) else None
 
 
-def fault(library, case):
+def refused(library, result, number):
+    """None, or what differs after an opening that must be refused with a number. Card 1: after 13 to 15 the working memory, all lent but parents, is free."""
+    kept = library.memory[5:] if number in (13, 14, 15) else library.memory
+    untouched = all(set(bytes(b.part)) <= {GUARD} for b in kept) and set(bytes(library.numbers.part)[24:]) <= {GUARD}
+    if result != number or list(library.numbers.part)[:3] != [0, 0, 0] or any(library.record.part) or not untouched or not library.sound():
+        return "refused opening: %d for %d" % (result, number)
+    before = [bytes(b.all) for b in library.memory + [library.record]]
+    result = library.next()
+    if result != CLOSED or any(library.numbers.part) or any(library.id.part) or any(library.seconds.part):
+        return "call of a closed record: %d" % result
+    return None if before == [bytes(b.all) for b in library.memory + [library.record]] else "memory altered by a call of a closed record"
+
+
+def fault(library, case, tested=False):
     """None, or what differs."""
-    _, answers, walk = expected(case)
-    result = library.open(case)
+    _, answers, walk = expected(case, model.Tested if tested else model.Walk)
+    result = library.open(case, tested=tested)
     parents = library.memory[5]
     numbers = list(library.numbers.part)
     if not library.sound():
         return "memory beside a buffer"
     if walk.refused is not None:
-        untouched = all(set(bytes(b.part)) <= {GUARD} for b in library.memory)
-        if result != walk.refused or numbers[:3] != [0, 0, 0] or any(library.record.part) or not untouched:
-            return "refused opening: %d for %d" % (result, walk.refused)
-        result = library.next()
-        if result != CLOSED or any(library.numbers.part) or any(library.id.part) or any(library.seconds.part):
-            return "call of a closed record: %d" % result
-        return None
+        return refused(library, result, walk.refused)
     if library.places != walk.P or result != 0 or numbers[:3] != [walk.tips_admitted, 0, walk.tips_admitted]:
         return "opening: %d, places %d for %d" % (result, library.places, walk.P)
     for k, a in enumerate(answers):

@@ -1,8 +1,7 @@
 """Document 01's walk, from its words alone, and document 02's cards; the readers of the two files are tools/formats.py, from the same words.
 
 `Files` is what the two files say of an id. `Walk` is an opening and its next calls. Sentences in quotation marks are the documents'.
-`commit_id` and `check_names` are card 2.
-`merge_base` is cards 8 and 11.
+`reach` and `Tested` are card 1, `commit_id` and `check_names` card 2, `merge_base` cards 8 and 11.
 """
 import hashlib
 import os
@@ -318,6 +317,66 @@ class Walk:
         self.wait(parent, seconds)
 
 
+def reach(files, starts):
+    """Document 01: "commits reach others over the book's parent lines …; an absent or unreadable id is reached too, as a commit that isn't
+    readable, and leads no further". """
+    out, todo = set(), list(starts)
+    while todo:
+        name = todo.pop()
+        if name not in out:
+            out.add(name)
+            header = files.header(name)
+            if header is not None and header.fault() is None:
+                todo += header.ids
+    return out
+
+
+class Tested(Walk):
+    """Card 1's tested opening: "13 unreadable reach, 14 graph at odds, 15 pair not falling; tested in that order after 8". """
+
+    def open(self, tips):
+        refused = super().open(tips)
+        return self.test(tips) if refused is None else refused
+
+    def test(self, tips):
+        """None, or the number. "looks at everything reachable from all given tips and hidden tips, over all the book's parents, and … accepts
+        exactly when every commit is readable in the book, the graph agrees, and each pair falls" """
+        found = self.looked_at(tips)
+        if not all(self.readable(name) for name in found):
+            return 13
+        if not all(self.agrees(name) for name in found):
+            return 14
+        if not all(self.falls(name, parent) for name in found for parent in self.links(name)):
+            return 15
+        return None
+
+    def looked_at(self, tips):
+        """"all given tips and hidden tips": barred ones, and those that a cutoff turns away, too"""
+        return reach(self.files, list(tips) + self.hidden)
+
+    def links(self, name):
+        return self.files.header(name).ids
+
+    def readable(self, name):
+        header = self.files.header(name)
+        return header is not None and header.fault() is None
+
+    def agrees(self, name):
+        """Document 01: "each reachable commit that the graph lists has there its book parents, in order, and its book seconds" """
+        row, header = self.files.row(name), self.files.header(name)
+        if row is None:
+            return True
+        return row is not CORRUPT and [parent for parent, _ in row[0]] == header.ids and row[2] == header.seconds
+
+    def pair(self, name):
+        """Card 6's: "pairs take 0xFFFFFFFF" where a row has level 0; "Without a graph row the level is 0xFFFFFFFF." """
+        row = self.files.row(name)
+        return NO_ROW_LEVEL if row is None else row[1], self.files.header(name).seconds
+
+    def falls(self, name, parent):
+        return self.pair(parent) < self.pair(name)
+
+
 def commit_id(body, kind="sha1"):
     """"A commit's id is the digest of `commit `, the body length in decimal, a zero byte and the body." """
     return hashlib.new(kind, b"commit %d\0" % len(body) + body).digest()
@@ -339,17 +398,6 @@ def check_names(store, graph):
     return 0, 0
 
 
-def reach(files, tip):
-    """What a tip reaches over the parents in the book; "A tip counts as its own ancestor." """
-    met, left = set(), [tip]
-    while left:
-        name = left.pop()
-        if name not in met:
-            met.add(name)
-            left += files.header(name).ids if readable(files, name) else []
-    return met
-
-
 def readable(files, name):
     header = files.header(name)
     return header is not None and header.fault() is None
@@ -357,8 +405,8 @@ def readable(files, name):
 
 def best_common(files, one, other):
     """Card 8: "reachable from both, and not reachable from another commit that is". The common ones and the best ones."""
-    common = reach(files, one) & reach(files, other)
-    return common, {x for x in common if not any(x in reach(files, y) for y in common if y != x)}
+    common = reach(files, [one]) & reach(files, [other])
+    return common, {x for x in common if not any(x in reach(files, [y]) for y in common if y != x)}
 
 
 def merge_base(store, one, other, room=True):
@@ -371,7 +419,7 @@ def merge_base(store, one, other, room=True):
         return files.fault, None
     if not room:
         return 1, None
-    if not all(readable(files, name) for name in reach(files, one) | reach(files, other)):
+    if not all(readable(files, name) for name in reach(files, [one, other])):
         return 13, None
     common, best = best_common(files, one, other)
     # "Say none exactly when no commit is reachable from both."

@@ -1,7 +1,8 @@
 """published.py DRIVER DIR: the published walks of DIR (crates/runs: `stdin`, and `stdout`, which tools/make_runs.py wrote) beside the unaltered
 `Simple` over the stand-ins and beside the definitions of crates/walk/specs. Ends with status 1 if any differs.
 
-The driver's answers are compared wherever an opening is not refused with 1, 2 or 3, which the Rust does not have, and no row has level 0: opening or refusal, then for each call
+A tested opening that is accepted is compared as a plain one. The driver's answers are compared wherever an opening is not refused with 1 to 3 or 13 to 15,
+which the Rust does not have, and no row has level 0: opening or refusal, then for each call
 the id, the generation, the seconds and the parents, or the refusal's number, or end; the zone, which the Rust does not give, is left out (card 7).
 The definitions' answers are compared in every field.
 """
@@ -20,8 +21,8 @@ def cases(data):
     at = 0
     while at < len(data):
         at += 4
-        sorting, cutoff, first = struct.unpack_from(">BqB", data, at)
-        at, parts = at + 10, []
+        sorting, cutoff, first, _ = struct.unpack_from(">BqBB", data, at)
+        at, parts = at + 11, []
         for _ in range(7):
             size = int.from_bytes(data[at:at + 4], "big")
             parts.append(data[at + 4:at + 4 + size])
@@ -73,8 +74,8 @@ def main(driver, folder):
     seen, bad = collections.Counter(), []
     for (title, case), (_, opening, *calls) in zip(all_cases, blocks):
         refused = int(opening.split()[1]) if opening.startswith("refused") else None
-        if refused in (1, 2, 3):
-            seen["refused 1, 2 or 3: not in the Rust"] += 1
+        if refused in (1, 2, 3, 13, 14, 15):
+            seen["refused 1 to 3 or 13 to 15: not in the Rust"] += 1
             continue
         if refused is not None:
             calls = []

@@ -1,9 +1,9 @@
 """Walks with one fault each, to see that the cases tell them from the right one. The first four are document 01's slips. Those of ZONES alter
-nothing but card 7's zone, which runs beside the crate leave out."""
+nothing but card 7's zone, which runs beside the crate leave out; those of TESTED nothing but card 1's tests at opening."""
 import copy
 
 import formats
-from model import CORRUPT, HIDDEN, NO_ROW_LEVEL, STALE, VISIBLE, Walk
+from model import CORRUPT, HIDDEN, NO_ROW_LEVEL, STALE, VISIBLE, Tested, Walk, reach
 
 
 class PoppedStale(Walk):
@@ -177,6 +177,165 @@ class NoneAtUtc(Walk):
         return super().zone_of(name) or None
 
 
+class HiddenUntested(Tested):
+    """tests nothing that hidden tips alone reach"""
+
+    def looked_at(self, tips):
+        return reach(self.files, tips)
+
+
+class BarredUntested(Tested):
+    """leaves excluded tips out of the test"""
+
+    def looked_at(self, tips):
+        return reach(self.files, [tip for tip in tips if tip not in self.barred] + self.hidden)
+
+
+class TurnedUntested(Tested):
+    """leaves tips that the cutoff turned away out of the test"""
+
+    def looked_at(self, tips):
+        return reach(self.files, [name for name, _ in self.line] + [tip for tip in tips if tip in self.barred] + self.hidden)
+
+
+class FirstTested(Tested):
+    """tests along first parents alone under First"""
+
+    def looked_at(self, tips):
+        if not self.first:
+            return super().looked_at(tips)
+        out, todo = set(), list(tips) + self.hidden
+        while todo:
+            name = todo.pop()
+            if name not in out:
+                out.add(name)
+                todo += self.links(name)[:1] if self.readable(name) else []
+        return out
+
+    def links(self, name):
+        return super().links(name)[:1] if self.first else super().links(name)
+
+
+class AllTested(Tested):
+    """tests every commit of the store, reached or not"""
+
+    def looked_at(self, tips):
+        return super().looked_at(tips) | reach(self.files, self.files.bodies)
+
+
+class OrderOfParentsFree(Tested):
+    """compares parents without their order"""
+
+    def agrees(self, name):
+        row, header = self.files.row(name), self.files.header(name)
+        if row in (None, CORRUPT):
+            return row is None
+        return sorted(parent for parent, _ in row[0]) == sorted(header.ids) and row[2] == header.seconds
+
+
+class SecondsNotCompared(Tested):
+    """compares no seconds of rows"""
+
+    def agrees(self, name):
+        row = self.files.row(name)
+        return row is None or row is not CORRUPT and [parent for parent, _ in row[0]] == self.files.header(name).ids
+
+
+class ParentsNotCompared(Tested):
+    """compares no parents of rows"""
+
+    def agrees(self, name):
+        row = self.files.row(name)
+        return row is None or row is not CORRUPT and row[2] == self.files.header(name).seconds
+
+
+class CorruptPasses(Tested):
+    """takes a corrupt list for no row"""
+
+    def agrees(self, name):
+        return self.files.row(name) is CORRUPT or super().agrees(name)
+
+    def pair(self, name):
+        return (NO_ROW_LEVEL, self.files.header(name).seconds) if self.files.row(name) is CORRUPT else super().pair(name)
+
+
+class RowForAbsent(Tested):
+    """takes a commit that the graph alone has as readable"""
+
+    def readable(self, name):
+        return super().readable(name) or name not in self.files.bodies and self.files.row(name) is not None
+
+    def agrees(self, name):
+        return name not in self.files.bodies or super().agrees(name)
+
+    def links(self, name):
+        return [parent for parent in super().links(name) if parent in self.files.bodies] if name in self.files.bodies else []
+
+
+class CrowdedPasses(Tested):
+    """takes a commit of over 256 parents as readable"""
+
+    def readable(self, name):
+        header = self.files.header(name)
+        return header is not None and header.fault() in (None, 11)
+
+    def agrees(self, name):
+        return self.files.header(name).crowded or super().agrees(name)
+
+    def links(self, name):
+        return [] if self.files.header(name).crowded else [p for p in super().links(name) if not self.files.header(p).crowded]
+
+
+class EqualPairPasses(Tested):
+    """accepts a pair that is equal along a link"""
+
+    def falls(self, name, parent):
+        return self.pair(parent) <= self.pair(name)
+
+
+class SelfPasses(Tested):
+    """looks over a commit that names itself"""
+
+    def falls(self, name, parent):
+        return parent == name or super().falls(name, parent)
+
+
+class SecondsAlone(Tested):
+    """compares seconds and no levels"""
+
+    def falls(self, name, parent):
+        return self.pair(parent)[1] < self.pair(name)[1]
+
+
+class LevelsAlone(Tested):
+    """compares levels and no seconds"""
+
+    def falls(self, name, parent):
+        return self.pair(parent)[0] < self.pair(name)[0]
+
+
+class ZeroTested(Tested):
+    """takes level 0 as the lowest level"""
+
+    def pair(self, name):
+        row = self.files.row(name)
+        return (NO_ROW_LEVEL if row is None else self.files.graph.level(self.files.places[name])), self.files.header(name).seconds
+
+
+class FirstFaultDecides(Tested):
+    """tests commit by commit, so that the first at fault decides the number"""
+
+    def test(self, tips):
+        for name in sorted(self.looked_at(tips)):
+            if not self.readable(name):
+                return 13
+            if not self.agrees(name):
+                return 14
+            if any(self.readable(parent) and self.agrees(parent) and not self.falls(name, parent) for parent in self.links(name)):
+                return 15
+        return None
+
+
 def painting(walk, popped_stale=False, first_hides=False, unsorted=False, turned=False):
     marks, read, queue = {}, {}, []
 
@@ -211,3 +370,5 @@ def painting(walk, popped_stale=False, first_hides=False, unsorted=False, turned
 ALL = [PoppedStale, FirstHides, GraphSeconds, EdgeFromThird, LastQueued, HiddenOnce, TurnedTipAdmitted, CutoffUnderFirst, UnsortedWaiting,
        SecondsBeforeLevels, GraphKept, ZeroLowest, ZeroRowAlone]
 ZONES = [RowZone, AuthorZone, CountedZone, FirstWithoutZone, SignLost, NoneAtUtc]
+TESTED = [HiddenUntested, BarredUntested, TurnedUntested, FirstTested, AllTested, OrderOfParentsFree, SecondsNotCompared, ParentsNotCompared, CorruptPasses,
+          RowForAbsent, CrowdedPasses, EqualPairPasses, SelfPasses, SecondsAlone, LevelsAlone, ZeroTested, FirstFaultDecides]

@@ -64,7 +64,8 @@ def run(seed, count, tool):
                 chosen = lambda g: [g.find(bytes.fromhex(stray))]  # noqa: E731
             zeroed(graph_of(repository, given), chosen)
             for name, command in (("linenhatch", drift.ours(tool, repository, True)), ("git rev-list", drift.rev_list(repository, True))):
-                wrong[name, what, of] = drift.judge(command, ids, reached)[0]
+                counts = drift.judge(command, ids, reached)
+                wrong[name, what, of] = counts[0] + counts[-1]  # the clocks are right, so none may be refused
                 lists += count
             shown = subprocess.run([tool, "-C", repository, "--order", "newest", "--time", ids[-1]], stdout=subprocess.PIPE, check=True, env=drift.ENV).stdout.decode().splitlines()
             wrong["linenhatch, generations shown", what, of] = sum(not x.endswith("/-") for x in shown)

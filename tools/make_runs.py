@@ -1,7 +1,7 @@
 """make_runs.py DIR EXAMPLE: writes DIR/stdin and DIR/stdout, the walks of the program `runs` and what it must print.
 
-A case is ten bytes of settings (the order: 0 breadth first, 1 newest, 2 oldest, 3 cutoff and newest, 4 cutoff and oldest; the cutoff, a big-endian
-i64; the mode: 0 All, 1 First) and seven parts, each a big-endian u32 length and its bytes: title, commit store, commit-graph file, tips, hidden tips,
+A case is eleven bytes of settings (the order: 0 breadth first, 1 newest, 2 oldest, 3 cutoff and newest, 4 cutoff and oldest; the cutoff, a big-endian
+i64; the mode: 0 All, 1 First; the opening: 0 plain, 1 tested) and seven parts, each a big-endian u32 length and its bytes: title, commit store, commit-graph file, tips, hidden tips,
 excluded ids, and the lengths of the six lent buffers, a u32 each; before it stands its own length, at most 65,536.
 
 The expected lines come from compare/model.py, document 01's walk from its words alone, which shares nothing with the Rattle crates; the tests of an
@@ -28,18 +28,18 @@ runs = []
 
 
 class Run:
-    def __init__(self, family, title, pair, lists, sorting, cutoff, first, lent):
+    def __init__(self, family, title, pair, lists, sorting, cutoff, first, lent, tested=False):
         self.family, self.title, self.pair = family, title, pair
         self.tips, self.hidden, self.barred = lists
         self.sorting, self.cutoff, self.first = sorting, cutoff, first
-        self.lent = lent
+        self.lent, self.tested = lent, tested
 
     def walk(self, kind):
         ids = [[part[i:i + 20] for i in range(0, len(part), 20)] for part in (self.tips, self.hidden, self.barred)]
         return generate.Case(self.pair, *ids, self.sorting, self.cutoff, self.first).walk(kind)
 
     def bytes(self):
-        out = struct.pack(">BqB", self.sorting, self.cutoff, self.first)
+        out = struct.pack(">BqBB", self.sorting, self.cutoff, self.first, self.tested)
         sizes = b"".join(map(u32, self.lent))
         for part in (self.title.encode(), self.pair.store, self.pair.graph, self.tips, self.hidden, self.barred, sizes):
             out += u32(len(part)) + part
@@ -55,7 +55,7 @@ def sizes_for(places):
 # ---- what must be printed
 
 def opening(run, kind):
-    """The refusal's number or None, and the walk. "in order 2 to 6, 1, 7, 8" """
+    """The refusal's number or None, and the walk. "in order 2 to 6, 1, 7, 8"; card 1: "tested in that order after 8" """
     lists = (run.tips, run.hidden, run.barred)
     if max(len(run.pair.store), len(run.pair.graph)) > model.MOST_BYTES or max(map(len, lists)) > 20 * model.MOST_IDS:
         return 2, None
@@ -92,13 +92,13 @@ def call_line(word, name, level, seconds, zone, tally, parents):
 NO_ID = bytes(20)
 
 
-def lines(run, kind=model.Walk):
+def lines(run, kind=None):
     out = ["# " + run.title]
-    refused, walk = opening(run, kind)
+    refused, walk = opening(run, kind or (model.Tested if run.tested else model.Walk))
     if refused is not None:
         # "refused openings and 12 carry zeros"; "12 … comes for every closed record"
         return out + ["refused %d" % refused + numbers(0, 0, 0), call_line("refused 12", NO_ID, None, None, None, numbers(0, 0, 0), ())]
-    out.append("opened" + numbers(walk.admitted, walk.struck, len(walk.line)))
+    out.append(("opened tested" if run.tested else "opened") + numbers(walk.admitted, walk.struck, len(walk.line)))
     ends = 0
     while ends < 2:
         a = walk.next()
@@ -113,10 +113,10 @@ def lines(run, kind=model.Walk):
 family = ""
 
 
-def case(title, pair, tips=(), hidden=(), barred=(), sorting=BREADTH, cutoff=0, first=False, lent=None):
+def case(title, pair, tips=(), hidden=(), barred=(), sorting=BREADTH, cutoff=0, first=False, lent=None, tested=False):
     """A list is ids or bytes. Buffers are lent at their exact sizes unless `lent` says others."""
     lists = [part if isinstance(part, bytes) else b"".join(part) for part in (tips, hidden, barred)]
-    run = Run(family, title, pair, lists, sorting, cutoff, first, lent)
+    run = Run(family, title, pair, lists, sorting, cutoff, first, lent, tested)
     if lent is None:
         run.lent = sizes_for(MOST_PLACES)
         refused, walk = opening(run, model.Walk)
@@ -593,6 +593,89 @@ def refusals(_):
             assert lines(run)[1].startswith("refused " + run.title[0]), run.title
 
 
+def tested(_):
+    """Card 1: a history of each kind. The chain is a 40, b 30, c 20, d 10."""
+    def history(title, tips="a", hidden="", barred="", settings=(), refused=None, **made):
+        made = {**CHAIN, **made}
+        History(**made).run("tested: " + title, tips, hidden, barred, tested=True, **dict(settings))
+        got = lines(runs[-1])[1].split()
+        assert got[:2] == (["opened", "tested"] if refused is None else ["refused", str(refused)]), (title, got)
+
+    by_time, first = dict(sorting=NEWEST), dict(first=True)
+    for what, settings in (("breadth", {}), ("newest", by_time), ("oldest", dict(sorting=OLDEST)), ("cutoff", dict(sorting=CUTOFF_NEWEST, cutoff=15)), ("First", first)):
+        history("good, " + what, settings=settings)
+        history("good with a graph file, hide c, " + what, hidden="c", settings=settings, graph="abcd")
+    history("no tips", tips="")
+    history("faults that nothing reaches", tips="c", gone="b", bodies=dict(x=b""))
+    history("256 parents", bodies=dict(a=body(names("b" * 256), 40)))
+    # 13
+    history("a commit unreadable deep down", bodies=dict(d=b"tree"), refused=13)
+    history("a commit without a committer line", bodies=dict(d=body([], 10, committer=b"")), refused=13)
+    history("257 parents", bodies=dict(a=body(names("b" * 257), 40)), refused=13)
+    history("an absent parent", gone="d", refused=13)
+    history("an absent parent that the graph file has", gone="d", graph="abcd", refused=13)
+    history("an absent tip, breadth", tips="ax", refused=13)
+    history("an absent second parent under First", links=dict(a="bx", b="c", c="d"), settings=first, refused=13)
+    history("an absent hidden tip, no tips", tips="", hidden="x", refused=13)
+    history("an absent parent below the cutoff", gone="d", settings=dict(sorting=CUTOFF_NEWEST, cutoff=30), refused=13)
+    history("an absent excluded id that nothing reaches", barred="x")
+    history("an absent parent that is excluded", gone="d", barred="d", refused=13)
+    apart = dict(seconds=dict(a=40, b=30, u=35, v=25), links=dict(a="b", u="v"))
+    history("an excluded tip whose reach is bad", tips="au", barred="u", gone="v", refused=13, **apart)
+    history("a hidden tip whose reach is bad", hidden="u", gone="v", refused=13, **apart)
+    history("a tip that the cutoff turns away, whose reach is bad", tips="au", gone="v", settings=dict(sorting=CUTOFF_NEWEST, cutoff=36), refused=13, **apart)
+    # 14
+    history("a stale graph file that agrees", graph="cd")
+    history("a graph file that agrees, of other commits too", tips="b", graph="abcd")
+    history("a graph file with another parent", graph="abcd", rows=dict(b=("d", None, None)), refused=14)
+    history("a graph file with a parent more", graph="abcd", rows=dict(d=("c", None, None)), refused=14)
+    history("a graph file with a parent less", graph="abcd", rows=dict(c=("", None, None)), refused=14)
+    merge = dict(links=dict(a="bc", b="d", c="d"))
+    history("a merge in a graph file", graph="abcd", **merge)
+    history("a graph file with the parents in another order", graph="abcd", rows=dict(a=("cb", None, None)), refused=14, **merge)
+    wide = dict(seconds=dict(a=40, b=30, c=20, d=10, e=5), links=dict(a="bcde"))
+    history("four parents in a graph file", graph="abcde", **wide)
+    history("four parents, the last two exchanged", graph="abcde", rows=dict(a=("bced", None, None)), refused=14, **wide)
+    history("a graph file with other seconds", graph="abcd", rows=dict(c=(None, None, 21)), refused=14)
+    history("a graph file with seconds of 33 bits more", graph="abcd", rows=dict(d=(None, None, 10 + 2 ** 32)), refused=14)
+    history("seconds below 0, which no row holds", seconds=dict(a=40, b=30, c=20, d=-10), graph="abcd", refused=14)
+    history("a corrupt list", graph="abcd", rows=dict(d=((9, NONE), None, None)), refused=14)
+    history("a corrupt list of a commit that is not reached", tips="c", graph="abcd", rows=dict(a=((9, NONE), None, None)))
+    history("a hidden tip at odds with its row", tips="c", hidden="a", graph="abcd", rows=dict(a=(None, None, 41)), refused=14)
+    # 15
+    history("a pair equal along a link", seconds=dict(a=40, b=30, c=10, d=10), refused=15)
+    history("a pair equal along a link, with generations", seconds=dict(a=40, b=30, c=10, d=10), graph="abcd")
+    history("a pair equal along a link, of equal generations", seconds=dict(a=40, b=30, c=10, d=10), graph="abcd", rows=dict(c=(None, 1, None)), refused=15)
+    history("equal generations, and the clock falls", graph="abcd", rows=dict(c=(None, 1, None)))
+    rising = dict(seconds=dict(a=40, b=30, c=10, d=20))
+    history("a clock that falls the wrong way", refused=15, **rising)
+    history("a clock that falls the wrong way, with generations", graph="abcd", **rising)
+    history("a clock that falls the wrong way, above a stale graph file", graph="d", **rising)
+    history("a clock that falls the wrong way, between commits without a row", seconds=dict(a=30, b=40, c=20, d=10), graph="cd", refused=15)
+    history("generations never computed, and the clock falls", graph="abcd", levels=dict(a=0, b=0, c=0, d=0))
+    history("generations never computed, and it does not", graph="abcd", levels=dict(a=0, b=0, c=0, d=0), refused=15, **rising)
+    history("a generation 0 in one row, and the clock does not fall", graph="abcd", levels=dict(a=0), refused=15, **rising)
+    history("a generation 0 in one row that is not reached", tips="b", graph="abcd", levels=dict(a=0), refused=15, **rising)
+    history("generations that rise", graph="abcd", levels=dict(a=4, b=1, c=2, d=1), refused=15)
+    history("a cycle", links=dict(a="b", b="c", c="a"), refused=15)
+    history("a cycle that a hidden tip reaches", tips="d", hidden="a", links=dict(a="b", b="c", c="a"), refused=15)
+    history("a commit that names itself", links=dict(a="b", b="c", c="d", d="d"), refused=15)
+    history("an excluded tip whose pair does not fall", tips="au", barred="u", refused=15, seconds=dict(a=40, b=30, u=35, v=35), links=dict(a="b", u="v"))
+    # the order
+    odds = dict(graph="abcd", rows=dict(b=(None, None, 31)))
+    history("13 before 14", gone="d", refused=13, **odds)
+    history("14 before 15", refused=14, levels=dict(a=0), **rising, **odds)
+    history("13 before 15", gone="d", refused=13, seconds=dict(a=30, b=30, c=20, d=10))
+    history("7 before 13", tips="ax", gone="d", settings=by_time, refused=7)
+    history("8 before 13", tips="ax", gone="d", bodies=dict(x=b""), settings=by_time, refused=8)
+    for k, what in enumerate(BUFFERS):
+        chain = History(**CHAIN, gone="d")
+        sizes = sizes_for(len(chain.pair.store) // 48 + 1)
+        sizes[k] -= 1
+        chain.run("tested: 1 before 13, %s one short" % what, "a", lent=sizes, tested=True)
+        assert lines(runs[-1])[1].startswith("refused 1 "), what
+
+
 def git_files(example):
     """A history and a commit-graph file that git made, with real ids."""
     with open(os.path.join(example, "store"), "rb") as f, open(os.path.join(example, "graph"), "rb") as g:
@@ -606,6 +689,10 @@ def git_files(example):
     case("git's files, First", both, tip, first=True)
     case("git's files, hide a merge, oldest", both, tip, merge, sorting=OLDEST)
     case("git's store, hide a side, newest", alone, tip + merge, side, sorting=NEWEST)
+    case("git's files, tested", both, tip, tested=True)
+    case("git's files, tested, hide a merge, newest", both, tip, merge, sorting=NEWEST, tested=True)
+    case("git's store, tested: its clocks do not all fall", alone, tip, tested=True)
+    case("git's store, tested, from the older half", alone, by_time[5:6], sorting=NEWEST, tested=True)
     case("git's files, bar the root, cutoff", both, merge, barred=root, sorting=CUTOFF_OLDEST, cutoff=both.files.header(side[0]).seconds)
 
 
@@ -629,7 +716,7 @@ def sample(_):
 
 FAMILIES = [("document 01's runs", documents), ("orders, equal seconds, merges", orders), ("tips and excluded ids", tips), ("cutoffs and seconds", cutoffs),
             ("First", first), ("painting", painting), ("graph files", graphs), ("corrupt parent lists", corrupt), ("headers", headers), ("zones", zones),
-            ("refused openings", refusals), ("files that git wrote", git_files), ("a sample of the comparison's", sample)]
+            ("refused openings", refusals), ("tested openings", tested), ("files that git wrote", git_files), ("a sample of the comparison's", sample)]
 
 
 def main(out, example):
@@ -640,8 +727,8 @@ def main(out, example):
     for what, _ in FAMILIES:
         mine = [t for run, t in zip(runs, told) if run.family == what]
         print("%-32s %4d cases %5d lines" % (what, len(mine), sum(map(len, mine))))
-    for kind in slips.ALL + slips.ZONES:
-        apart = sum(lines(run, kind) != t for run, t in zip(runs, told))
+    for kind in slips.ALL + slips.ZONES + slips.TESTED:
+        apart = sum(lines(run, kind) != t for run, t in zip(runs, told) if run.tested == (kind in slips.TESTED))
         print("a walk that %s: %d" % (kind.__doc__, apart))
         assert apart, kind
     data, text = b"".join(run.bytes() for run in runs), "".join(line + "\n" for t in told for line in t)

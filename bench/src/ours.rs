@@ -6,6 +6,7 @@ use crate::{
 };
 use std::time::Duration;
 
+#[allow(dead_code)] // the bench calls two of the functions
 #[path = "../../bindings/rust/src/ffi.rs"]
 mod ffi;
 
@@ -83,7 +84,7 @@ impl Memory {
     }
 
     fn open(&mut self, input: &Input) {
-        let result = ffi::open(&input.rest, input.tips, &mut self.lent, &mut [0; ffi::OPEN_NUMBERS]);
+        let result = ffi::open(ffi::Opening::Plain, &input.rest, input.tips, &mut self.lent, &mut [0; ffi::OPEN_NUMBERS]);
         assert!(result == 0, "an opening is refused: {result}");
     }
 

@@ -86,8 +86,10 @@ extern "C" {
 #define LINENHATCH_TOO_MANY_PARENTS 11u  /* over 256 parents */
 #define LINENHATCH_CLOSED 12u            /* the record is closed, or the memory was touched */
 
-/* of where two series part */
-#define LINENHATCH_UNREADABLE_REACH 13u /* a commit that a tip reaches is not in the store, or cannot be read there */
+/* of a tested opening, and 13 of where two series part too */
+#define LINENHATCH_UNREADABLE_REACH 13u /* a commit that a tip or hidden tip reaches is not in the store, or cannot be read there */
+#define LINENHATCH_GRAPH_AT_ODDS 14u    /* the graph file lists one of them with other parents or another time, or its list is corrupt */
+#define LINENHATCH_PAIR_NOT_FALLING 15u /* the pair of generation and time does not fall from one of them to a parent */
 
 /* of a check of names */
 #define LINENHATCH_FALSE_NAME 16u     /* a commit's id is not the digest of its body */
@@ -114,6 +116,35 @@ size_t linenhatch_places(
  * after a refusal the record is the closed one (zeros), and the numbers are zeros. Where record or numbers is itself too short the result is
  * 101, before all other tests, and nothing at all is altered. */
 uint32_t linenhatch_open(
+    const uint8_t *store, size_t store_len,
+    const uint8_t *graph, size_t graph_len,
+    const uint8_t *tips, size_t tips_len,
+    const uint8_t *hidden, size_t hidden_len,
+    const uint8_t *excluded, size_t excluded_len,
+    uint32_t sorting, uint32_t has_cutoff, int64_t cutoff, uint32_t first,
+    uint8_t *names, size_t names_len,
+    uint8_t *marks, size_t marks_len,
+    uint32_t *generations, size_t generations_len,
+    int64_t *times, size_t times_len,
+    uint32_t *line, size_t line_len,
+    uint8_t *parents, size_t parents_len,
+    uint64_t *record, size_t record_len,
+    uint64_t *numbers, size_t numbers_len);
+
+/* Opens a walk and tests what its promise supposes: 0 where it is accepted, else the number of the first refusal in the order 2 to 6, 1, 7,
+ * 8, 13, 14, 15. What is lent is that of linenhatch_open.
+ *
+ * Tested are all commits that the tips and hidden tips reach, over all parents that the store has: also from tips that are excluded or that
+ * the cutoff turns away, and with first too. 13: one of them is not in the store, or is not readable there (a header line is bad, or it has
+ * over 256 parents). 14: the graph file lists one of them, and has other parents there, or in another order, or another time, or its parent
+ * list is corrupt. 15: the pair of generation and time of one of them is not above that of a parent. The generation is that of the graph
+ * file, and above all others where the file does not list the commit, where there is no file, or where a generation of the file is 0.
+ *
+ * Accepted, it leaves what linenhatch_open leaves, and more holds of the calls that follow, lent as linenhatch_next says: they hand out
+ * exactly the commits to be listed, each once, then the end, and no call is refused. Of an opening refused with 1 to 8 not a byte of names
+ * to parents is altered; with 13 to 15 parents is as it was, and what the others hold is not said. record, numbers and 101 are as of
+ * linenhatch_open. It takes time in proportion to the links that are tested. */
+uint32_t linenhatch_open_tested(
     const uint8_t *store, size_t store_len,
     const uint8_t *graph, size_t graph_len,
     const uint8_t *tips, size_t tips_len,

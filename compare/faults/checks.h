@@ -13,6 +13,7 @@ struct base {
     struct settings settings;
     size_t places;
     uint32_t opening;  /* the result of its opening with all the memory */
+    uint32_t tested;   /* and of its tested opening */
     uint64_t *answers; /* each call's answer, made into one number */
     size_t turns;
 };
@@ -20,6 +21,7 @@ struct base {
 struct walk {
     bool untouched;  /* the memory, the record, the files, the lists and the settings are the walk's own */
     bool foreign;    /* something else was lent to this call alone */
+    bool tested;     /* the opening was a tested one */
     size_t places, turn, handed;
     uint64_t used;   /* commits handed out or refused */
     bool ended;
@@ -62,12 +64,15 @@ static void check_handed(void)
     memcpy(handed_out[walk.handed++], lent[IDENT].at, ID);
 }
 
-/* A call on untouched memory: not 12, the sum, the end by call P + 2 and then again, and where the walk is the base's, its answer. */
+/* A call on untouched memory: not 12, the sum, the end by call P + 2 and then again, no refusal at all after a tested opening, and where the
+ * walk is the base's, its answer. */
 static void check_untouched(uint32_t result)
 {
     const uint64_t *n = words(NUMBERS);
     if (result == CLOSED)
         fail("12 on untouched memory");
+    if (walk.tested && result != 0 && result != END)
+        fail("%" PRIu32 " after a tested opening", result);
     walk.used += result == 0 || (result != END && n[LINENHATCH_STRUCK] < n[LINENHATCH_ADMITTED]);
     if (n[LINENHATCH_ADMITTED] != walk.used + n[LINENHATCH_STRUCK] + n[LINENHATCH_WAITING])
         fail("the numbers do not add up");
@@ -162,15 +167,26 @@ static size_t graph_count(void)
     return 0;
 }
 
+/* Whether a result is of what is reached, which a tested opening alone looks at. */
+static bool of_the_reach(uint32_t result)
+{
+    return result >= LINENHATCH_UNREADABLE_REACH && result <= LINENHATCH_PAIR_NOT_FALLING;
+}
+
 /* Document 01's P, where the graph is none or was found good. */
 static void check_places(uint32_t result)
 {
-    bool good = result == 0 || result == 1 || result == 7 || result == 8;
+    bool good = result == 0 || result == 1 || result == 7 || result == 8 || of_the_reach(result);
     if (input[GRAPH].n && !good)
         return;
     size_t asked = input[TIPS].n / ID + input[HIDDEN].n / ID + input[STORE].n / 48 + graph_count();
     if (places_given != asked)
         fail("%zu places for %zu", places_given, asked);
+}
+
+static uint32_t base_opening(void)
+{
+    return tested ? base->tested : base->opening;
 }
 
 /* The result of an opening where it is known beforehand, else ANY. */
@@ -189,7 +205,7 @@ static uint32_t opening_asked(void)
     if (!referenced || reference)
         return ANY;
     bool of_the_input = base->opening >= 2 && base->opening <= 6;
-    return memory_short() && !of_the_input ? SHORT : base->opening;
+    return memory_short() && !of_the_input ? SHORT : base_opening();
 }
 
 /* Whether a result of an opening can be. */
@@ -205,13 +221,17 @@ static bool opening_can(uint32_t result)
     case 6: return input[GRAPH].n > 0;
     case 7:
     case 8: return timed && !memory_short();
+    case LINENHATCH_UNREADABLE_REACH:
+    case LINENHATCH_PAIR_NOT_FALLING: return tested && !memory_short();
+    case LINENHATCH_GRAPH_AT_ODDS: return tested && !memory_short() && input[GRAPH].n > 0;
     default: return result <= 8;
     }
 }
 
-static void check_refused_opening(void)
+/* After 13 to 15 all of the walk's memory but parents is free. */
+static void check_refused_opening(uint32_t result)
 {
-    for (unsigned k = 0; k < MEMORY; k++)
+    for (unsigned k = of_the_reach(result) ? PARENTS : NAMES; k < MEMORY; k++)
         check_same(k, 0, "by a refused opening");
     check_zeros(RECORD, 8 * LINENHATCH_RECORD, "after a refused opening");
     check_zeros(NUMBERS, 24, "after a refused opening");
@@ -233,7 +253,7 @@ static void check_open(uint32_t result)
     check_around();
     check_same(IDENT, 0, "by an opening");
     check_same(SECONDS, 0, "by an opening");
-    if ((result > 8 && result != NO_ROOM) || (asked != ANY && result != asked))
+    if ((result > 8 && result != NO_ROOM && !of_the_reach(result)) || (asked != ANY && result != asked))
         fail("an opening gives %" PRIu32 " for %" PRIu32, result, asked);
     if (lent[RECORD].count < LINENHATCH_RECORD || lent[NUMBERS].count < 3) {
         for (unsigned k = 0; k < LENT; k++)
@@ -246,7 +266,7 @@ static void check_open(uint32_t result)
     check_same(RECORD, 8 * LINENHATCH_RECORD, "past its words");
     check_same(NUMBERS, 24, "past an opening's");
     if (result)
-        check_refused_opening();
+        check_refused_opening(result);
     else
         check_accepted_opening();
 }
@@ -348,8 +368,8 @@ static void check_next(uint32_t result)
 
 enum { NEXT_RESULTS = 7 };
 static const uint32_t next_result[NEXT_RESULTS] = {0, 9, 10, 11, 12, END, NO_ROOM};
-enum { OPEN_RESULTS = 10 };
-static const uint32_t open_result[OPEN_RESULTS] = {0, 1, 2, 3, 4, 5, 6, 7, 8, NO_ROOM};
+enum { OPEN_RESULTS = 13 };
+static const uint32_t open_result[OPEN_RESULTS] = {0, 1, 2, 3, 4, 5, 6, 7, 8, 13, 14, 15, NO_ROOM};
 static uint64_t opened[64][OPEN_RESULTS], called[64][NEXT_RESULTS], cases[64];
 
 /* The number of places for the inputs that are lent. */
@@ -374,7 +394,7 @@ static uint32_t open_walk(void)
             printf("opening %u: %" PRIu32 ", places %zu\n", call_number, result, places_given);
     }
     take_back();
-    walk = (struct walk){.untouched = result == 0, .places = places_given};
+    walk = (struct walk){.untouched = result == 0, .places = places_given, .tested = tested};
     return result;
 }
 

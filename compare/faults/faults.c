@@ -1,5 +1,5 @@
-/* faults CASES: calls the library with damaged files, lists, memory, records and lengths, and checks after every call what document 01
- * promises there. CASES is a file of base cases (cases.py). Ends with status 0 if nothing failed.
+/* faults CASES: calls the library with damaged files, lists, memory, records and lengths, and checks after every call what documents 01 and
+ * 02 promise there; half of the cases open tested. CASES is a file of base cases (cases.py). Ends with status 0 if nothing failed.
  *
  * Every lent buffer ends, or starts, at a page that may not be touched, and the files and lists stand in pages that may only be read, so
  * that an access outside a buffer and a write to a file are signals. Each case is drawn from the seed and its number alone.
@@ -481,7 +481,7 @@ static void refused_opening(void)
 /* Opens over a base case that can be opened, and goes on with something between the calls. */
 static void disturbed(void (*disturb)(void), size_t more)
 {
-    for (unsigned tries = 0; tries < 20 && base->opening; tries++)
+    for (unsigned tries = 0; tries < 20 && base_opening(); tries++)
         choose_base();
     load_base();
     uint32_t result = begin(more);
@@ -664,8 +664,16 @@ static void start_case(uint64_t number)
     call_number = 0;
     rng = seed * 0xD1342543DE82EF95u + number;
     draw();
-    referenced = reference = false;
+    referenced = reference = tested = false;
     walk = (struct walk){0};
+}
+
+/* What a plain opening refuses a tested one does, with the same number. */
+static void check_base(void)
+{
+    bool same = base->opening == base->tested || (base->opening == 0 && of_the_reach(base->tested));
+    if (!same)
+        fail("a tested opening gives %" PRIu32 " where a plain one gives %" PRIu32, base->tested, base->opening);
 }
 
 /* Case number k, below the number of bases, is base k as it is; its answers are taken down. */
@@ -678,10 +686,14 @@ static void take_down(size_t k)
     cases[kind]++;
     load_base();
     reference = true;
+    tested = true;
+    base->tested = begin(0);
+    tested = false;
     base->opening = begin(0);
     base->places = places_given;
     if (base->opening == ANY)
         base->opening = SHORT;
+    check_base();
     go_on(NULL, MOST_TURNS);
     base->turns = base->opening ? 0 : walk.turn;
     base->answers = fresh(base->turns * sizeof *base->answers);
@@ -694,6 +706,7 @@ static void run_case(uint64_t number)
     for (unsigned j = 0; j < KINDS; j++)
         all += kinds[j].weight;
     start_case(number);
+    tested = chance(50);
     choose_base();
     for (uint64_t x = below(all); x >= kinds[k].weight; k++)
         x -= kinds[k].weight;
@@ -704,9 +717,10 @@ static void run_case(uint64_t number)
 
 /* Walks over memory that nobody has written to. What the library gives is compared with the base's own walk, so that valgrind reports
  * an answer, or a step towards one, that depends on such memory. */
-static void blank_walk(size_t k)
+static void blank_walk(size_t k, bool by_test)
 {
     start_case(k);
+    tested = by_test;
     base_number = k;
     base = &bases[k];
     load_base();
@@ -719,9 +733,9 @@ static void blank_walk(size_t k)
     if (!guarded(call_open, &result))
         return;
     made++;
-    if (result != base->opening || words(RECORD)[0] != (result == 0))
+    if (result != base_opening() || words(RECORD)[0] != (result == 0))
         fail("an opening over blank memory gives %" PRIu32, result);
-    for (size_t turn = 0; turn < base->turns; turn++) {
+    for (size_t turn = 0; turn < (result ? 0 : base->turns); turn++) {
         if (!guarded(call_next, &result))
             return;
         made++;
@@ -746,7 +760,7 @@ static void print_row(const char *name, uint64_t count, const uint64_t *o, const
 static void print_table(void)
 {
     uint64_t o[OPEN_RESULTS] = {0}, c[NEXT_RESULTS] = {0}, count = 0, openings = 0, calls = 0;
-    printf("%-33s%8s | openings by result%52s | next calls by result\n%-33s%8s |", "", "", "", "", "cases");
+    printf("%-33s%8s | openings by result%73s | next calls by result\n%-33s%8s |", "", "", "", "", "cases");
     for (unsigned k = 0; k < OPEN_RESULTS; k++)
         printf("%7" PRIu32, open_result[k]);
     printf(" |");
@@ -822,8 +836,10 @@ static void run(void)
             run_case(single_case);
     } else if (blank) {
         made = 0;
-        for (size_t k = 0; k < base_count && made < calls; k++)
-            blank_walk(k);
+        for (size_t k = 0; k < base_count && made < calls; k++) {
+            blank_walk(k, false);
+            blank_walk(k, true);
+        }
         printf("%" PRIu64 " openings and next calls over blank memory\n", made);
     } else {
         for (uint64_t k = base_count; made < calls; k++)

@@ -84,6 +84,7 @@ static struct lent lent[LENT] = {
     [SECONDS] = {.name = "seconds", .unit = 8, .room = PAGE}};
 
 static struct settings settings;
+static bool tested; /* walks are opened by linenhatch_open_tested */
 static struct area huge; /* for files of over 16 MiB */
 static bool plain;
 
@@ -384,7 +385,7 @@ static uint32_t call_open(void)
 {
     const struct input *i = input;
     const struct lent *b = lent;
-    return spoiled_open(linenhatch_open(
+    return spoiled_open((tested ? linenhatch_open_tested : linenhatch_open)(
         i[STORE].at, i[STORE].n, i[GRAPH].at, i[GRAPH].n, i[TIPS].at, i[TIPS].n, i[HIDDEN].at, i[HIDDEN].n, i[EXCLUDED].at, i[EXCLUDED].n,
         settings.sorting, settings.limited, settings.cutoff, settings.first,
         b[NAMES].at, b[NAMES].count, b[MARKS].at, b[MARKS].count, (uint32_t *)b[GENERATIONS].at, b[GENERATIONS].count,

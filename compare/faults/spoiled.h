@@ -1,11 +1,28 @@
 /* The library spoiled in one way (--fault N), to see that faults.c reports it. A part of faults.c, built with -DFAULTY. */
 
 static unsigned fault;
+static uint32_t call_open(void);
 
 static bool short_of_room(void)
 {
     return lent[RECORD].count < LINENHATCH_RECORD || lent[IDENT].count < ID || lent[NUMBERS].count < LINENHATCH_NUMBERS ||
            lent[SECONDS].count < LINENHATCH_SECONDS;
+}
+
+/* Faults of a tested opening. */
+static uint32_t spoil_test(uint32_t result)
+{
+    bool reach = result >= LINENHATCH_UNREADABLE_REACH && result <= LINENHATCH_PAIR_NOT_FALLING;
+    if (fault == 29 && reach) /* parents is used to work in */
+        lent[PARENTS].at[0] ^= 1;
+    if (fault == 30 && reach) { /* nothing is tested */
+        tested = false;
+        result = call_open();
+        tested = true;
+    }
+    if (fault == 31 && result == LINENHATCH_TIP_NOT_FOUND && tested) /* a lost tip is taken for an unreadable reach */
+        return LINENHATCH_UNREADABLE_REACH;
+    return result;
 }
 
 static uint32_t spoiled_open(uint32_t result)
@@ -24,7 +41,7 @@ static uint32_t spoiled_open(uint32_t result)
         return SHORT;
     if (fault == 5) /* a byte before the tips is read */
         (void)((volatile uint8_t *)input[TIPS].at)[-1];
-    return result;
+    return room ? spoil_test(result) : result;
 }
 
 /* Faults of memory. */

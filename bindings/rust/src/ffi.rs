@@ -97,6 +97,39 @@ unsafe extern "C" {
         numbers_len: usize,
     ) -> u32;
 
+    fn linenhatch_open_tested(
+        store: *const u8,
+        store_len: usize,
+        graph: *const u8,
+        graph_len: usize,
+        tips: *const u8,
+        tips_len: usize,
+        hidden: *const u8,
+        hidden_len: usize,
+        excluded: *const u8,
+        excluded_len: usize,
+        sorting: u32,
+        has_cutoff: u32,
+        cutoff: i64,
+        first: u32,
+        names: *mut u8,
+        names_len: usize,
+        marks: *mut u8,
+        marks_len: usize,
+        generations: *mut u32,
+        generations_len: usize,
+        times: *mut i64,
+        times_len: usize,
+        line: *mut u32,
+        line_len: usize,
+        parents: *mut u8,
+        parents_len: usize,
+        record: *mut u64,
+        record_len: usize,
+        numbers: *mut u64,
+        numbers_len: usize,
+    ) -> u32;
+
     fn linenhatch_next(
         record: *mut u64,
         record_len: usize,
@@ -185,14 +218,25 @@ pub(crate) fn places(input: &Input<'_>, tips: &[u8]) -> usize {
     }
 }
 
+/// How a walk is opened.
+#[derive(Clone, Copy, Debug)]
+pub(crate) enum Opening {
+    Plain,
+    Tested,
+}
+
 /// Opens a walk: 0, or the number of the refusal. The record and the numbers are set down in every case: the arrays have room for them, so the
 /// result is never 101.
-pub(crate) fn open(input: &Input<'_>, tips: &[u8], memory: &mut Memory, numbers: &mut [u64; OPEN_NUMBERS]) -> u32 {
+pub(crate) fn open(how: Opening, input: &Input<'_>, tips: &[u8], memory: &mut Memory, numbers: &mut [u64; OPEN_NUMBERS]) -> u32 {
+    let call = match how {
+        Opening::Plain => linenhatch_open,
+        Opening::Tested => linenhatch_open_tested,
+    };
     // SAFETY: each pointer and length is a slice's, a vector's or an array's, the length in its own elements: never null (also of no
     // elements), aligned for its type, and valid while the call lasts. The const ones are only read. Each mutable one is all of one field of
     // `memory` or `numbers`, borrowed alone through `&mut`, so it overlaps neither another nor anything that is read.
     unsafe {
-        linenhatch_open(
+        call(
             input.store.as_ptr(),
             input.store.len(),
             input.graph.as_ptr(),
@@ -345,13 +389,14 @@ mod tests {
 
     impl Lent {
         #[rustfmt::skip]
-        fn open(&mut self, room: Room) -> u32 {
+        fn open(&mut self, how: Opening, room: Room) -> u32 {
+            let call = match how { Opening::Plain => linenhatch_open, Opening::Tested => linenhatch_open_tested };
             let (list, store, parents) = ([0u8; 0], STORE.as_ptr(), &mut self.parents);
             let (mut names, mut marks, mut generations, mut times, mut line) = ([0u8; 0], [0u8; 0], [0u32; 0], [0i64; 0], [0u32; 0]);
             assert!(room.record <= RECORD && room.numbers <= CALL_NUMBERS);
             // SAFETY: each pointer is an array's of its own, and no length is over the array's.
             unsafe {
-                linenhatch_open(
+                call(
                     store, STORE.len(), list.as_ptr(), 0, list.as_ptr(), 0, list.as_ptr(), 0, list.as_ptr(), 0, 0, 0, 0, 0, names.as_mut_ptr(), 0,
                     marks.as_mut_ptr(), 0, generations.as_mut_ptr(), 0, times.as_mut_ptr(), 0, line.as_mut_ptr(), 0, parents.as_mut_ptr(), parents.len(),
                     self.record.as_mut_ptr(), room.record, self.numbers.as_mut_ptr(), room.numbers)
@@ -376,12 +421,14 @@ mod tests {
 
     #[test]
     fn an_opening_without_room() {
-        for room in [Room { record: RECORD - 1, ..ALL }, Room { numbers: OPEN_NUMBERS - 1, ..ALL }] {
-            let mut lent = SEVENS;
-            assert_eq!(lent.open(room), NoRoom::NUMBER);
-            assert_eq!(lent, SEVENS);
+        for how in [Opening::Plain, Opening::Tested] {
+            for room in [Room { record: RECORD - 1, ..ALL }, Room { numbers: OPEN_NUMBERS - 1, ..ALL }] {
+                let mut lent = SEVENS;
+                assert_eq!(lent.open(how, room), NoRoom::NUMBER);
+                assert_eq!(lent, SEVENS);
+            }
+            assert_eq!(SEVENS.clone().open(how, Room { numbers: OPEN_NUMBERS, ..ALL }), 0);
         }
-        assert_eq!(SEVENS.clone().open(Room { numbers: OPEN_NUMBERS, ..ALL }), 0);
     }
 
     /// Before all else: also of a store that would be refused.
@@ -431,6 +478,8 @@ mod tests {
             assert_eq!(lent, SEVENS);
         }
         let mut lent = SEVENS;
-        assert_eq!((lent.next(ALL), lent.open(ALL), lent.next(ALL)), (12, 0, 100));
+        assert_eq!((lent.next(ALL), lent.open(Opening::Plain, ALL), lent.next(ALL)), (12, 0, 100));
+        let mut lent = SEVENS;
+        assert_eq!((lent.next(ALL), lent.open(Opening::Tested, ALL), lent.next(ALL)), (12, 0, 100));
     }
 }

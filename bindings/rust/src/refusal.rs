@@ -3,7 +3,8 @@
 use std::error::Error;
 use std::fmt;
 
-/// Why a walk was not opened (1 to 8), why a call hands out no commit (9 to 12), or what a check of names found (2, 4 to 6, 16, 17).
+/// Why a walk was not opened (1 to 8, and tested 13 to 15), why a call hands out no commit (9 to 12), or what a check of names found (2, 4 to 6,
+/// 16, 17).
 ///
 /// [`number`](Refusal::number) and [`name`](Refusal::name) are the same in C, in Rust and in what the tool prints (`docs/SPECIFICATION.md`, sections
 /// 6 and 9); `Display` is a sentence.
@@ -34,8 +35,14 @@ pub enum Refusal {
     /// 12: the walk was not opened, or its memory was touched. A [`Walk`](crate::Walk) is open and alone has its memory, so it never
     /// meets this.
     Closed,
-    /// 13: a commit that a tip reaches is not in the store, or cannot be read there. [`merge_base`](crate::merge_base) meets this.
+    /// 13: a commit that the tips or hidden tips reach is not in the store, or cannot be read there.
+    /// [`open_tested`](crate::Lister::open_tested) and [`merge_base`](crate::merge_base) meet this.
     UnreadableReach,
+    /// 14: the commit-graph file lists a commit that they reach with other parents or another time than the store, or its list is corrupt.
+    /// [`open_tested`](crate::Lister::open_tested) alone meets this, and the next.
+    GraphAtOdds,
+    /// 15: from a commit that they reach to a parent the pair of generation and committer time does not fall.
+    PairNotFalling,
     /// 16: a commit of the store is not under the digest of its body. [`check_names`](crate::check_names) alone meets this.
     FalseName,
     /// 17: the commit-graph file does not end in the digest of the rest. [`check_names`](crate::check_names) alone meets this.
@@ -47,7 +54,7 @@ pub enum Refusal {
 
 impl Refusal {
     /// All of them, in the order of their numbers.
-    pub const ALL: [Refusal; 16] = [
+    pub const ALL: [Refusal; 18] = [
         Refusal::BufferTooSmall,
         Refusal::InputTooLarge,
         Refusal::PartialId,
@@ -61,6 +68,8 @@ impl Refusal {
         Refusal::TooManyParents,
         Refusal::Closed,
         Refusal::UnreadableReach,
+        Refusal::GraphAtOdds,
+        Refusal::PairNotFalling,
         Refusal::FalseName,
         Refusal::FalseChecksum,
         Refusal::TangledReach,
@@ -71,7 +80,7 @@ impl Refusal {
         Refusal::ALL.into_iter().find(|refusal| refusal.number() == number)
     }
 
-    /// Its number: 1 to 13, 16, 17, 23.
+    /// Its number: 1 to 17, 23.
     pub fn number(self) -> u32 {
         match self {
             Refusal::BufferTooSmall => 1,
@@ -87,6 +96,8 @@ impl Refusal {
             Refusal::TooManyParents => 11,
             Refusal::Closed => 12,
             Refusal::UnreadableReach => 13,
+            Refusal::GraphAtOdds => 14,
+            Refusal::PairNotFalling => 15,
             Refusal::FalseName => 16,
             Refusal::FalseChecksum => 17,
             Refusal::TangledReach => 23,
@@ -109,6 +120,8 @@ impl Refusal {
             Refusal::TooManyParents => "too many parents",
             Refusal::Closed => "closed",
             Refusal::UnreadableReach => "unreadable reach",
+            Refusal::GraphAtOdds => "graph at odds",
+            Refusal::PairNotFalling => "pair not falling",
             Refusal::FalseName => "false name",
             Refusal::FalseChecksum => "false checksum",
             Refusal::TangledReach => "tangled reach",
@@ -133,6 +146,12 @@ impl Refusal {
             Refusal::Closed => "the walk is closed, or its memory was touched between calls",
             Refusal::UnreadableReach => {
                 "a commit that the tips or hidden tips reach is not in the commit store, or cannot be read there: complete or mend the history"
+            }
+            Refusal::GraphAtOdds => {
+                "the commit-graph file says other things of a commit than the commit itself, or its parent list is corrupt: write the file anew, or lend none"
+            }
+            Refusal::PairNotFalling => {
+                "a commit is not newer than one of its parents: lend a commit-graph file with generations that lists all commits, or open untested"
             }
             Refusal::FalseName => "a commit is not under the digest of its body",
             Refusal::FalseChecksum => "the commit-graph file does not end in the digest of the rest",
@@ -191,6 +210,8 @@ mod tests {
             (11, "too many parents"),
             (12, "closed"),
             (13, "unreadable reach"),
+            (14, "graph at odds"),
+            (15, "pair not falling"),
             (16, "false name"),
             (17, "false checksum"),
             (23, "tangled reach"),
@@ -206,7 +227,7 @@ mod tests {
 
     #[test]
     fn no_other_number() {
-        for number in [0, 14, 15, 18, 22, 24, 100, NoRoom::NUMBER, u32::MAX] {
+        for number in [0, 18, 22, 24, 100, NoRoom::NUMBER, u32::MAX] {
             assert_eq!(Refusal::from_number(number), None);
         }
     }

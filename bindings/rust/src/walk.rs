@@ -3,7 +3,7 @@
 use std::fmt;
 use std::iter::FusedIterator;
 
-use crate::ffi::{self, Answer, Input, Memory};
+use crate::ffi::{self, Answer, Input, Memory, Opening};
 use crate::id::{ObjectId, ID_BYTES};
 use crate::order::Order;
 use crate::refusal::{NoRoom, Refusal};
@@ -11,7 +11,8 @@ use crate::refusal::{NoRoom, Refusal};
 /// The buffer of an answer's parents holds 256 ids.
 const PARENT_BYTES: usize = 256 * ID_BYTES;
 
-/// What a walk goes over: files, lists and settings. Made with [`Lister::new`], set up call by call, opened with [`Lister::open`].
+/// What a walk goes over: files, lists and settings. Made with [`Lister::new`], set up call by call, opened with [`Lister::open`] or, with
+/// its histories tested, [`Lister::open_tested`].
 ///
 /// ```
 /// # fn main() -> Result<(), linenhatch::Refusal> {
@@ -67,7 +68,8 @@ impl<'a> Lister<'a> {
     /// Adds hidden tips: they and all that they reach are left out.
     ///
     /// This holds where the pair of generation and committer time falls from each commit to its parents: always for commits that git's
-    /// commit-graph file has with generations, and for others where clocks do not run backwards. Elsewhere some of what they reach may still be listed.
+    /// commit-graph file has with generations, and for others where clocks do not run backwards. Elsewhere some of what they reach may still be listed,
+    /// and [`open_tested`](Lister::open_tested) refuses.
     pub fn hide(mut self, ids: &[ObjectId]) -> Lister<'a> {
         self.hidden.extend_from_slice(ids);
         self
@@ -101,16 +103,51 @@ impl<'a> Lister<'a> {
     /// Tests files and lists, and opens the walk with memory of its own; or says which of refusals 2 and 4 to 8 comes first, in the order 2,
     /// 4 to 8.
     pub fn open(&self) -> Result<Walk<'a>, Refusal> {
+        self.opened(Opening::Plain)
+    }
+
+    /// Opens the walk as [`open`](Lister::open) does, and tests all commits that tips and hidden tips reach, over all parents (also from tips that
+    /// are excluded or too old, and with [`first_parent`](Lister::first_parent)). After 8 it refuses with 13 where one of them is not in the store
+    /// or cannot be read there, with 14 where the commit-graph file says other things of one than the store does, and with 15 where the pair of
+    /// generation and committer time does not fall from one to a parent; in this order.
+    ///
+    /// If it is accepted the walk hands out exactly the commits to be listed, each once, and meets no refusal: that is a theorem, and nothing
+    /// more is asked of the files. It takes about as long as listing all that is reached.
+    ///
+    /// ```
+    /// # fn main() -> Result<(), Box<dyn std::error::Error>> {
+    /// use linenhatch::{store_from_commits, Lister, ObjectId, Refusal};
+    ///
+    /// let (old, new) = (ObjectId([0x11; 20]), ObjectId([0x22; 20]));
+    /// let zeros = "0".repeat(40);
+    /// let body = |parent: &str, second| format!("tree {zeros}\n{parent}author A <a> 5 +0000\ncommitter A <a> {second} +0000\n\n");
+    /// let child = |second| body(&format!("parent {old}\n"), second);
+    ///
+    /// let store = store_from_commits([(old, body("", 5)), (new, child(6))])?;
+    /// let listed: Result<Vec<_>, _> = Lister::new(&store).tips(&[new]).open_tested()?.map(|commit| commit.map(|commit| commit.id)).collect();
+    /// assert_eq!(listed?, [new, old]);
+    ///
+    /// // A clock that ran backwards: the child is no newer than its parent.
+    /// let store = store_from_commits([(old, body("", 5)), (new, child(5))])?;
+    /// assert_eq!(Lister::new(&store).tips(&[new]).open_tested().err(), Some(Refusal::PairNotFalling));
+    /// # Ok(())
+    /// # }
+    /// ```
+    pub fn open_tested(&self) -> Result<Walk<'a>, Refusal> {
+        self.opened(Opening::Tested)
+    }
+
+    fn opened(&self, how: Opening) -> Result<Walk<'a>, Refusal> {
         let input = self.input();
         let tips = joined(&self.tips);
         // Files and lists are tested before memory, so a first try without memory finds their faults, and memory is made for good files alone:
         // a broken commit-graph file may claim any number of commits.
         let mut memory = Memory::with_places(0);
         let mut numbers = [0; ffi::OPEN_NUMBERS];
-        let mut result = ffi::open(&input, &tips, &mut memory, &mut numbers);
+        let mut result = ffi::open(how, &input, &tips, &mut memory, &mut numbers);
         if result == Refusal::BufferTooSmall.number() {
             memory = Memory::with_places(ffi::places(&input, &tips));
-            result = ffi::open(&input, &tips, &mut memory, &mut numbers);
+            result = ffi::open(how, &input, &tips, &mut memory, &mut numbers);
         }
         if result != 0 {
             return Err(refusal(result));
@@ -178,7 +215,7 @@ impl Memory {
 ///
 /// A call that meets an unreadable commit gives `Err`, with refusal 9, 10 or 11; that commit is used up, and the iterator goes on with the
 /// next. After the first `None` it gives only `None`. If hidden tips were given, the first call finds out what they hide; if a commit cannot
-/// be read there, that call gives `Err` and the next `None`.
+/// be read there, that call gives `Err` and the next `None`. A walk of [`open_tested`](Lister::open_tested) never gives `Err`.
 ///
 /// The walk borrows the files and alone has its lists, settings, memory and record, so every call is lent what the opening was lent, and
 /// memory untouched since: the one thing that the library's promise about a whole list of calls asks of a caller.

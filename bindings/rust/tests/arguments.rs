@@ -36,7 +36,7 @@ fn nothing_given() {
     assert_eq!(args.order, Order::Newest);
     assert_eq!((args.since, args.max_count), (None, None));
     assert!(!args.count && !args.reverse);
-    assert!(args.graph && !args.first_parent && !args.parents && !args.time && !args.zone && !args.progress);
+    assert!(args.graph && !args.untested && !args.first_parent && !args.parents && !args.time && !args.zone && !args.progress);
     assert!(args.hide.is_empty() && args.exclude.is_empty());
     assert_eq!(args.revs, ["HEAD"]);
 }
@@ -44,12 +44,12 @@ fn nothing_given() {
 #[test]
 fn everything_given() {
     let args = list(
-        "-C some/where --order oldest --since -5 --first-parent --hide a --hide=b --exclude c main --no-graph --parents --time --zone --progress v1^0 -- x",
+        "-C some/where --order oldest --since -5 --first-parent --hide a --hide=b --exclude c main --no-graph --untested --parents --time --zone --progress v1^0 -- x",
     );
     assert_eq!(args.dir, Path::new("./some/where"));
     assert_eq!(args.order, Order::Oldest);
     assert_eq!(args.since, Some(-5));
-    assert!(!args.graph && args.first_parent && args.parents && args.time && args.zone && args.progress);
+    assert!(!args.graph && args.untested && args.first_parent && args.parents && args.time && args.zone && args.progress);
     assert_eq!(args.hide, ["a", "b"]);
     assert_eq!(args.exclude, ["c"]);
     assert_eq!(args.revs, ["main", "v1^0", "x"]);
@@ -119,6 +119,7 @@ fn help_and_version() {
         "--hide",
         "--exclude",
         "--no-graph",
+        "--untested",
         "--parents",
         "--time",
         "--zone",
@@ -137,6 +138,7 @@ fn wrong_words() {
     assert!(refused("--all").contains("--all"));
     assert!(refused("-x").contains("-x"));
     assert!(refused("--parents=yes").contains("--parents=yes"));
+    assert!(refused("--untested=no").contains("--untested=no"));
     assert!(refused("--hide").contains("--hide needs"));
     assert!(refused("--hide -x").contains("-x"));
     assert!(refused("-- -x").contains("-x"));

@@ -49,6 +49,7 @@ fn the_same_in_both_languages() {
     for (name, parameters) in [
         ("linenhatch_places", 8),
         ("linenhatch_open", 30),
+        ("linenhatch_open_tested", 30),
         ("linenhatch_next", 32),
         ("linenhatch_check_names", 6),
         ("linenhatch_merge_base", 22),
@@ -57,6 +58,7 @@ fn the_same_in_both_languages() {
         assert_eq!(rust.0.len(), parameters, "{name}");
         assert_eq!(rust, in_c(name), "{name}");
     }
+    assert_eq!(in_rust("linenhatch_open_tested"), in_rust("linenhatch_open"));
 }
 
 fn defined(name: &str) -> u32 {

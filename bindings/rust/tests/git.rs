@@ -351,12 +351,46 @@ mod tool {
         let m = repository.commit(1003, &[&s]);
         let h = repository.commit(1009, &[&m]);
         let a = repository.commit(1010, &[&c, &m]);
-        assert_eq!(repository.list(&format!("{a} --hide {h}")), [a.clone(), c]);
+        let (list, said) = repository.fails(&format!("{a} --hide {h}"));
+        assert!(list.is_empty());
+        assert!(said.contains("(refusal 15, pair not falling)") && said.contains("git commit-graph write --reachable"), "{said}");
+        assert!(said.contains("--untested"), "{said}");
+        assert_eq!(repository.list(&format!("--untested {a} --hide {h}")), [a.clone(), c]);
         repository.point("a", &a);
         repository.point("h", &h);
         repository.git("commit-graph write --reachable");
         assert_eq!(repository.list("a --hide h"), [a]);
         assert_eq!(repository.list("a --hide h"), repository.git("rev-list a ^h"));
+        assert_eq!(repository.list("--untested a --hide h"), repository.git("rev-list a ^h"));
+    }
+
+    /// A commit-graph file that has another time of one commit than the commit itself.
+    #[test]
+    fn a_graph_file_at_odds() {
+        if !has_git() {
+            return;
+        }
+        let repository = history("odds");
+        let right = repository.git("rev-list main");
+        repository.git("commit-graph write --reachable");
+        assert_eq!(repository.list("main"), right);
+        let file = repository.dir.join(".git/objects/info/commit-graph");
+        let mut bytes = fs::read(&file).unwrap();
+        let row = bytes[8..].chunks(12).find(|row| row[..4] == b"CDAT"[..]).unwrap();
+        let rows = u64::from_be_bytes(row[4..].try_into().unwrap()) as usize;
+        bytes[rows + 35] ^= 1;
+        fs::remove_file(&file).unwrap();
+        fs::write(&file, &bytes).unwrap();
+        let all = repository.git("for-each-ref --format=%(refname:short)").join(" ");
+        let (list, said) = repository.fails(&all);
+        assert!(list.is_empty());
+        assert!(said.contains("(refusal 14, graph at odds)") && said.contains("git commit-graph write --reachable"), "{said}");
+        assert!(said.contains("--no-graph"), "{said}");
+        assert_eq!(repository.list("--no-graph main"), right);
+        assert_eq!(set(&repository.list("--untested --order breadth main")), set(&right));
+        fs::remove_file(&file).unwrap();
+        repository.git("commit-graph write --reachable");
+        assert_eq!(repository.list("main"), right);
     }
 
     #[test]
@@ -372,9 +406,12 @@ mod tool {
         assert_eq!(repository.list("--order newest --parents wide"), repository.git("rev-list --parents wide"));
         repository.git("commit-graph write --reachable");
         assert_eq!(repository.list("--order newest --parents wide"), repository.git("rev-list --parents wide"));
-        let (list, said) = repository.fails("--no-graph --order newest wider");
-        assert_eq!(set(&list), roots[..256].iter().map(|id| id.to_string()).collect::<Vec<_>>().iter().collect());
         let wider = repository.git("rev-parse wider").remove(0);
+        let (list, said) = repository.fails("wider");
+        assert!(list.is_empty());
+        assert!(said.contains("refusal 13") && said.contains(&format!("with more than 256 parents: 1 commit ({wider})\n")), "{said}");
+        let (list, said) = repository.fails("--untested --no-graph --order newest wider");
+        assert_eq!(set(&list), roots[..256].iter().map(|id| id.to_string()).collect::<Vec<_>>().iter().collect());
         assert!(said.contains(&format!("a commit has more than 256 parents (refusal 11, too many parents): {wider}\n")), "{said}");
         assert!(said.contains("not whole: 1 refusal\n"), "{said}");
     }
@@ -387,24 +424,40 @@ mod tool {
         let repository = history("whole");
         let shallow = Repository { dir: folder("shallow") };
         repository.git(&format!("clone -q --depth 3 file://{} {}", repository.dir.display(), shallow.dir.display()));
-        let (list, said) = shallow.fails("main");
+        for words in ["main", "-n 2 main", "main --hide main~2"] {
+            let (list, said) = shallow.fails(words);
+            assert!(list.is_empty());
+            assert!(
+                said.contains("this is a shallow clone, and nothing is listed") && said.contains("(refusal 13, unreadable reach)"),
+                "{said}"
+            );
+            assert!(
+                said.contains("not there: 1 commit\n") && said.contains("git fetch --unshallow") && said.contains("--untested"),
+                "{said}"
+            );
+        }
+        let (list, said) = shallow.fails("--untested main");
         assert_eq!(list, shallow.git("rev-list main"));
         assert_eq!(said.lines().count(), 1, "{said}");
         assert!(said.contains("this is a shallow clone, and the list is not whole: 1 commit past its boundary"), "{said}");
         assert!(said.contains("(refusal 9, commit not found)") && said.contains("git fetch --unshallow"), "{said}");
-        let (list, said) = shallow.fails("main --hide main~2");
+        let (list, said) = shallow.fails("--untested main --hide main~2");
         assert!(list.is_empty());
         assert_eq!(said.lines().count(), 1, "{said}");
         assert!(said.contains("this is a shallow clone, and nothing is listed"), "{said}");
         // What is asked for comes before the boundary: the list is right, and no refusal was met.
-        assert_eq!(lines(&shallow.tool("-n 2 main").stdout), shallow.git("rev-list -n 2 main"));
-        assert_eq!(shallow.tool("-n 2 main").status.code(), Some(0));
+        assert_eq!(lines(&shallow.tool("--untested -n 2 main").stdout), shallow.git("rev-list -n 2 main"));
+        assert_eq!(shallow.tool("--untested -n 2 main").status.code(), Some(0));
 
         // Not shallow, and a commit is lost all the same.
         let lost = Repository::new("lost");
         let gone = "12".repeat(20);
         let tip = lost.commit_with(2000, &[&gone], "");
         let (list, said) = lost.fails(&tip);
+        assert!(list.is_empty());
+        assert!(said.contains("refusal 13") && said.contains(&format!("not in the repository: 1 commit ({gone})\n")), "{said}");
+        assert!(said.contains("git fsck") && said.contains("--untested"), "{said}");
+        let (list, said) = lost.fails(&format!("--untested {tip}"));
         assert_eq!(list, [tip]);
         assert!(said.contains(&format!("(refusal 9, commit not found): {gone}\n")), "{said}");
     }
@@ -432,11 +485,14 @@ mod tool {
         let body = format!("tree {TREE}\nparent {root}\nauthor A <a> 2000 +0000\ncommitter A a 2000\n\n");
         let bad = repository.git_with("hash-object -w -t commit --literally --stdin", body.as_bytes()).remove(0);
         let tip = repository.commit(3000, &[&bad]);
-        assert_eq!(repository.list(&tip), [tip.clone(), bad.clone(), root.clone()]);
+        let (list, said) = repository.fails(&tip);
+        assert!(list.is_empty());
+        assert!(said.contains("refusal 13") && said.contains(&format!("not to be read: 1 commit ({bad})\n")), "{said}");
+        assert_eq!(repository.list(&format!("--untested {tip}")), [tip.clone(), bad.clone(), root.clone()]);
         let (list, said) = repository.fails(&format!("--order newest {bad}"));
         assert!(list.is_empty());
         assert!(said.contains(&format!("(refusal 8, tip unreadable): {bad}\n")) && said.contains("--order breadth"), "{said}");
-        let (list, said) = repository.fails(&format!("{tip} --hide {bad}"));
+        let (list, said) = repository.fails(&format!("--untested {tip} --hide {bad}"));
         assert!(list.is_empty());
         assert!(said.contains("nothing is listed") && said.contains(&format!("(refusal 10, commit unreadable): {bad}\n")), "{said}");
     }

@@ -3,3 +3,4 @@ pub mod Opens
 pub mod Calls
 pub mod Behind
 pub mod Listing
+pub mod Tested

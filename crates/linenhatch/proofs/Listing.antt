@@ -127,7 +127,7 @@ module _ (i : Input) (st : State) (e : openWalk i true ≡ opened st) {f : Files
 
 -- ---- a call after a refused opening
 
-shut-is : {c : LibraryCall} {d : Call} → Behind c d → Shut d → LibraryShut c
+pub shut-is : {c : LibraryCall} {d : Call} → Behind c d → Shut d → LibraryShut c
 unfolding given
 shut-is {c} {d} b s =
     let n = b .put .result ∙ ap (λ (a : Given). outcomeNumber (a .outcome)) (s .is-twelve) in

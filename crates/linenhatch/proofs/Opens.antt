@@ -15,7 +15,8 @@ use Rattle.traverse.specs.declared.Opened.{Opened}
 use Rattle.traverse.specs.Contract.{Lent, OpenSays}
 use Rattle.wire.specs.Words.{recordWords, openWords, roomToOpen, Encodes}
 use Rattle.wire.specs.Numbers.{PutsOpenAnswer}
-use Rattle.linenhatch.specs.Library.{noRoom, Tried, LibraryOpens}
+use Rattle.opentested.specs.Contract.{TestedOpenSays}
+use Rattle.linenhatch.specs.Library.{noRoom, Tried, LibraryOpens, TriedTested, LibraryOpensTested}
 
 long-words : (words numbers : List ℕ) → roomToOpen words numbers ≡ true → recordWords ≤ length words
 unfolding roomToOpen
@@ -41,4 +42,27 @@ pub tried-says : {i j : Input} {m m′ : Lent} {words words′ numbers numbers�
 tried-says {m = m} {m′ = m′} {words = words} {numbers = numbers} {o = o} e r t s w a = record {
   no-room = λ g. clash t (r ∙ g);
   tried = λ g. tried-as (long-words words numbers g) (subst (λ (x : Input). OpenSays x m o m′) e s) w a;
+}
+
+-- ---- a tested opening
+
+pub no-room-tested : (i : Input) (m : Lent) (words numbers : List ℕ) {b : Bool} → b ≡ roomToOpen words numbers → b ≡ false → LibraryOpensTested i m m words words numbers numbers noRoom
+no-room-tested i m words numbers r h = record { no-room = λ g. (refl, refl, refl, refl); tried = λ g. clash (r ∙ g) h }
+
+tried-tested-as : {i : Input} {m m′ : Lent} {words words′ numbers numbers′ : List ℕ} {n : ℕ} {o : Opened} → recordWords ≤ length words → TestedOpenSays i m o m′
+    → Encodes (o .record) words words′ → PutsOpenAnswer (o .answer) numbers numbers′ n → TriedTested i m m′ words words′ numbers numbers′ n
+tried-tested-as {numbers = numbers} {o = o} l s w a = record {
+  out = o;
+  says = s;
+  result = a .result ∙ ap (λ (x : OpenAnswer). openNumber (x .outcome)) (s .answer);
+  numbers-are = a .numbers-are ∙ ap (λ (x : OpenAnswer). setDown numbers 0 (openWords x)) (s .answer);
+  words-are = w .is;
+  record-is = w .back l;
+}
+
+pub tried-tested : {i j : Input} {m m′ : Lent} {words words′ numbers numbers′ : List ℕ} {n : ℕ} {o : Opened} {b : Bool} → i ≡ j → b ≡ roomToOpen words numbers → b ≡ true → TestedOpenSays i m o m′
+    → Encodes (o .record) words words′ → PutsOpenAnswer (o .answer) numbers numbers′ n → LibraryOpensTested j m m′ words words′ numbers numbers′ n
+tried-tested {m = m} {m′ = m′} {words = words} {numbers = numbers} {o = o} e r t s w a = record {
+  no-room = λ g. clash t (r ∙ g);
+  tried = λ g. tried-tested-as (long-words words numbers g) (subst (λ (x : Input). TestedOpenSays x m o m′) e s) w a;
 }

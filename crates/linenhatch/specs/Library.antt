@@ -11,6 +11,8 @@ use Rattle.walk.specs.declared.OpenAnswer.{OpenAnswer}
 use Rattle.walk.specs.Opening.{Input, roomFor, openWalk}
 use Rattle.walk.specs.Given.{openNumber, openGiven}
 use Rattle.fsck.specs.Names.{checkNames, checkedNumber}
+use Rattle.reach.specs.Tested.{testedOpen}
+use Rattle.opentested.specs.Contract.{TestedOpenSays}
 use Rattle.traverse.specs.declared.Opened.{Opened}
 use Rattle.traverse.specs.declared.Out.{Out}
 use Rattle.traverse.specs.Contract.{Files, Lent, lengthsOf, OpenSays, NextSays}
@@ -44,6 +46,26 @@ pub record Tried (i : Input) (m m′ : Lent) (words words′ numbers numbers′ 
 pub record LibraryOpens (i : Input) (m m′ : Lent) (words words′ numbers numbers′ : List ℕ) (n : ℕ) : Type 0 where
   pub no-room : roomToOpen words numbers ≡ false → (n ≡ noRoom) × (m′ ≡ m) × (words′ ≡ words) × (numbers′ ≡ numbers)
   pub tried : roomToOpen words numbers ≡ true → Tried i m m′ words words′ numbers numbers′ n
+
+-- ---- a tested opening
+
+-- the answer of card 1's opening
+abbrev pub testedAnswer : Input → Lent → OpenAnswer
+testedAnswer i m = openGiven (testedOpen i (roomFor i (lengthsOf m)))
+
+-- the same of a tested opening
+pub record TriedTested (i : Input) (m m′ : Lent) (words words′ numbers numbers′ : List ℕ) (n : ℕ) : Type 0 where
+  pub out : Opened
+  pub says : TestedOpenSays i m out m′
+  pub result : n ≡ openNumber (testedAnswer i m .outcome)
+  pub numbers-are : numbers′ ≡ setDown numbers 0 (openWords (testedAnswer i m))
+  pub words-are : words′ ≡ setDown words 0 (wordsOf (out .record))
+  pub record-is : recordOf words′ ≡ out .record
+
+-- linenhatch_open_tested, with its result n
+pub record LibraryOpensTested (i : Input) (m m′ : Lent) (words words′ numbers numbers′ : List ℕ) (n : ℕ) : Type 0 where
+  pub no-room : roomToOpen words numbers ≡ false → (n ≡ noRoom) × (m′ ≡ m) × (words′ ≡ words) × (numbers′ ≡ numbers)
+  pub tried : roomToOpen words numbers ≡ true → TriedTested i m m′ words words′ numbers numbers′ n
 
 -- ---- a next call
 

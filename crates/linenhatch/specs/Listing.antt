@@ -26,7 +26,7 @@ use Rattle.traverse.specs.Contract.{Files, Lent, lengthsOf, closedAnswer}
 use Rattle.traverse.specs.Demand.{Untouched, filesOf, CallIs}
 use Rattle.wire.specs.Words.{recordOf, roomToOpen, roomToCall}
 use Rattle.wire.specs.Numbers.{PutsAnswer}
-use Rattle.linenhatch.specs.Library.{LibraryOpens, LibraryNext}
+use Rattle.linenhatch.specs.Library.{LibraryOpensTested, LibraryOpens, LibraryNext}
 
 -- ---- a list of next calls
 
@@ -158,4 +158,10 @@ pub record LibraryDemand (i : Input) (m m′ : Lent) (words words′ numbers num
       → (cs : List LibraryCall) → LibraryCalls (filesOf i) words′ m′ cs → LibraryAnyCalls i cs
   -- any refused opening, and calls with any files
   pub refused-calls : LibraryOpens i m m′ words words′ numbers numbers′ n → (r : Refusal) → n ≡ numberOf r
+      → (f : Files) (cs : List LibraryCall) → LibraryCalls f words′ m′ cs → (k : ℕ) (c : LibraryCall) → CallIs cs k c → LibraryShut c
+
+-- the same of a tested opening: what is accepted is delivered, with the lending of `LibraryCalls` as its only premise; a refused one is shut
+pub record LibraryTestedDemand (i : Input) (m m′ : Lent) (words words′ numbers numbers′ : List ℕ) (n : ℕ) : Type 0 where
+  pub delivered : LibraryOpensTested i m m′ words words′ numbers numbers′ n → n ≡ openNumber Accepted → LibraryDelivered i words′ m′ n
+  pub refused-calls : LibraryOpensTested i m m′ words words′ numbers numbers′ n → (r : Refusal) → n ≡ numberOf r
       → (f : Files) (cs : List LibraryCall) → LibraryCalls f words′ m′ cs → (k : ℕ) (c : LibraryCall) → CallIs cs k c → LibraryShut c

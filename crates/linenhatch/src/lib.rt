@@ -12,7 +12,7 @@ ghost use Rattle.mergewire.specs.Wire.{LibraryMergeBase};
 ghost use Rattle.traverse.specs.Open.{lentOf};
 ghost use Rattle.traverse.specs.Next.{filesLent};
 ghost use Rattle.wire.specs.Numbers.{settingsOf};
-ghost use Rattle.linenhatch.specs.Library.{LibraryOpens, LibraryNext, LibraryChecks};
+ghost use Rattle.linenhatch.specs.Library.{LibraryOpens, LibraryOpensTested, LibraryNext, LibraryChecks};
 
 // The result where the record's words, or what an answer is set down in, are too short. Document 01 does not name these buffers, so it is
 // none of its numbers: its 1 is said of the walk's own memory, and closes the record.
@@ -56,6 +56,53 @@ pub extern "C" fn linenhatch_open(
     }
     let settings = wire::settings_of(sorting, limited, cutoff, first);
     let o = traverse::open::open(
+        store,
+        graph,
+        tips,
+        hidden,
+        excluded,
+        settings,
+        names,
+        marks,
+        levels,
+        times,
+        line,
+        parents,
+    );
+    wire::encode(o.record, words);
+    wire::put_open_answer(o.answer, numbers)
+}
+
+// Opens a walk whose history is tested (card 1): as `linenhatch_open`, and then 13, 14 or 15 where something that the tips and hidden tips
+// reach cannot be read in the store, or the graph file is at odds with it, or a pair does not fall. What is accepted lists exactly what is
+// to be listed.
+#[no_mangle]
+pub extern "C" fn linenhatch_open_tested(
+    store: &[u8],
+    graph: &[u8],
+    tips: &[u8],
+    hidden: &[u8],
+    excluded: &[u8],
+    sorting: u32,
+    limited: u32,
+    cutoff: i64,
+    first: u32,
+    names: &mut [u8],
+    marks: &mut [u8],
+    levels: &mut [u32],
+    times: &mut [i64],
+    line: &mut [u32],
+    parents: &mut [u8],
+    words: &mut [u64],
+    numbers: &mut [u64],
+) -> u32
+    ensures { λ n. ⌜ LibraryOpensTested (inputOf (now (store .entry)) (now (graph .entry)) (now (tips .entry)) (now (hidden .entry)) (now (excluded .entry)) (settingsOf sorting limited cutoff first)) (lentOf (now (names .entry)) (now (marks .entry)) (now (levels .entry)) (now (times .entry)) (now (line .entry)) (now (parents .entry))) (lentOf (now (names .exit)) (now (marks .exit)) (now (levels .exit)) (now (times .exit)) (now (line .exit)) (now (parents .exit))) (now (words .entry)) (now (words .exit)) (now (numbers .entry)) (now (numbers .exit)) n ⌝ }
+{
+    if !wire::can_open(words, numbers) {
+        return NO_ROOM;
+    }
+    let settings = wire::settings_of(sorting, limited, cutoff, first);
+    let o = opentested::open_tested(
         store,
         graph,
         tips,

@@ -17,12 +17,11 @@ use Rattle.hashtable.proofs.TableClear.{length-cleared}
 use Rattle.walk.specs.declared.Refusal.the-variants.{UnreadableReach}
 use Rattle.walk.specs.Lookup.{World, worldOf}
 use Rattle.walk.specs.Reach.{Mem}
-use Rattle.reach.specs.Search.{Stuck, AllReadable}
+use Rattle.reach.specs.Search.{reachNames, Stuck, AllReadable}
 use Rattle.reach.specs.Memory.{Lent, lent, In}
 use Rattle.reach.specs.Seek.{ToldSought, Finds, SeeksFrom}
 use Rattle.reach.specs.declared.seek.Sought.{Sought}
 use Rattle.reach.specs.declared.seek.Sought.the-variants.{Whole, Unreadable, NoRoom}
-use Rattle.reach.proofs.Closure.{reachNames}
 use Rattle.reach.proofs.Noting.{listed-few}
 use Rattle.reach.proofs.Starting.{empty-lists, empty-named, names-few, roots-met, parents-met, other-empty, other-kept}
 use Rattle.stain.specs.Stain.{bothIn, Stains, BelowFirst, StainsAll}

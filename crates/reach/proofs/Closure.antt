@@ -3,67 +3,72 @@
 use mathlib.Core.Path.{_≡_, refl, sym, subst}
 use mathlib.Core.Logic.{_⊎_, inl, inr, ⊎-elim}
 use Prim.Native.Nat.{ℕ, zero, suc, _+_, _/_, _≤_, _<_}
-use mathlib.Core.Bool.{true}
+use mathlib.Core.Bool.{Bool, true, false, cond}
 use mathlib.Core.Option.{Option, none, some}
 use mathlib.Core.List.{List, [], _∷_, _++_, List·Memᴰ·not-nil, Memᴰ·append-left, Memᴰ·append-right}
 use native.Mathlib.Omega.{arith}
 use lib.ListN.{length, getD, length-append}
 use lib.Dec.{ltb}
 use borrow.Author.Tests.{ltb-true, ltb-false}
-use Rattle.hash.specs.Bytes.{Id, ifSome, idBytes}
-use Rattle.hash.proofs.Tests.{byCases, some-of, some-in}
+use Rattle.hash.specs.Bytes.{Id, among, ifSome, idBytes}
+use Rattle.hash.proofs.Tests.{clash, some-of, some-in}
 use Rattle.object.specs.Header.{Header, header}
 use Rattle.odb.specs.Store.{storeOk, storeFind}
 use Rattle.walk.specs.Lookup.{World, worldOf, Read, fail, good, Pair, fromStore, parentsOf}
 use Rattle.walk.specs.Reach.{Mem, NoDup, empty, links, Reaches, itself, through}
 use Rattle.walk.specs.Demand.{Readable}
 use Rattle.walk.proofs.Named.{fits}
+use Rattle.walk.proofs.Open.{among-mem, mem-among}
 use Rattle.walk.specs.Universe.{storeParents}
 use Rattle.walk.proofs.Files.{find-parents, storeParents-length}
 use Rattle.reading.proofs.Whole.{from-body}
 use Rattle.reading.proofs.IdLists.{mem-at}
-use Rattle.reach.specs.Search.{ReachedBy, Reached, Grows, Growing, AllReadable, Ends, whole, stuck}
+use Rattle.reach.specs.Search.{ReachedBy, Reached, Grows, noted, reachedFrom, reachNames, reachList, Growing, AllReadable, Ends, whole, stuck}
 use Rattle.reach.proofs.Growth.{mem?, each?, nodup-end, grows-none, grows-known, grows-new, grows-then, grow-none, grow-more, grow-read, reached-on, root-reached, grow-done}
 
-at-end : (l : List Id) (k : ℕ) → (length l ≤ k) ⊎ (k < length l)
-at-end l k = byCases (ltb k (length l)) (λ e. inr (ltb-true k (length l) e)) (λ e. inl (ltb-false k (length l) e))
-
 -- ids are noted one after another
-note? : (l : List Id) (x : Id) → NoDup l → (l′ : List Id) × Grows l (x ∷ []) l′ × NoDup l′
-note? l x d = ⊎-elim (λ m. (l, grows-known m, d)) (λ n. (l ++ (x ∷ []), grows-new l x, nodup-end d n)) (mem? x l)
+note-one : (l : List Id) (x : Id) → NoDup l → (b : Bool) → among x l ≡ b → Grows l (x ∷ []) (cond b l (l ++ (x ∷ []))) × NoDup (cond b l (l ++ (x ∷ [])))
+note-one l x d true e = (grows-known (among-mem x l e), d)
+note-one l x d false e = (grows-new l x, nodup-end d (λ m. clash (mem-among x l m) e))
 
-note-all : (xs l : List Id) → NoDup l → (l′ : List Id) × Grows l xs l′ × NoDup l′
-note-all [] l d = (l, grows-none l, d)
+note-all : (xs l : List Id) → NoDup l → Grows l xs (noted l xs) × NoDup (noted l xs)
+unfolding noted
+note-all [] l d = (grows-none l, d)
 note-all (x ∷ xs) l d =
-    let n = note? l x d in
-    let a = note-all xs (n .0) (n .2) in
-    (a .0, grows-then (n .1) (a .1), a .2)
+    let n = note-one l x d (among x l) refl in
+    let a = note-all xs (cond (among x l) l (l ++ (x ∷ []))) (n .1) in
+    (grows-then (n .0) (a .0), a .1)
 
 module _ {w : World} {roots : List Id} where
+  -- a place past the end, or not
+  at-end : (k : ℕ) (l on : List Id) (b : Bool) → ltb k (length l) ≡ b → (k < length l → Reached w roots on) → (length l ≤ k → Reached w roots l) → Reached w roots (cond b on l)
+  at-end k l on true e f g = f (ltb-true k (length l) e)
+  at-end k l on false e f g = g (ltb-false k (length l) e)
+
   -- the search as a whole: us has every id that can be met
   module _ (us : List Id) (within : (x : Id) → ReachedBy w roots x → Mem x us) where
     short : {l : List Id} {k : ℕ} → Growing w roots l k → length l ≤ length us
     short {l} g = fits l us (g .once) (λ x m. within x (g .sound x m))
 
-    search : (n k : ℕ) (l : List Id) → Growing w roots l k → ((x : Id) → Mem x roots → Mem x l) → length us ≤ n + k → (l′ : List Id) × Reached w roots l′
-    search zero k l g i h = (l, grow-done g (omega (arith, short g)) i)
-    search (suc n) k l g i h = ⊎-elim
-        (λ o. (l, grow-done g o i))
+    search : (n k : ℕ) (l : List Id) → Growing w roots l k → ((x : Id) → Mem x roots → Mem x l) → length us ≤ n + k → Reached w roots (reachedFrom w n k l)
+    unfolding reachedFrom
+    search zero k l g i h = grow-done g (omega (arith, short g)) i
+    search (suc n) k l g i h = at-end k l (reachedFrom w n (suc k) (noted l (links w (getD l k [])))) (ltb k (length l)) refl
         (λ o.
         let r : ReachedBy w roots (getD l k []) = g .sound (getD l k []) (mem-at l k o) in
         let a = note-all (links w (getD l k [])) l (g .once) in
-        let b = a .1 in
-        let e : getD (a .0) k [] ≡ getD l k [] = b .place k o in
-        search n (suc k) (a .0)
-        (grow-read (grow-more g b (a .2) (λ p m. reached-on r m)) (omega (arith, b .long)) (λ p m. b .in-it p (subst (λ (z : Id). Mem p (links w z)) e m)))
+        let b = a .0 in
+        let e : getD (noted l (links w (getD l k []))) k [] ≡ getD l k [] = b .place k o in
+        search n (suc k) (noted l (links w (getD l k [])))
+        (grow-read (grow-more g b (a .1) (λ p m. reached-on r m)) (omega (arith, b .long)) (λ p m. b .in-it p (subst (λ (z : Id). Mem p (links w z)) e m)))
         (λ x m. b .keeps x (i x m))
         (omega arith))
-        (at-end l k)
+        (λ o. grow-done g o i)
 
-    pub closure : (l : List Id) × Reached w roots l
+    pub closure : Reached w roots (reachedFrom w (length us) 0 (noted [] roots))
     closure =
         let a = note-all roots [] empty in
-        search (length us) 0 (a .0) (grow-more grow-none (a .1) (a .2) (λ x m. root-reached m)) (a .1 .in-it) (omega arith)
+        search (length us) 0 (noted [] roots) (grow-more grow-none (a .0) (a .1) (λ x m. root-reached m)) (a .0 .in-it) (omega arith)
 
 -- ---- the ids that can be met
 
@@ -86,10 +91,6 @@ links-named store graph x p m =
     let k : header idBytes (o .0) ≡ a .0 = some-in (o .2) in
     find-parents store x (o .0) (o .1) p (subst (λ (q : Header). Mem p (q .ids)) (sym k) (a .2))
 
--- all that can be met
-abbrev pub reachNames : List ℕ → List Id → List Id
-reachNames store roots = roots ++ storeParents store
-
 module _ (store graph : List ℕ) (roots : List Id) where
   met-from : (x t : Id) → Mem t (reachNames store roots) → Reaches (worldOf store graph) x t → Mem x (reachNames store roots)
   met-from x t m (itself e) = subst (λ (a : Id). Mem a (reachNames store roots)) e m
@@ -98,9 +99,13 @@ module _ (store graph : List ℕ) (roots : List Id) where
   pub reach-named : (x : Id) → ReachedBy (worldOf store graph) roots x → Mem x (reachNames store roots)
   reach-named x r = met-from x (r .root) (Memᴰ·append-left (storeParents store) (r .lent)) (r .reaches)
 
-  -- the list exists, on any store
+  -- the list that is computed has what they reach, on any store
+  pub list-reached : Reached (worldOf store graph) roots (reachList store graph roots)
+  unfolding reachList
+  list-reached = closure (reachNames store roots) reach-named
+
   pub reach-list : (l : List Id) × Reached (worldOf store graph) roots l
-  reach-list = closure (reachNames store roots) reach-named
+  reach-list = (reachList store graph roots, list-reached)
 
   -- and a search never has more than P ids: roots and ⌊book bytes/48⌋
   pub reach-short : storeOk idBytes store ≡ true → (l : List Id) → NoDup l → ((x : Id) → Mem x l → ReachedBy (worldOf store graph) roots x) → length l ≤ length roots + length store / 48

@@ -3,7 +3,7 @@ use mathlib.Core.Path.{_≡_, refl, sym, _∙_, ap, subst}
 use mathlib.Core.Logic.{_⊎_, ⊎-elim}
 use Prim.Native.Nat.{ℕ, _+_, _≤_, _<_}
 use mathlib.Core.Bool.{Bool, true, false, not}
-use mathlib.Core.List.{List, [], _∷_, _++_, List·Memᴰ·eq-of-singleton, Memᴰ·append-left, List·Memᴰ·append-cases}
+use mathlib.Core.List.{List, [], _∷_, _++_, List·Memᴰ·eq-of-singleton, Memᴰ·append-left, Memᴰ·append-right, List·Memᴰ·append-cases}
 use native.Mathlib.Omega.{arith}
 use lib.ListN.{length, take, getD, set, length-append, length-set, List·getD-append}
 use lib.Seq.{take-all, getD-append-add, getD-set-same, getD-set-other}
@@ -158,10 +158,10 @@ next-none second cap from m x e = subst (λ (a : Grown). NotesNext second cap fr
 
 -- ---- one after another
 
-pub told-then : {second : Bool} {cap from : ℕ} {u : List Id} {m₀ m : Lent} (m′ : Lent) {l xs : List Id} (x : Id) {n : ℕ} (r : Grown) (g : Went second cap from u m₀ m l xs n)
-    → Told second cap from u m m′ (g .list) (x ∷ []) r → Told second cap from u m₀ m′ l (xs ++ (x ∷ [])) r
-told-then m′ x (Count n′) g t = record { list = t .list; grows = grows-then (g .grows) (t .grows); lists = t .lists; named = t .named; spares = spares-then (g .spares) (t .spares) }
-told-then m′ x NoRoom g t = t
+pub told-then : {second : Bool} {cap from : ℕ} {u : List Id} {m₀ m : Lent} (m′ : Lent) {l xs : List Id} (ys : List Id) {n : ℕ} (r : Grown) (g : Went second cap from u m₀ m l xs n)
+    → Told second cap from u m m′ (g .list) ys r → Told second cap from u m₀ m′ l (xs ++ ys) r
+told-then m′ ys (Count n′) g t = record { list = t .list; grows = grows-then (g .grows) (t .grows); lists = t .lists; named = t .named; spares = spares-then (g .spares) (t .spares) }
+told-then m′ ys NoRoom g t = t
 
 pub all-first : (second : Bool) (cap from : ℕ) (m : Lent) (past : Grown) → AllNoted second cap from m m past [] past
 all-first second cap from m (Count n) = λ u l h d i. record { list = l; grows = grows-none l; lists = h; named = d; spares = spares-none second cap from m }
@@ -171,10 +171,20 @@ pub all-next : (second : Bool) (cap from : ℕ) (m₀ m m′ : Lent) (xs : List 
     → AllNoted second cap from m₀ m′ past (xs ++ (x ∷ [])) r′
 all-next second cap from m₀ m m′ xs x (Count n₀) (Count n) r′ a b w = λ u l h d i.
     let g = a u l h d (λ y k. i y (Memᴰ·append-left (x ∷ []) k)) in
-    told-then m′ x r′ g (b .right u (g .list) (g .lists) (g .named) w (i x (mem-end x xs)))
+    told-then m′ (x ∷ []) r′ g (b .right u (g .list) (g .lists) (g .named) w (i x (mem-end x xs)))
 all-next second cap from m₀ m m′ xs x (Count n₀) NoRoom r′ a b w = λ u l h d i. absurd (a u l h d (λ y k. i y (Memᴰ·append-left (x ∷ []) k)))
 all-next second cap from m₀ m m′ xs x NoRoom (Count n) r′ a b w = let e = a .1 in let z : _≡_ {A = ℕ} 0 1 = cc in absurd (omega arith)
 all-next second cap from m₀ m m′ xs x NoRoom NoRoom r′ a b w = (b .0 ∙ a .0, b .1)
+
+-- two lists, one after the other
+both-noted : (second : Bool) (cap from : ℕ) (m₀ m m′ : Lent) (n : ℕ) (xs ys : List Id) (q r : Grown) → AllNoted second cap from m₀ m (Count n) xs q → AllNoted second cap from m m′ q ys r → AllNoted second cap from m₀ m′ (Count n) (xs ++ ys) r
+both-noted second cap from m₀ m m′ n xs ys (Count k) r a b = λ u l h d i.
+    let g = a u l h d (λ y j. i y (Memᴰ·append-left ys j)) in
+    told-then m′ ys r g (b u (g .list) (g .lists) (g .named) (λ y j. i y (Memᴰ·append-right xs j)))
+both-noted second cap from m₀ m m′ n xs ys NoRoom r a b = λ u l h d i. absurd (a u l h d (λ y j. i y (Memᴰ·append-left ys j)))
+
+pub notes-then : {second : Bool} {cap from : ℕ} {m₀ m m′ : Lent} {n : ℕ} {xs ys : List Id} {q r : Grown} → NotesAll second cap from m₀ m (Count n) xs q → NotesAll second cap from m m′ q ys r → NotesAll second cap from m₀ m′ (Count n) (xs ++ ys) r
+notes-then {second} {cap} {from} {m₀} {m} {m′} {n} {xs} {ys} {q} {r} a b = record { does = both-noted second cap from m₀ m m′ n xs ys q r (a .does) (b .does) }
 
 -- ---- the first i ids of a list
 

@@ -22,7 +22,8 @@ use Rattle.reach.specs.declared.seek.Sought.the-variants.{Whole, Unreada
 use Rattle.reach.specs.Memory.{mostSlots, hasBit, Lent, lent, Lists, Named, Spares, Told, NotesAll}
 use Rattle.reach.specs.Seek.{ToldSought, Seeks, SeeksFrom}
 use Rattle.reach.proofs.Growth.{grow-none, grow-more, root-reached}
-use Rattle.reach.proofs.Closure.{links-named, reachNames}
+use Rattle.reach.specs.Search.{reachNames}
+use Rattle.reach.proofs.Closure.{links-named}
 use Rattle.reach.proofs.MarkBits.{bit-0}
 use Rattle.reach.proofs.Noting.{spares-then}
 

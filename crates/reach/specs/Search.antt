@@ -1,12 +1,15 @@
 -- The search (document 02, cards 1, 8, 11 and 12): what a list of ids reaches, "over all the book's parents", as one list without repeats, and
 -- how such a list grows. In which order commits are met is not said. Assumes nothing.
-use Prim.Native.Nat.{ℕ, _≤_, _<_}
+use Prim.Native.Nat.{ℕ, zero, suc, _≤_, _<_}
 use mathlib.Core.Path.{_≡_}
 use mathlib.Core.Logic.{_⊎_}
-use mathlib.Core.List.{List, []}
+use mathlib.Core.Bool.{cond}
+use mathlib.Core.List.{List, [], _∷_, _++_}
 use lib.ListN.{length, getD}
-use Rattle.hash.specs.Bytes.{Id}
-use Rattle.walk.specs.Lookup.{World}
+use lib.Dec.{ltb}
+use Rattle.hash.specs.Bytes.{Id, among}
+use Rattle.walk.specs.Lookup.{World, worldOf}
+use Rattle.walk.specs.Universe.{storeParents}
 use Rattle.walk.specs.Reach.{Mem, NoDup, links, Reaches}
 use Rattle.walk.specs.Demand.{Readable}
 
@@ -29,6 +32,30 @@ pub record Grows (l xs l′ : List Id) : Type 0 where
   pub keeps : (x : Id) → Mem x l → Mem x l′
   pub place : (i : ℕ) → i < length l → getD l′ i [] ≡ getD l i []
   pub long : length l ≤ length l′
+
+-- ---- the list, computed
+
+-- ids are noted one after another: one that is not in the list comes to its end
+unfoldable pub noted : List Id → List Id → List Id
+noted l [] = l
+noted l (x ∷ xs) = noted (cond (among x l) l (l ++ (x ∷ []))) xs
+
+-- the parents of the ids from place k of the list on are noted, of n ids at most
+unfoldable pub reachedFrom : World → ℕ → ℕ → List Id → List Id
+reachedFrom w zero k l = l
+reachedFrom w (suc n) k l =
+    let on : List Id = reachedFrom w n (suc k) (noted l (links w (getD l k []))) in
+    cond (ltb k (length l)) on l
+
+-- all that can be met: the roots, and what the store names as a parent
+abbrev pub reachNames : List ℕ → List Id → List Id
+reachNames store roots = roots ++ storeParents store
+
+-- what the roots reach: no more ids can be met than these, so all are read
+unfoldable pub reachList : List ℕ → List ℕ → List Id → List Id
+reachList store graph roots = reachedFrom (worldOf store graph) (length (reachNames store roots)) 0 (noted [] roots)
+
+-- ---- the search
 
 -- the search on its way: all of l is reached, and the parents of its first k, which have been read, are in l
 pub record Growing (w : World) (roots l : List Id) (k : ℕ) : Type 0 where

@@ -1,14 +1,16 @@
 // Runs the walks of standard input, one after the other, and prints every field of every answer, a line for each.
-// A case is ten bytes of settings and seven parts, each a big-endian u32 length and its bytes: title, commit store, commit-graph file, tips,
-// hidden tips, excluded ids and the lengths of the six buffers to lend. Before it stands its own length, at most 65,536. tools/make_runs.py
-// makes them.
+// A case is eleven bytes of settings, the last of which is 1 for a tested opening, and seven parts, each a big-endian u32 length and its bytes:
+// title, commit store, commit-graph file, tips, hidden tips, excluded ids and the lengths of the six buffers to lend. Before it stands its own
+// length, at most 65,536. tools/make_runs.py makes them.
 ghost use Prim.Native.Nat.{_≤_, _<_};
 ghost use Rattle.io.specs.Counts.{Counts};
 use date::Seconds;
 use date::Zone;
 use hash::Kind;
 use libc::STDOUT_FILENO;
+use opentested::open_tested;
 use state::Record;
+use traverse::Opened;
 use traverse::Out;
 use traverse::next::step;
 use traverse::open::open;
@@ -185,11 +187,19 @@ fn print_answer(a: Answer, parents: &[u8]) {
     text(b"\n");
 }
 
+// That a walk was opened, and how.
+fn accepted(tested: bool) {
+    text(b"opened");
+    if tested {
+        text(b" tested");
+    }
+}
+
 // An opening's answer on a line.
-fn print_opening(a: OpenAnswer) {
+fn print_opening(a: OpenAnswer, tested: bool) {
     let o = a.outcome;
     match o {
-        OpenOutcome::Accepted => text(b"opened"),
+        OpenOutcome::Accepted => accepted(tested),
         OpenOutcome::NotOpened(r) => refusal(r),
     }
     numbers(a.admitted, a.struck, a.waiting);
@@ -282,8 +292,57 @@ fn calls(
     }
 }
 
+// Opens a walk, tested or not.
+fn opened(
+    tested: bool,
+    store: &[u8],
+    graph: &[u8],
+    tips: &[u8],
+    hidden: &[u8],
+    excluded: &[u8],
+    settings: Settings,
+    names: &mut [u8],
+    marks: &mut [u8],
+    levels: &mut [u32],
+    times: &mut [i64],
+    line: &mut [u32],
+    parents: &mut [u8],
+) -> Opened {
+    if tested {
+        return open_tested(
+            store,
+            graph,
+            tips,
+            hidden,
+            excluded,
+            settings,
+            names,
+            marks,
+            levels,
+            times,
+            line,
+            parents,
+        );
+    }
+    open(
+        store,
+        graph,
+        tips,
+        hidden,
+        excluded,
+        settings,
+        names,
+        marks,
+        levels,
+        times,
+        line,
+        parents,
+    )
+}
+
 // Opens a walk and makes its calls.
 fn walk_all(
+    tested: bool,
     store: &[u8],
     graph: &[u8],
     tips: &[u8],
@@ -297,7 +356,8 @@ fn walk_all(
     line: &mut [u32],
     parents: &mut [u8],
 ) {
-    let o = open(
+    let o = opened(
+        tested,
         store,
         graph,
         tips,
@@ -311,7 +371,7 @@ fn walk_all(
         line,
         parents,
     );
-    print_opening(o.answer);
+    print_opening(o.answer, tested);
     calls(
         o.record,
         store,
@@ -386,6 +446,11 @@ fn signed_of(x: u64) -> i64 {
     !((18446744073709551615 - x) as i64)
 }
 
+// Whether a case is to be opened tested: its eleventh byte.
+fn is_tested(s: &[u8]) -> bool {
+    hash::byte_at(s, 10) == 1
+}
+
 // The settings of a case, its first ten bytes.
 fn settings_of(s: &[u8]) -> Settings {
     Settings {
@@ -404,6 +469,7 @@ fn lent(lengths: &[u8], k: usize, most: usize) -> usize
 
 // Lends the buffers, each as long as the list says, to a walk.
 fn lend(
+    tested: bool,
     store: &[u8],
     graph: &[u8],
     tips: &[u8],
@@ -425,6 +491,7 @@ fn lend(
     let e = lent(lengths, 16, line.len());
     let f = lent(lengths, 20, parents.len());
     walk_all(
+        tested,
         store,
         graph,
         tips,
@@ -450,7 +517,7 @@ fn run_case(
     line: &mut [u32],
     parents: &mut [u8],
 ) {
-    let title = rest(case, 10);
+    let title = rest(case, 11);
     let store = after_front(title);
     let graph = after_front(store);
     let tips = after_front(graph);
@@ -461,6 +528,7 @@ fn run_case(
     text(front(title));
     text(b"\n");
     lend(
+        is_tested(case),
         front(store),
         front(graph),
         front(tips),

@@ -10,7 +10,7 @@ pub const HELP: &str = "\
 linenhatch: lists the commits of a git repository, with a walk that is proved to list each one that it should, once
 
 usage: linenhatch [-C DIR] [--order newest|oldest|breadth] [-n N] [--count] [--reverse] [--since SECONDS] [--first-parent]
-                  [--hide REV]... [--exclude REV]... [--no-graph] [--parents] [--time] [--zone] [--progress] [REV...]
+                  [--hide REV]... [--exclude REV]... [--no-graph] [--untested] [--parents] [--time] [--zone] [--progress] [REV...]
        linenhatch --check-names [-C DIR] [--no-graph] [--progress] [REV...]
        linenhatch [-C DIR] [--progress] merge-base REV REV
 
@@ -26,10 +26,13 @@ Lists what the REVs reach (HEAD if none is given), one id on a line. A REV is an
   --reverse         prints the list from its end
   --since SECONDS   leaves out the commits before these seconds since 1970, and what is reached through them alone; with an order by time
   --first-parent    follows only the first parent of each commit; --since then counts for the REVs alone
-  --hide REV        leaves out REV and all that it reaches. Where committer times run backwards, some of that may still be listed, and nothing
-                    says so; not with a commit-graph file that has all these commits (git commit-graph write --reachable)
+  --hide REV        leaves out REV and all that it reaches
   --exclude REV     leaves out REV and does not go on from it; what is reached another way is listed
   --no-graph        does not use git's commit-graph file (objects/info/commit-graph)
+  --untested        lists without testing first. Else all that the REVs and hidden names reach is tested, and nothing is listed if a commit is not
+                    there or cannot be read, if git's commit-graph file says other things of a commit than the commit itself, or if a commit
+                    is not newer than its parents and no commit-graph file with generations has it. If so with --untested: the list ends
+                    where commits are missing (status 1), the file is believed, and some of what is hidden may be listed, of which nothing is said
   --parents         prints the parents after the id
   --time            prints SECONDS/GENERATION after the id, - where there is none: seconds are there in an order by time without
                     --first-parent, a generation for a commit that came from a commit-graph file with
@@ -73,6 +76,7 @@ pub struct Args {
     pub hide: Vec<OsString>,
     pub exclude: Vec<OsString>,
     pub graph: bool,
+    pub untested: bool,
     pub parents: bool,
     pub time: bool,
     pub zone: bool,
@@ -108,6 +112,7 @@ pub fn parse(words: impl IntoIterator<Item = OsString>) -> Result<Task, String> 
         hide: Vec::new(),
         exclude: Vec::new(),
         graph: true,
+        untested: false,
         parents: false,
         time: false,
         zone: false,
@@ -143,6 +148,7 @@ pub fn parse(words: impl IntoIterator<Item = OsString>) -> Result<Task, String> 
             "--reverse" => args.reverse = true,
             "--first-parent" => args.first_parent = true,
             "--no-graph" => args.graph = false,
+            "--untested" => args.untested = true,
             "--parents" => args.parents = true,
             "--time" => args.time = true,
             "--zone" => args.zone = true,

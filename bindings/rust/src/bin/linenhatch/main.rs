@@ -70,7 +70,11 @@ fn list(args: &Args) -> Result<(), String> {
     if args.first_parent {
         lister = lister.first_parent();
     }
-    let walk = lister.open().map_err(|refusal| not_opened(refusal, &store, &tips))?;
+    let opened = if args.untested { lister.open() } else { lister.open_tested() };
+    let walk = opened.map_err(|refusal| match refusal {
+        Refusal::UnreadableReach => refused::unreadable_reach(&store, &absent, shallow),
+        _ => not_opened(refusal, &store, &tips),
+    })?;
     let refused = print_all(walk, args)?;
     if !absent.is_empty() && !refused.any(Refusal::CommitNotFound) {
         warn_of(&absent, shallow);
@@ -275,6 +279,16 @@ fn not_opened(refusal: Refusal, store: &[u8], tips: &[ObjectId]) -> String {
     let advice = match refusal {
         Refusal::UnknownGraph | Refusal::CorruptGraph => {
             "\nLeave git's commit-graph file out with --no-graph, or have git write it anew: git commit-graph write --reachable".into()
+        }
+        Refusal::GraphAtOdds => {
+            "\nThe file is stale or damaged (git commit-graph verify): have git write it anew with git commit-graph write --reachable, or leave it \
+             out with --no-graph."
+                .into()
+        }
+        Refusal::PairNotFalling => {
+            "\nA clock stood still or ran backwards, so hiding may miss commits: have git write generations with git commit-graph write --reachable, \
+             or list all the same with --untested."
+                .into()
         }
         Refusal::TipUnreadable => {
             let which = refused::unreadable_tip(store, tips).map_or(String::new(), |tip| format!(": {tip}"));

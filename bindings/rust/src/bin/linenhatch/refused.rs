@@ -55,6 +55,19 @@ pub fn unread(store: &[u8], absent: &[ObjectId]) -> String {
     some.map(|(what, ids)| format!("\n  {what}: {} ({})", counted(ids.len(), "commit"), named(ids))).collect()
 }
 
+/// Why a tested walk was not opened with 13: which commits are not there, which cannot be read, and what to do.
+pub fn unreadable_reach(store: &[u8], absent: &[ObjectId], shallow: bool) -> String {
+    let lead = format!("nothing is listed: {}", Refusal::UnreadableReach);
+    if shallow {
+        let behind = counted(absent.len(), "commit");
+        return format!(
+            "this is a shallow clone, and {lead}\n  past its boundary, not there: {behind}\n\
+             `git fetch --unshallow` brings them, and --untested lists up to the boundary."
+        );
+    }
+    format!("{lead}{}\n`git fsck` says more of them; --untested lists what can be read.", unread(store, absent))
+}
+
 /// A number and a word.
 pub fn counted(count: usize, word: &str) -> String {
     format!("{count} {word}{}", if count == 1 { "" } else { "s" })
@@ -125,6 +138,21 @@ mod tests {
         assert_eq!(alone(&store, Refusal::CommitUnreadable, true), [id(1), id(2)]);
         assert_eq!(alone(&store, Refusal::TooManyParents, true), []);
         assert_eq!(unreadable_tip(&store, &[id(3), id(2), id(1)]), Some(id(2)));
+    }
+
+    #[test]
+    fn what_is_said_of_an_unreadable_reach() {
+        let id = |n| ObjectId([n; 20]);
+        let store = store_from_commits([(id(3), GOOD.to_string()), (id(2), GOOD.replace("committer ", "keeper "))]).unwrap();
+        let said = unreadable_reach(&store, &[id(7)], false);
+        assert!(said.starts_with("nothing is listed: ") && said.contains(" (refusal 13, unreadable reach)\n"), "{said}");
+        assert!(
+            said.contains(&format!("\n  not in the repository: 1 commit ({})\n  not to be read: 1 commit ({})\n", id(7), id(2))),
+            "{said}"
+        );
+        assert!(said.contains("git fsck") && said.contains("--untested") && !said.contains("256 parents:"), "{said}");
+        let said = unreadable_reach(&store, &[id(7), id(8)], true);
+        assert!(said.contains("shallow clone") && said.contains("2 commits") && said.contains("--unshallow"), "{said}");
     }
 
     #[test]

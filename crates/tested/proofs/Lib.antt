@@ -1,0 +1,4 @@
+pub mod Judging
+pub mod Noting
+pub mod Falling
+pub mod AllTests
