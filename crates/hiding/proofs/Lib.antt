@@ -1,0 +1,5 @@
+pub mod Joined
+pub mod Sets
+pub mod Adding
+pub mod Called
+pub mod Instance

@@ -1,0 +1,3 @@
+pub mod Hiding
+pub mod Called
+pub mod Runs
