@@ -14,7 +14,7 @@ use Rattle.object.specs.Header.{parentSize, idLine, parentWord, Stamped}
 use Rattle.object.specs.Read.{lineRead, stampGiven, stampRead, afterId, idRead, parentAt}
 use Rattle.object.specs.declared.ParentLine.{ParentLine}
 use Rattle.object.specs.declared.Line.the-variants.{Good as GoodLine, Bad as BadLine}
-use Rattle.object.specs.declared.StampRead.the-variants.{Good as GoodStamp, Bad as BadStamp}
+use Rattle.actor.specs.declared.StampRead.the-variants.{Good as GoodStamp, Bad as BadStamp}
 use Rattle.object.proofs.Parents.{parent-good, parent-fits}
 use Rattle.commititer.specs.Token.{here, bare, Told, treeTold, committerTold, authorTold, parentTold, tokenOf, ended, placeOf}
 use Rattle.commititer.specs.declared.Place.{Place}

@@ -5,7 +5,7 @@ use date::Stamp;
 use hash::Kind;
 use object::Line;
 use object::ObjectId;
-use object::StampRead;
+use actor::StampRead;
 use object::person;
 ghost use Prim.Native.Nat.{ℕ};
 ghost use mathlib.Core.Path.{_≡_};

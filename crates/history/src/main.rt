@@ -90,7 +90,14 @@ fn word(r: Refusal) {
         Refusal::PairNotFalling => text(b" pair not falling"),
         Refusal::FalseName => text(b" false name"),
         Refusal::FalseChecksum => text(b" graph checksum false"),
+        Refusal::UnfitStore => text(b" unfit book"),
+        Refusal::UnfitSeconds => text(b" unfit seconds"),
+        Refusal::ShortOutput => text(b" short output"),
+        Refusal::ReadingTwice => text(b" reading given twice"),
+        Refusal::ReadingUnreadable => text(b" reading unreadable"),
         Refusal::TangledReach => text(b" tangled reach"),
+        Refusal::BadTerms => text(b" bad term list"),
+        Refusal::TooManyMoves => text(b" too many moves"),
     }
 }
 

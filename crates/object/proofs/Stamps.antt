@@ -9,13 +9,8 @@ use lib.ListN.{length}
 use lib.IntN.{ℤ}
 use Rattle.hash.specs.Bytes.{Id, ifSome}
 use Rattle.hash.proofs.Tests.{no-some}
-use Rattle.date.specs.declared.Seconds.{Seconds}
-use Rattle.date.specs.declared.Zone.{Zone}
-use Rattle.object.specs.Person.{lineSeconds, lineZone}
+use Rattle.actor.specs.Person.{lineSeconds, lineZone}
 use Rattle.object.specs.Header.{idLine, treeWord, committerWord, wordLine, authorLine, skipParents, Stamped, stamped, committerLine, afterAuthor, afterTree, stampOf, secondsIn, zoneIn, secondsOf, zoneOf, Header, withTree, header}
-use Rattle.object.specs.Read.{secondsRead, zoneGiven, stampRead}
-use Rattle.object.specs.declared.SecondsRead.the-variants.{Good as GoodSeconds, Bad as BadSeconds}
-use Rattle.object.specs.declared.StampRead.the-variants.{Good as GoodStamp, Bad as BadStamp}
 
 -- a reading is its seconds and its zone: a stamp holds nothing else
 pub stamp-whole : (o : Option Stamped) → stamped (secondsIn o) (zoneIn o) ≡ o
@@ -31,17 +26,6 @@ same-seconds (some v) z = refl
 pub no-zone-in : (o : Option Stamped) → secondsIn o ≡ none → zoneIn o ≡ none
 no-zone-in none e = refl
 no-zone-in (some s) e = no-some (sym e)
-
--- the answer on the seconds decides the answer on both
-pub stamp-good : (o z : Option ℤ) (s : Seconds) (r : Zone) → secondsRead o ≡ GoodSeconds s → r ≡ zoneGiven z → GoodStamp (record { seconds = s; zone = r }) ≡ stampRead (stamped o z)
-stamp-good none z s r e f = let q : _≡_ {A = ℕ} 0 1 = cc in absurd (omega arith)
-stamp-good (some v) z s r e f =
-    let q : _≡_ {A = Seconds} s (record { 0 = v }) = cc in
-    λ k. GoodStamp (record { seconds = q k; zone = f k })
-
-pub stamp-bad : (o z : Option ℤ) → secondsRead o ≡ BadSeconds → BadStamp ≡ stampRead (stamped o z)
-stamp-bad none z e = refl
-stamp-bad (some v) z e = let q : _≡_ {A = ℕ} 0 1 = cc in absurd (omega arith)
 
 -- ---- "which commits are readable doesn't move"
 

@@ -2,7 +2,7 @@
 mod id;
 pub mod person;
 
-use date::Seconds;
+use actor::StampRead;
 use date::Stamp;
 use hash::Kind;
 pub use id::id_of;
@@ -20,18 +20,6 @@ ghost use Rattle.object.specs.Read.{idRead, idDown, Decodes, treeAt, par
 // A line that was read: the place after its newline.
 pub enum Line {
     Good(usize),
-    Bad,
-}
-
-// The seconds of a committer line's bytes; also what definitions say of whoever wants no more than them.
-pub enum SecondsRead {
-    Good(Seconds),
-    Bad,
-}
-
-// The seconds and the zone of a committer line that was read.
-pub enum StampRead {
-    Good(Stamp),
     Bad,
 }
 

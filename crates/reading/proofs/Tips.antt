@@ -13,8 +13,8 @@ use Rattle.date.specs.declared.Stamp.{Stamp}
 use Rattle.date.specs.declared.Zone.the-variants.{NoZone}
 use Rattle.object.specs.Header.{Header, header, Stamped, stampOf, secondsIn, zoneIn, secondsOf, zoneOf}
 use Rattle.object.specs.Read.{secondsRead, zoneGiven, stampGiven, stampRead}
-use Rattle.object.specs.declared.StampRead.{StampRead}
-use Rattle.object.specs.declared.StampRead.the-variants.{Good as GoodStamp, Bad as BadStamp}
+use Rattle.actor.specs.declared.StampRead.{StampRead}
+use Rattle.actor.specs.declared.StampRead.the-variants.{Good as GoodStamp, Bad as BadStamp}
 use Rattle.object.proofs.Stamps.{header-stamp}
 use Rattle.odb.specs.Store.{storeOk}
 use Rattle.odb.specs.Lookup.{TriesFind}

@@ -9,10 +9,10 @@ use Rattle.hash.specs.Bytes.{Id}
 use Rattle.date.specs.declared.Seconds.{Seconds}
 use Rattle.object.specs.Header.{Header, secondsOf}
 use Rattle.object.specs.Read.{secondsRead}
-use Rattle.object.specs.declared.SecondsRead.{SecondsRead}
-use Rattle.object.specs.declared.SecondsRead.the-variants.{Good as GoodSeconds, Bad as BadSeconds}
-use Rattle.object.specs.declared.StampRead.{StampRead}
-use Rattle.object.specs.declared.StampRead.the-variants.{Good as GoodStamp, Bad as BadStamp}
+use Rattle.actor.specs.declared.SecondsRead.{SecondsRead}
+use Rattle.actor.specs.declared.SecondsRead.the-variants.{Good as GoodSeconds, Bad as BadSeconds}
+use Rattle.actor.specs.declared.StampRead.{StampRead}
+use Rattle.actor.specs.declared.StampRead.the-variants.{Good as GoodStamp, Bad as BadStamp}
 use Rattle.odb.specs.Lookup.{TriesFind}
 use Rattle.reading.specs.declared.tip.TipRead.{TipRead}
 use Rattle.reading.specs.declared.tip.TipRead.the-variants.{Good, Missing, Unreadable}

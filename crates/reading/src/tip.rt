@@ -2,7 +2,7 @@
 use date::Seconds;
 use date::Zone;
 use hash::Kind;
-use object::StampRead;
+use actor::StampRead;
 ghost use mathlib.Core.Path.{_≡_};
 ghost use mathlib.Core.Bool.{true};
 ghost use Prim.Native.Nat.{_≤_};

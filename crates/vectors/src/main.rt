@@ -15,7 +15,7 @@ use hash::Kind;
 use libc::STDOUT_FILENO;
 use object::Line;
 use object::Reading;
-use object::StampRead;
+use actor::StampRead;
 use odb::Located;
 
 fn text(s: &[u8]) {

@@ -6,7 +6,7 @@ use lib.Dec.{eqb}
 use borrow.Author.Tests.{ne-eqb}
 use native.Mathlib.Omega.{arith}
 use Rattle.walk.specs.declared.Refusal.{Refusal}
-use Rattle.walk.specs.declared.Refusal.the-variants.{BufferTooSmall, InputTooLarge, PartialId, CorruptStore, UnknownGraph, CorruptGraph, TipNotFound, TipUnreadable, CommitNotFound, CommitUnreadable, TooManyParents, Closed, UnreadableReach, GraphAtOdds, PairNotFalling, FalseName, FalseChecksum, TangledReach}
+use Rattle.walk.specs.declared.Refusal.the-variants.{BufferTooSmall, InputTooLarge, PartialId, CorruptStore, UnknownGraph, CorruptGraph, TipNotFound, TipUnreadable, CommitNotFound, CommitUnreadable, TooManyParents, Closed, UnreadableReach, GraphAtOdds, PairNotFalling, FalseName, FalseChecksum, UnfitStore, UnfitSeconds, ShortOutput, ReadingTwice, ReadingUnreadable, TangledReach, BadTerms, TooManyMoves}
 use Rattle.walk.specs.declared.Outcome.{Outcome}
 use Rattle.walk.specs.declared.Outcome.the-variants.{Commit, End, Refused}
 use Rattle.walk.specs.declared.OpenOutcome.{OpenOutcome}
@@ -33,7 +33,14 @@ refusal-number-between GraphAtOdds = (omega arith, omega arith)
 refusal-number-between PairNotFalling = (omega arith, omega arith)
 refusal-number-between FalseName = (omega arith, omega arith)
 refusal-number-between FalseChecksum = (omega arith, omega arith)
+refusal-number-between UnfitStore = (omega arith, omega arith)
+refusal-number-between UnfitSeconds = (omega arith, omega arith)
+refusal-number-between ShortOutput = (omega arith, omega arith)
+refusal-number-between ReadingTwice = (omega arith, omega arith)
+refusal-number-between ReadingUnreadable = (omega arith, omega arith)
 refusal-number-between TangledReach = (omega arith, omega arith)
+refusal-number-between BadTerms = (omega arith, omega arith)
+refusal-number-between TooManyMoves = (omega arith, omega arith)
 
 -- ---- read back
 
@@ -41,7 +48,9 @@ refusalOf : ℕ → Refusal
 refusalOf n =
     cond (eqb n 1) BufferTooSmall (cond (eqb n 2) InputTooLarge (cond (eqb n 3) PartialId (cond (eqb n 4) CorruptStore (cond (eqb n 5) UnknownGraph (cond (eqb n 6) CorruptGraph
     (cond (eqb n 7) TipNotFound (cond (eqb n 8) TipUnreadable (cond (eqb n 9) CommitNotFound (cond (eqb n 10) CommitUnreadable (cond (eqb n 11) TooManyParents (cond (eqb n 12) Closed
-    (cond (eqb n 13) UnreadableReach (cond (eqb n 14) GraphAtOdds (cond (eqb n 15) PairNotFalling (cond (eqb n 16) FalseName (cond (eqb n 17) FalseChecksum TangledReach))))))))))))))))
+    (cond (eqb n 13) UnreadableReach (cond (eqb n 14) GraphAtOdds (cond (eqb n 15) PairNotFalling (cond (eqb n 16) FalseName (cond (eqb n 17) FalseChecksum (cond (eqb n 18) UnfitStore
+    (cond (eqb n 19) UnfitSeconds (cond (eqb n 20) ShortOutput (cond (eqb n 21) ReadingTwice (cond (eqb n 22) ReadingUnreadable (cond (eqb n 23) TangledReach
+    (cond (eqb n 24) BadTerms TooManyMoves)))))))))))))))))))))))
 
 refusal-back : (r : Refusal) → refusalOf (numberOf r) ≡ r
 unfolding refusalOf
@@ -62,7 +71,14 @@ refusal-back GraphAtOdds = refl
 refusal-back PairNotFalling = refl
 refusal-back FalseName = refl
 refusal-back FalseChecksum = refl
+refusal-back UnfitStore = refl
+refusal-back UnfitSeconds = refl
+refusal-back ShortOutput = refl
+refusal-back ReadingTwice = refl
+refusal-back ReadingUnreadable = refl
 refusal-back TangledReach = refl
+refusal-back BadTerms = refl
+refusal-back TooManyMoves = refl
 
 outcomeAt : ℕ → Outcome
 outcomeAt n = cond (eqb n 0) Commit (cond (eqb n 100) End (Refused (refusalOf n)))

@@ -56,15 +56,15 @@ module _ (v : Walk) (tips : List Id) (pre : Premises v tips) (coherent : Coheren
   reads-row x r corrupt e = absurd (pre .agrees x r .whole e)
   reads-row x r (row ps l s) e = ((map (λ p. p .0) ps, record { generation = l; time = s }, refl), pre .agrees x r .same-parents ps l s e)
 
-  good-at : (x : Id) → R x → Good w x
+  pub good-at : (x : Id) → R x → Good w x
   unfolding Good read
   good-at x r = reads-row x r (w .graph x) refl .0
 
-  kids-are : (x : Id) → R x → kids w x ≡ links w x
+  pub kids-are : (x : Id) → R x → kids w x ≡ links w x
   unfolding read
   kids-are x r = reads-row x r (w .graph x) refl .1
 
-  closed-R : (x p : Id) → R x → Mem p (kids w x) → R p
+  pub closed-R : (x p : Id) → R x → Mem p (kids w x) → R p
   closed-R x p r m = region-on v tips pre coherent x p r (rw (kids-are x r) at m)
 
   -- and goes by the pair of the demand
@@ -81,10 +81,10 @@ module _ (v : Walk) (tips : List Id) (pre : Premises v tips) (coherent : Coheren
   unfolding read pairAt
   pair-at x r = pair-row x r (w .graph x) refl
 
-  falls-R : (x p : Id) → R x → Mem p (kids w x) → ltPair (pair w p) (pair w x) ≡ true
+  pub falls-R : (x p : Id) → R x → Mem p (kids w x) → ltPair (pair w p) (pair w x) ≡ true
   falls-R x p r m = rw (pair-at p (closed-R x p r m), pair-at x r) (pre .falls x p r (rw (kids-are x r) at m))
 
-  down-R : (x p : Id) → R x → H x → Mem p (kids w x) → H p
+  pub down-R : (x p : Id) → R x → H x → Mem p (kids w x) → H p
   unfolding Hidden
   down-R x p r h m = (h .0, h .1, reach-on w x p (h .0) (h .2) (rw (kids-are x r) at m))
 
@@ -94,12 +94,12 @@ module _ (v : Walk) (tips : List Id) (pre : Premises v tips) (coherent : Coheren
       let m′ : Mem p (kids w z) = rw (kids-are z r) m in
       by m′ (reach-down x p (region-on v tips pre coherent z p r m) t)
 
-  hidden-on : (x p : Id) → H x → Mem p (links w x) → H p
+  pub hidden-on : (x p : Id) → H x → Mem p (links w x) → H p
   unfolding Hidden
   hidden-on x p h m = (h .0, h .1, reach-on w x p (h .0) (h .2) m)
 
   module _ (us : List Id) (within : (x p : Id) → R x → Mem p (links w x) → Mem p us) where
-    within-kids : (x p : Id) → R x → Mem p (kids w x) → Mem p us
+    pub within-kids : (x p : Id) → R x → Mem p (kids w x) → Mem p us
     within-kids x p r m = within x p r (rw (kids-are x r) at m)
 
     -- ---- the state that the first call paints
@@ -107,21 +107,21 @@ module _ (v : Walk) (tips : List Id) (pre : Premises v tips) (coherent : Coheren
     module _ (st : State) (done : List Id) (i : Entered v tips st done)
         (of-tips : (x : Id) → Mem x done → Mem x tips × (among x (v .excluded) ≡ false))
         (all-tips : (x : Id) → Mem x tips → among x (v .excluded) ≡ false → Mem x done) where
-      queue-tip : (x : Id) → Mem x (ids (st .queue)) → AdmittedTip v tips x
+      pub queue-tip : (x : Id) → Mem x (ids (st .queue)) → AdmittedTip v tips x
       queue-tip x k =
           let a = i .in-queue x k in
           let b = of-tips x (a .0) in
           record { lent = b .0; not-excluded = b .1; stays = a .1 }
 
-      tip-queue : (x : Id) → AdmittedTip v tips x → Mem x (ids (st .queue))
+      pub tip-queue : (x : Id) → AdmittedTip v tips x → Mem x (ids (st .queue))
       tip-queue x a = i .stays-in x (all-tips x (a .lent) (a .not-excluded)) (a .stays)
 
       -- what the frontier has to be
-      record Parts (front : Id → Bool) : Type 0 where
-        apart : (x : Id) → Away v tips front x → H x → ⊥
-        hidden-only : (x : Id) → front x ≡ true → Admitted v tips x → H x
+      pub record Parts (front : Id → Bool) : Type 0 where
+        pub apart : (x : Id) → Away v tips front x → H x → ⊥
+        pub hidden-only : (x : Id) → front x ≡ true → Admitted v tips x → H x
 
-      away-listed : (front : Id → Bool) → Parts front → (x : Id) → Away v tips front x ↔ Listed v tips x
+      pub away-listed : (front : Id → Bool) → Parts front → (x : Id) → Away v tips front x ↔ Listed v tips x
       unfolding Listed
       away-listed front f x = (λ a. (admitted x a, f .apart x a), λ l. away x (l .0) (l .1))
         where
@@ -138,7 +138,7 @@ module _ (v : Walk) (tips : List Id) (pre : Premises v tips) (coherent : Coheren
               Away.link (away z b (λ h. n (hidden-on z y h (followed-sub (v .settings) y (links w z) (a .follows))))) a (out y (Admitted.link b a) n)
 
       -- the walk from there
-      walked : (front : Id → Bool) → Walked v tips front (paintedWith st (outside front (st .queue)) front) []
+      pub walked : (front : Id → Bool) → Walked v tips front (paintedWith st (outside front (st .queue)) front) []
       unfolding paintedWith
       walked front = record {
         is-front = λ x. refl;
@@ -155,13 +155,13 @@ module _ (v : Walk) (tips : List Id) (pre : Premises v tips) (coherent : Coheren
         turned-seen = λ x a. i .done-seen x (all-tips x (a .lent) (a .not-excluded));
       }
 
-      abbrev after : (Id → Bool) → State
+      abbrev pub after : (Id → Bool) → State
       after front = paintedWith st (outside front (st .queue)) front
 
       abbrev pub Listing : Type 0
       Listing = (l : List Id) × NoDup l × ((x : Id) → Mem x l ↔ Listed v tips x) × (length l ≤ length done + length us) × ((k : ℕ) → Hands l (calls v k st))
 
-      next-after : (front : Id → Bool) → next v (after front) ≡ takeNext v (after front)
+      pub next-after : (front : Id → Bool) → next v (after front) ≡ takeNext v (after front)
       unfolding next paintedWith
       next-after front = refl
 
@@ -193,7 +193,7 @@ module _ (v : Walk) (tips : List Id) (pre : Premises v tips) (coherent : Coheren
       no-away front e x (Away.tip a o) = empty-queue (st .queue) e x (tip-queue x a)
       no-away front e x (Away.link {x = y} b a o) = no-away front e y b
 
-      plain-parts : (isEmpty (v .hidden) || isEmpty (st .queue)) ≡ true → Parts nobody
+      pub plain-parts : (isEmpty (v .hidden) || isEmpty (st .queue)) ≡ true → Parts nobody
       unfolding Hidden
       plain-parts e = record {
         apart = λ x a h. ⊎-elim (λ k. empty-list (v .hidden) k (h .0) (h .1)) (λ k. no-away nobody k x a) (or-cases {a = isEmpty (v .hidden)} {b = isEmpty (st .queue)} e);
@@ -206,18 +206,18 @@ module _ (v : Walk) (tips : List Id) (pre : Premises v tips) (coherent : Coheren
 
       -- painting
       module _ (enough : 3 * length us + length (ids (st .queue)) + length (v .hidden) ≤ v .fuel) where
-        waiting-R : (x : Id) → Mem x (ids (st .queue)) → R x
+        pub waiting-R : (x : Id) → Mem x (ids (st .queue)) → R x
         waiting-R x k = region-tip v tips pre coherent x (queue-tip x k .lent)
 
-        hidden-R : (x : Id) → Mem x (v .hidden) → R x × H x
+        pub hidden-R : (x : Id) → Mem x (v .hidden) → R x × H x
         unfolding Hidden
         hidden-R x k = (region-hidden v tips pre coherent x k, (x, k, itself refl))
 
-        done-paint : (pst : Paint) × (paint w (v .fuel) (ids (st .queue)) (v .hidden) ≡ going pst)
+        pub done-paint : (pst : Paint) × (paint w (v .fuel) (ids (st .queue)) (v .hidden) ≡ going pst)
             × Painted w R H good-at closed-R falls-R down-R us within-kids (ids (st .queue)) (v .hidden) waiting-R hidden-R pst
         done-paint = paint-done w R H good-at closed-R falls-R down-R us within-kids (ids (st .queue)) (v .hidden) waiting-R hidden-R (v .fuel) enough
 
-        abbrev front : Id → Bool
+        abbrev pub front : Id → Bool
         front x = done-paint .0 .vis x && done-paint .0 .hid x
 
         away-out : (x : Id) → Away v tips front x → front x ≡ false
@@ -231,7 +231,7 @@ module _ (v : Walk) (tips : List Id) (pre : Premises v tips) (coherent : Coheren
             let m : Mem x (kids w y) = rw (kids-are y r) (followed-sub (v .settings) x (links w y) (a .follows)) in
             done-paint .2 .onward y x (away-vis y b) (away-out y b) m
 
-        paint-parts : Parts front
+        pub paint-parts : Parts front
         unfolding Hidden
         paint-parts = record {
           apart = λ x a h. done-paint .2 .apart x (h .0) (away-vis x a) (away-out x a) (h .1) (reach-down x (h .0) (region-hidden v tips pre coherent (h .0) (h .1)) (h .2));

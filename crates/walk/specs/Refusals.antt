@@ -2,7 +2,7 @@
 -- Assumes nothing.
 use Prim.Native.Nat.{ℕ}
 use Rattle.walk.specs.declared.Refusal.{Refusal}
-use Rattle.walk.specs.declared.Refusal.the-variants.{BufferTooSmall, InputTooLarge, PartialId, CorruptStore, UnknownGraph, CorruptGraph, TipNotFound, TipUnreadable, CommitNotFound, CommitUnreadable, TooManyParents, Closed, UnreadableReach, GraphAtOdds, PairNotFalling, FalseName, FalseChecksum, TangledReach}
+use Rattle.walk.specs.declared.Refusal.the-variants.{BufferTooSmall, InputTooLarge, PartialId, CorruptStore, UnknownGraph, CorruptGraph, TipNotFound, TipUnreadable, CommitNotFound, CommitUnreadable, TooManyParents, Closed, UnreadableReach, GraphAtOdds, PairNotFalling, FalseName, FalseChecksum, UnfitStore, UnfitSeconds, ShortOutput, ReadingTwice, ReadingUnreadable, TangledReach, BadTerms, TooManyMoves}
 
 -- "no. | word | when"
 abbrev pub numberOf : Refusal → ℕ
@@ -23,4 +23,11 @@ numberOf GraphAtOdds = 14  -- graph at odds: a reached commit whose row has othe
 numberOf PairNotFalling = 15  -- pair not falling: from a reached commit to a parent of it (card 1)
 numberOf FalseName = 16  -- false name: an entry's id is not the digest of its body (card 2)
 numberOf FalseChecksum = 17  -- graph checksum false (card 2)
+numberOf UnfitStore = 18  -- unfit book: an entry is unreadable, a parent absent, or no levels satisfy the rule (card 4)
+numberOf UnfitSeconds = 19  -- seconds outside 0 to 17,179,869,183 (card 4)
+numberOf ShortOutput = 20  -- short output: the lent output is below the file (card 4)
+numberOf ReadingTwice = 21  -- reading given twice: two lines of one run with the same start (card 5)
+numberOf ReadingUnreadable = 22  -- reading unreadable: a line that starts so and goes on otherwise (card 5)
 numberOf TangledReach = 23  -- tangled reach: two tips have common commits and no best one (card 8)
+numberOf BadTerms = 24  -- bad term list: over 24 terms, out of order, overlapping, one that ends before it starts, or a month outside the table (card 9)
+numberOf TooManyMoves = 25  -- too many moves: over 12 (card 12)

@@ -63,7 +63,14 @@ pub enum Refusal {
     PairNotFalling,
     FalseName,
     FalseChecksum,
+    UnfitStore,
+    UnfitSeconds,
+    ShortOutput,
+    ReadingTwice,
+    ReadingUnreadable,
     TangledReach,
+    BadTerms,
+    TooManyMoves,
 }
 
 // What a call gives: a commit, the end, or a refusal.
@@ -141,7 +148,14 @@ pub fn number(r: Refusal) -> u8
         Refusal::PairNotFalling => 15,
         Refusal::FalseName => 16,
         Refusal::FalseChecksum => 17,
+        Refusal::UnfitStore => 18,
+        Refusal::UnfitSeconds => 19,
+        Refusal::ShortOutput => 20,
+        Refusal::ReadingTwice => 21,
+        Refusal::ReadingUnreadable => 22,
         Refusal::TangledReach => 23,
+        Refusal::BadTerms => 24,
+        Refusal::TooManyMoves => 25,
     }
 }
 

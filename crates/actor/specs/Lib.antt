@@ -1,0 +1,2 @@
+pub mod Person
+pub mod Read
