@@ -1,4 +1,6 @@
-pub mod Judging
-pub mod Noting
-pub mod Falling
+pub mod Taking
+pub mod Fresh
+pub mod Taken
+pub mod Steps
+pub mod Decided
 pub mod AllTests

@@ -1,120 +1,118 @@
--- What the passes of a tested opening do over the line that has the slots of all commits reached (document 02, card 1). Assumes nothing.
-use Prim.Native.Nat.{ℕ, _≤_, _<_}
+-- What the pass of a tested opening does along the line (document 02, card 1). Assumes nothing.
+use Prim.Native.Nat.{ℕ, suc, _+_, _*_, _≤_, _<_}
 use mathlib.Core.Path.{_≡_}
-use mathlib.Core.Bool.{Bool, true, false, _&&_, _||_}
-use mathlib.Core.List.{List, [], map}
+use mathlib.Core.Logic.{_⊎_}
+use mathlib.Core.Bool.{Bool, true, false}
+use mathlib.Core.List.{List, []}
 use lib.ListN.{length, getD}
-use lib.IntN.{ℤ, pos}
+use lib.IntN.{ℤ}
 use Rattle.hash.specs.Bytes.{Id, idBytes}
-use Rattle.date.specs.declared.Stamp.{Stamp}
-use Rattle.object.specs.Header.{Header, header}
-use Rattle.object.specs.Read.{readingOf}
-use Rattle.object.specs.declared.Reading.the-variants.{Readable as AsReadable}
-use Rattle.odb.specs.Store.{storeOk}
-use Rattle.commitgraph.specs.Graph.{graphOk, layoutOf}
-use Rattle.commitgraph.specs.declared.Layout.{Layout}
+use Rattle.object.specs.Header.{Header}
 use Rattle.commit.specs.declared.Cache.{Cache}
-use Rattle.hashtable.specs.Table.{idOf, Holds, Table}
-use Rattle.walk.specs.Lookup.{World, worldOf, rowAt, row, Pair, pairOf, ltPair}
-use Rattle.walk.specs.State.{isEmpty}
+use Rattle.walk.specs.Lookup.{World, worldOf, Pair, ltPair}
 use Rattle.walk.specs.Reach.{Mem, links}
 use Rattle.walk.specs.Demand.{Readable, pairAt}
-use Rattle.reading.specs.Files.{cacheOf}
-use Rattle.reach.specs.Memory.{mostSlots}
-use Rattle.reach.specs.Tested.{each, sameIds, sameTime, agreesIn, fallsIn}
-use Rattle.tested.specs.declared.judge.Judged.{Judged}
-use Rattle.tested.specs.declared.judge.Judged.the-variants.{Pair as PairOf, AtOdds}
+use Rattle.reach.specs.Search.{ReachedBy, Reached, AllReadable, Stuck}
+use Rattle.reach.specs.Memory.{Lent, lent, In}
+use Rattle.reach.specs.Seek.{Seeking}
+use Rattle.reach.specs.Tested.{agreesIn, fallsIn, each}
+use Rattle.judging.specs.Judge.{Files}
+use Rattle.falling.specs.Cells.{mostChild, slotPair, lowAt}
+use Rattle.tested.specs.declared.step.Step.{Step}
+use Rattle.tested.specs.declared.step.Step.the-variants.{Count, Unreadable, AtOdds, NoRoom}
+use Rattle.tested.specs.declared.along.Gone.{Gone}
+use Rattle.tested.specs.declared.along.Gone.the-variants.{Whole, Unreadable as NotReadable, AtOdds as IsAtOdds, NoRoom as TooSmall}
 
--- the files as an opening lends them: 4 to 6 do not apply, and the graph file is used
-pub record Files (c : Cache) (g s : List ℕ) : Type 0 where
-  pub cache : c ≡ cacheOf g true
-  pub store : storeOk idBytes s ≡ true
-  pub graph : (isEmpty g || graphOk idBytes g) ≡ true
-
--- ---- one commit
-
--- what `same_parents` answers of the row at position p with n parents, and of a body with as many
-pub record ComparesParents (g : List ℕ) (l : Layout) (p : ℕ) (b : List ℕ) (n : ℕ) (r : Bool) : Type 0 where
-  pub right : l ≡ layoutOf idBytes g → (ps : List (Id × ℤ)) (v : ℕ) (t : ℤ) → rowAt g p ≡ row ps v t → n ≡ length ps
-      → header idBytes b .tree ≡ true → n ≡ length (header idBytes b .ids) → r ≡ sameIds (map (λ q. q .0) ps) (header idBytes b .ids)
-
--- what `row_agrees` answers, where the body is readable
-pub record ComparesRow (g : List ℕ) (l : Layout) (p n : ℕ) (time : ℤ) (b : List ℕ) (r : Bool) : Type 0 where
-  pub right : l ≡ layoutOf idBytes g → (ps : List (Id × ℤ)) (v : ℕ) (t : ℤ) → rowAt g p ≡ row ps v t → n ≡ length ps
-      → (k : ℕ) (stamp : Stamp) → readingOf (header idBytes b) ≡ AsReadable k stamp
-      → r ≡ (sameIds (map (λ q. q .0) ps) (header idBytes b .ids) && sameTime (stamp .seconds .0) time)
-
--- by the answer: the graph agrees and this is the pair, or it does not
-abbrev pub ToldJudged : World → Id → Judged → Type 0
-ToldJudged w x (PairOf q) = (agreesIn w x ≡ true) × (pairOf q ≡ pairAt w x)
-ToldJudged w x AtOdds = agreesIn w x ≡ false
-
--- what `judge` answers of a commit that is readable in the store
-pub record Judges (c : Cache) (g s : List ℕ) (x : Id) (r : Judged) : Type 0 where
-  pub right : Files c g s → Readable (worldOf s g) x → ToldJudged (worldOf s g) x r
-
--- ---- the line
-
--- the commits l stand in the first n slots of the line
-pub record Lined (names line : List ℕ) (n : ℕ) (l : List Id) : Type 0 where
-  pub count : length l ≡ n
-  pub ids : (i : ℕ) → i < n → idOf idBytes names (getD line i 0) ≡ getD l i []
-
--- the pair in a slot
-abbrev pub slotPair : List ℕ → List ℤ → ℕ → Pair
-slotPair levels times k = record { generation = getD levels k 0; time = getD times k (pos 0) }
-
--- the pairs of the first n commits stand in their slots
-pub record Paired (w : World) (line levels : List ℕ) (times : List ℤ) (n : ℕ) (l : List Id) : Type 0 where
-  pub pair : (i : ℕ) → i < n → slotPair levels times (getD line i 0) ≡ pairAt w (getD l i [])
-
--- what `note_pairs` does: it answers whether the graph agrees on each commit, and where it does all pairs stand
-pub record NotesPairs (c : Cache) (g s names line levels levels′ : List ℕ) (times times′ : List ℤ) (n : ℕ) (r : Bool) : Type 0 where
-  pub right : Files c g s → (l : List Id) → Lined names line n l → ((i : ℕ) → i < n → Readable (worldOf s g) (getD l i []))
-      → ((i : ℕ) → i < n → (getD line i 0 < length levels) × (getD line i 0 < length times))
-      → (r ≡ each (agreesIn (worldOf s g)) l) × (r ≡ true → Paired (worldOf s g) line levels′ times′ n l)
-
--- ---- pairs fall
-
--- the lent buffers that pairs are compared in
-pub record Slots : Type 0 where
-  pub names : List ℕ
-  pub marks : List ℕ
+-- the lent buffers: those that the search works in, and the pairs of the slots
+pub record Held : Type 0 where
+  pub lent : Lent
   pub levels : List ℕ
   pub times : List ℤ
 
-abbrev pub slotsIn : List ℕ → List ℕ → List ℕ → List ℤ → Slots
-slotsIn names marks levels times = record { names = names; marks = marks; levels = levels; times = times }
+abbrev pub held : List ℕ → List ℕ → List ℕ → List ℤ → List ℕ → Held
+held names marks levels times line = record { lent = lent names marks line; levels = levels; times = times }
 
--- the table is right
-pub record Right (a : Slots) (cap : ℕ) : Type 0 where
-  pub table : Table idBytes false (a .names) (a .marks) cap
-  pub small : cap ≤ mostSlots
+-- the slot at place i of the line, and the pair in a slot
+abbrev pub slotAt : ℕ → Held → ℕ → ℕ
+slotAt from m i = getD (m .lent .line) (from + i) 0
 
--- the commit x stands in a slot with the pair q
-pub record Stands (a : Slots) (cap : ℕ) (x : Id) (q : Pair) : Type 0 where
-  pub slot : ℕ
-  pub holds : Holds idBytes false (a .names) (a .marks) cap x slot
-  pub pair : slotPair (a .levels) (a .times) slot ≡ q
+abbrev pub pairIn : Held → ℕ → Pair
+pairIn m s = slotPair (m .levels) (m .times) s
 
--- what `falls_to` answers of the pair in a slot and the commit x
-pub record FallsTo (a : Slots) (cap slot : ℕ) (x : Id) (r : Bool) : Type 0 where
-  pub right : Right a cap → (q : Pair) → Stands a cap x q → r ≡ ltPair q (slotPair (a .levels) (a .times) slot)
+-- whether a pair lies below the cell of a slot
+abbrev pub lowOf : Held → ℕ → Pair → Bool
+lowOf m s q = lowAt (m .lent .line) (m .levels) (m .times) s q
 
--- what `falls_from` answers of the n parents of a header, with f for their pairs
-pub record FallsFrom (a : Slots) (cap slot : ℕ) (h : Header) (n : ℕ) (r : Bool) : Type 0 where
-  pub right : Right a cap → h .tree ≡ true → n ≡ length (h .ids) → (f : Id → Pair) → ((p : Id) → Mem p (h .ids) → Stands a cap p (f p))
-      → r ≡ each (λ p. ltPair (f p) (slotPair (a .levels) (a .times) slot)) (h .ids)
+-- the pair q lies below those of the children, among the first k of l, of the commit in slot s
+abbrev pub UnderAll : World → ℕ → Lent → List Id → ℕ → ℕ → Pair → Type 0
+UnderAll w cap m l k s q = (i : ℕ) → i < k → (p : Id) → Mem p (links w (getD l i [])) → In cap m p s → ltPair q (pairAt w (getD l i [])) ≡ true
 
--- what `falls_at` answers of the commit x in a slot
-pub record FallsAt (a : Slots) (cap : ℕ) (s : List ℕ) (slot : ℕ) (r : Bool) : Type 0 where
-  pub right : Right a cap → storeOk idBytes s ≡ true → (g : List ℕ) (x : Id) → idOf idBytes (a .names) slot ≡ x → Readable (worldOf s g) x
-      → slotPair (a .levels) (a .times) slot ≡ pairAt (worldOf s g) x → ((p : Id) → Mem p (links (worldOf s g) x) → Stands a cap p (pairAt (worldOf s g) p))
-      → r ≡ fallsIn (worldOf s g) x
+-- room for cells and pairs
+pub record Roomy (cap from : ℕ) (m : Held) : Type 0 where
+  pub levels : cap ≤ length (m .levels)
+  pub times : cap ≤ length (m .times)
+  pub below : 2 * cap ≤ from
+  pub small : cap ≤ mostChild
 
--- what `all_fall` answers of the commits l
-pub record AllFall (a : Slots) (line : List ℕ) (cap : ℕ) (s : List ℕ) (n : ℕ) (r : Bool) : Type 0 where
-  pub right : Right a cap → storeOk idBytes s ≡ true → (g : List ℕ) (l : List Id) → Lined (a .names) line n l → ((i : ℕ) → i < n → Readable (worldOf s g) (getD l i []))
-      → Paired (worldOf s g) line (a .levels) (a .times) n l
-      → ((i : ℕ) → i < n → (p : Id) → Mem p (links (worldOf s g) (getD l i [])) → Stands a cap p (pairAt (worldOf s g) p))
-      → r ≡ each (fallsIn (worldOf s g)) l
+-- the search has met the list l and read its first k: the graph agrees on these, their pairs stand in their slots, and the cell of a slot stands for
+-- all children among them
+pub record Going (w : World) (u roots : List Id) (cap from : ℕ) (m : Held) (n : ℕ) (l : List Id) (k : ℕ) : Type 0 where
+  pub seeking : Seeking w u roots false cap from (m .lent) n l k
+  pub roomy : Roomy cap from m
+  pub agrees : (i : ℕ) → i < k → agreesIn w (getD l i []) ≡ true
+  pub paired : (i : ℕ) → i < k → pairIn m (slotAt from m i) ≡ pairAt w (getD l i [])
+  pub cells : (s : ℕ) → s < cap → (getD (m .lent .line) (2 * s) 0 ≡ 0) ⊎ ((i : ℕ) × (i < k) × (getD (m .lent .line) (2 * s) 0 ≡ suc (slotAt from m i)))
+  pub sound : (s : ℕ) (q : Pair) → s < cap → lowOf m s q ≡ true → UnderAll w cap (m .lent) l k s q
+  pub tight : (s : ℕ) (q : Pair) → s < cap → UnderAll w cap (m .lent) l k s q → lowOf m s q ≡ true
+
+-- so from a list that is not known
+pub record GoesOn (w : World) (u roots : List Id) (cap from : ℕ) (m : Held) (n k : ℕ) : Type 0 where
+  pub list : List Id
+  pub going : Going w u roots cap from m n list k
+
+-- "14 graph at odds": a commit that is reached, on which the graph does not agree; the search can go on
+pub record Off (w : World) (u roots : List Id) (cap from : ℕ) (m : Lent) (n : ℕ) : Type 0 where
+  pub commit : Id
+  pub reached : ReachedBy w roots commit
+  pub odd : agreesIn w commit ≡ false
+  pub list : List Id
+  pub seeking : Seeking w u roots false cap from m n list 0
+
+-- ---- one commit
+
+abbrev pub ToldStep : World → List Id → List Id → ℕ → ℕ → Held → ℕ → ℕ → Step → Type 0
+ToldStep w u roots cap from m′ n k (Count n′) = GoesOn w u roots cap from m′ n′ (suc k)
+ToldStep w u roots cap from m′ n k Unreadable = Stuck w roots
+ToldStep w u roots cap from m′ n k AtOdds = Off w u roots cap from (m′ .lent) n
+ToldStep w u roots cap from m′ n k NoRoom = ⊥
+
+-- the commit at place k in hand: its slot, its header with c parents, its pair q
+pub record InHand (w : World) (from : ℕ) (m : Held) (l : List Id) (k slot : ℕ) (q : Pair) (h : Header) (c : ℕ) : Type 0 where
+  pub slot-is : slot ≡ slotAt from m k
+  pub tree : h .tree ≡ true
+  pub count : c ≡ length (h .ids)
+  pub links-are : links w (getD l k []) ≡ h .ids
+  pub readable : Readable w (getD l k [])
+  pub agrees : agreesIn w (getD l k []) ≡ true
+  pub pair : q ≡ pairAt w (getD l k [])
+
+-- what `take` does
+pub record Takes (cap from : ℕ) (m m′ : Held) (n slot : ℕ) (q : Pair) (h : Header) (c : ℕ) (r : Step) : Type 0 where
+  pub right : (w : World) (u roots l : List Id) (k : ℕ) → Going w u roots cap from m n l k → k < n → InHand w from m l k slot q h c → ToldStep w u roots cap from m′ n k r
+
+-- what `read_at` does
+pub record Steps (c : Cache) (g s : List ℕ) (cap from : ℕ) (m m′ : Held) (n k : ℕ) (r : Step) : Type 0 where
+  pub right : Files c g s → (u roots l : List Id) → Going (worldOf s g) u roots cap from m n l k → k < n → ToldStep (worldOf s g) u roots cap from m′ n k r
+
+-- ---- the line
+
+-- all is reached and read; and where pairs fall is told by the cells
+abbrev pub ToldGone : World → List Id → List Id → ℕ → ℕ → Held → Gone → Type 0
+ToldGone w u roots cap from m′ (Whole n) = (k : ℕ) × (n ≤ k) × GoesOn w u roots cap from m′ n k
+ToldGone w u roots cap from m′ NotReadable = Stuck w roots
+ToldGone w u roots cap from m′ (IsAtOdds n) = Off w u roots cap from (m′ .lent) n
+ToldGone w u roots cap from m′ TooSmall = ⊥
+
+-- what `go_along` does
+pub record Goes (c : Cache) (g s : List ℕ) (cap from : ℕ) (m m′ : Held) (n : ℕ) (r : Gone) : Type 0 where
+  pub right : Files c g s → (u roots : List Id) → GoesOn (worldOf s g) u roots cap from m n 0 → ToldGone (worldOf s g) u roots cap from m′ r

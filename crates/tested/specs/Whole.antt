@@ -1,27 +1,36 @@
 -- What the tests of a tested opening answer (document 02, card 1). Assumes nothing.
-use Prim.Native.Nat.{ℕ, _≤_}
+use Prim.Native.Nat.{ℕ}
 use mathlib.Core.Path.{_≡_}
-use mathlib.Core.Bool.{true, false}
+use mathlib.Core.Bool.{true}
 use mathlib.Core.Option.{none}
 use mathlib.Core.List.{List}
-use lib.ListN.{length}
-use Rattle.hash.specs.Bytes.{Id}
+use Rattle.hash.specs.Bytes.{Id, idBytes}
+use Rattle.odb.specs.Store.{storeOk}
 use Rattle.commit.specs.declared.Cache.{Cache}
-use Rattle.walk.specs.Lookup.{worldOf}
+use Rattle.walk.specs.declared.Refusal.the-variants.{UnreadableReach}
+use Rattle.walk.specs.Lookup.{World, worldOf}
 use Rattle.walk.specs.Opening.{Input, Lengths, refusal, roomFor}
-use Rattle.walk.specs.Reach.{Mem, links}
-use Rattle.walk.specs.Demand.{Readable}
 use Rattle.opening.specs.declared.Checked.{Checked}
+use Rattle.opening.specs.declared.Checked.the-variants.{Refused}
 use Rattle.opening.specs.Checks.{checkedOf}
-use Rattle.reach.specs.Memory.{mostSlots, lent, Lists}
+use Rattle.reach.specs.Search.{Reached, AllReadable, Stuck}
+use Rattle.reach.specs.Memory.{Lent}
 use Rattle.reach.specs.Tested.{each, agreesIn, fallsIn, judged, testedRefusal}
-use Rattle.tested.specs.Passes.{Files, Slots}
+use Rattle.judging.specs.Judge.{Files}
+use Rattle.tested.specs.Passes.{Held, GoesOn, Off}
 
--- what `test_line` answers of the commits l, all readable, which have the parents of each of them
-pub record TestsLine (c : Cache) (g s : List ℕ) (a : Slots) (line : List ℕ) (cap n : ℕ) (r : Checked) : Type 0 where
-  pub right : Files c g s → cap ≤ mostSlots → cap ≤ length (a .levels) → cap ≤ length (a .times) → (l : List Id) → Lists false cap 0 (lent (a .names) (a .marks) line) n l
-      → ((x : Id) → Mem x l → Readable (worldOf s g) x) → ((x p : Id) → Mem x l → Mem p (links (worldOf s g) x) → Mem p l)
-      → r ≡ checkedOf (judged true (each (agreesIn (worldOf s g)) l) (each (fallsIn (worldOf s g)) l))
+-- 13 where a commit that is reached is not readable; else what the other two tests say of all that is reached
+pub data Answered (w : World) (roots : List Id) (r : Checked) : Type 0 where
+  stuck : Stuck w roots → r ≡ Refused UnreadableReach → Answered w roots r
+  decided : (l : List Id) → Reached w roots l → AllReadable w roots → r ≡ checkedOf (judged true (each (agreesIn w) l) (each (fallsIn w) l)) → Answered w roots r
+
+-- what `at_odds` answers
+pub record Odds (cap from : ℕ) (s : List ℕ) (m : Lent) (n : ℕ) (r : Checked) : Type 0 where
+  pub right : storeOk idBytes s ≡ true → (g : List ℕ) (u roots : List Id) → Off (worldOf s g) u roots cap from m n → Answered (worldOf s g) roots r
+
+-- what `test_from` answers
+pub record TestsFrom (c : Cache) (g s : List ℕ) (cap from : ℕ) (m : Held) (n : ℕ) (r : Checked) : Type 0 where
+  pub right : Files c g s → (u roots : List Id) → GoesOn (worldOf s g) u roots cap from m n 0 → Answered (worldOf s g) roots r
 
 -- what `test` answers, where 1 to 6 do not apply
 pub record Tests (i : Input) (lent : Lengths) (r : Checked) : Type 0 where

@@ -1,0 +1,169 @@
+// One commit of the line is read: its body once, its row beside it, its parents noted, and their cells lowered by its pair.
+use commit::Cache;
+use commitgraph::Layout;
+use date::Seconds;
+use hash::Kind;
+use hashtable::table;
+use judging::Judged;
+use object::Reading;
+use reach::Grown;
+use walk::GenThenTime;
+ghost use mathlib.Core.Path.{_≡_};
+ghost use Rattle.hash.specs.Bytes.{idBytes};
+ghost use Rattle.object.specs.Header.{header};
+ghost use Rattle.hashtable.specs.Table.{idOf};
+ghost use Rattle.reading.specs.Stored.{GivesBody};
+ghost use Rattle.judging.specs.Judge.{Judges};
+ghost use Rattle.walk.specs.Lookup.{pairOf};
+ghost use Rattle.tested.specs.Passes.{held, Takes, Steps};
+
+// How many slots the line has then; the commit is not readable; the commit-graph file is at odds with it; or the lent memory is too small.
+pub enum Step {
+    Count(usize),
+    Unreadable,
+    AtOdds,
+    NoRoom,
+}
+
+// The body of the commit in a slot, a part of the store; empty where the store has none. It may stand under entry near.
+fn body_in<'a>(names: &[u8], slot: u32, store: &'a [u8], near: usize) -> &'a [u8]
+    ensures { λ r. ⌜ GivesBody idBytes (now (store .entry)) (idOf idBytes (now (names .entry)) slot) (now r) ⌝ }
+{
+    let id = table::id_of(Kind::Sha1, names, slot as usize);
+    odb::body(store, odb::locate_near(Kind::Sha1, store, id, near))
+}
+
+// The commit in a slot, whose body has n parents and these seconds, beside its row.
+fn judge_in(
+    names: &[u8],
+    slot: u32,
+    cache: Cache,
+    graph: &[u8],
+    store: &[u8],
+    near: usize,
+    body: &[u8],
+    n: usize,
+    seconds: Seconds,
+) -> Judged
+    ensures { λ r. ⌜ Judges cache (now (graph .entry)) (now (store .entry)) (idOf idBytes (now (names .entry)) slot) (now (body .entry)) n (seconds .0) r ⌝ }
+{
+    let id = table::id_of(Kind::Sha1, names, slot as usize);
+    judging::judge(cache, graph, store, id, near, body, n, seconds)
+}
+
+// The commit in a slot has this pair and so many parents in its body: the pair is set down, the parents are noted after the n of the line, and
+// their cells lowered.
+fn take(
+    names: &mut [u8],
+    marks: &mut [u8],
+    levels: &mut [u32],
+    times: &mut [i64],
+    line: &mut [u32],
+    cap: usize,
+    from: usize,
+    n: usize,
+    slot: u32,
+    pair: GenThenTime,
+    body: &[u8],
+    parents: usize,
+    graph: &[u8],
+    l: Layout,
+    position: usize,
+) -> Step
+    ensures { λ r. ⌜ Takes cap from (held (now (names .entry)) (now (marks .entry)) (now (levels .entry)) (now (times .entry)) (now (line .entry))) (held (now (names .exit)) (now (marks .exit)) (now (levels .exit)) (now (times .exit)) (now (line .exit))) n slot (pairOf pair) (header idBytes (now (body .entry))) parents r ⌝ }
+{
+    falling::set_pair(levels, times, slot, pair);
+    let grown = reach::note_parents(
+        names,
+        marks,
+        line,
+        cap,
+        false,
+        from,
+        Grown::Count(n),
+        body,
+        parents,
+    );
+    match grown {
+        Grown::Count(m) => {
+            falling::lower_parents(
+                names,
+                marks,
+                levels,
+                times,
+                line,
+                cap,
+                from,
+                n,
+                m,
+                slot,
+                body,
+                parents,
+                graph,
+                l,
+                position,
+            );
+            Step::Count(m)
+        }
+        Grown::NoRoom => Step::NoRoom,
+    }
+}
+
+// Reads the commit at place k of the n.
+pub fn read_at(
+    names: &mut [u8],
+    marks: &mut [u8],
+    levels: &mut [u32],
+    times: &mut [i64],
+    line: &mut [u32],
+    cap: usize,
+    from: usize,
+    cache: Cache,
+    graph: &[u8],
+    store: &[u8],
+    n: usize,
+    k: usize,
+) -> Step
+    ensures { λ r. ⌜ Steps cache (now (graph .entry)) (now (store .entry)) cap from (held (now (names .entry)) (now (marks .entry)) (now (levels .entry)) (now (times .entry)) (now (line .entry))) (held (now (names .exit)) (now (marks .exit)) (now (levels .exit)) (now (times .exit)) (now (line .exit))) n k r ⌝ }
+{
+    let slot = falling::slot_after(line, from, k);
+    let near = falling::hint_of(line, slot);
+    let body = body_in(names, slot, store, near);
+    match object::readable(Kind::Sha1, body) {
+        Reading::Readable { parents, stamp } => {
+            let seconds = stamp.seconds;
+            match judge_in(
+                names,
+                slot,
+                cache,
+                graph,
+                store,
+                near,
+                body,
+                parents,
+                seconds,
+            ) {
+                Judged::Pair { position, pair } => take(
+                    names,
+                    marks,
+                    levels,
+                    times,
+                    line,
+                    cap,
+                    from,
+                    n,
+                    slot,
+                    pair,
+                    body,
+                    parents,
+                    graph,
+                    reading::layout_of(cache),
+                    position,
+                ),
+                Judged::AtOdds => Step::AtOdds,
+            }
+        }
+        Reading::Bad => Step::Unreadable,
+        Reading::Crowded => Step::Unreadable,
+    }
+}
