@@ -1,8 +1,9 @@
 """Document 01's walk, from its words alone, and document 02's cards; the readers of the two files are tools/formats.py, from the same words.
 
 `Files` is what the two files say of an id. `Walk` is an opening and its next calls. Sentences in quotation marks are the documents'.
-`reach` and `Tested` are card 1, `commit_id` and `check_names` card 2, `merge_base` cards 8 and 11.
+`reach` and `Tested` are card 1, `commit_id` and `check_names` card 2, `write_graph` card 4, `merge_base` cards 8 and 11.
 """
+import collections
 import hashlib
 import os
 import sys
@@ -429,3 +430,85 @@ def merge_base(store, one, other, room=True):
         return 23, None
     # card 11: "give the first: greatest book seconds, then the smallest id"
     return 0, min(best, key=lambda name: (-files.header(name).seconds, name))
+
+
+# ---- card 4
+
+MOST_SECONDS = 17179869183
+
+
+def levels_of(parents):
+    """"level 1 without parents, else one more than the greatest parent's", by rounds; None where "no levels can satisfy the rule". parents: for each
+    entry the entries that are its parents. """
+    levels, left = {}, {k: set(links) for k, links in enumerate(parents)}
+    ready = [k for k in left if not left[k]]
+    children = collections.defaultdict(set)
+    for k, links in left.items():
+        for p in links:
+            children[p].add(k)
+    while ready:
+        p = ready.pop()
+        levels[p] = 1 + max((levels[q] for q in parents[p]), default=0)
+        for k in children[p]:
+            left[k].discard(p)
+            if not left[k]:
+                ready.append(k)
+    return levels if len(levels) == len(parents) else None
+
+
+def graph_file(rows, width=20):
+    """The version 1 file of rows (id, tree, parents' positions, level, seconds), in id order: "OIDF, OIDL, CDAT, then EDGE only if some commit has over two
+    parents, its lists in row order; … SHA-1 at the end". Document 01: "There the list holds the second parent onward and ends at the first entry
+    with the top bit set, whose other bits are the last parent"; "Parent 0x70000000 is none". """
+    names, data, edge = [], b"", []
+    for name, tree, parents, level, seconds in rows:
+        names.append(name)
+        first = parents[0] if parents else formats.NONE
+        second = parents[1] if len(parents) == 2 else formats.NONE
+        if len(parents) > 2:
+            second = formats.TOP + len(edge)
+            edge += parents[1:-1] + [formats.TOP + parents[-1]]
+        # "a u32 whose high 30 bits are the level and whose low 2 bits are the high bits of the 34-bit seconds, then their low 32"
+        data += tree + b"".join(map(formats.u32, (first, second, level * 4 + seconds // 2 ** 32, seconds % 2 ** 32)))
+    chunks = [(b"OIDF", formats.fan(names)), (b"OIDL", b"".join(names)), (b"CDAT", data)]
+    chunks += [(b"EDGE", b"".join(map(formats.u32, edge)))] if edge else []
+    at = 8 + 12 * (len(chunks) + 1)
+    out = b"CGPH" + bytes([1, 1 if width == 20 else 2, len(chunks), 0])
+    for name, part in chunks:
+        out += name + formats.u64(at)
+        at += len(part)
+    out += bytes(4) + formats.u64(at) + b"".join(part for _, part in chunks)
+    return out + hashlib.new("sha1" if width == 20 else "sha256", out).digest()
+
+
+def graph_length(store, lent, width=20):
+    """The number of the refusal, 0 where there is none, and the file. "Refused: 18 unfit book (an entry unreadable, a parent absent, or no levels can
+    satisfy the rule), 19 seconds outside 0 to 17,179,869,183 …; in that order after 2, 4 and 1 (lent levels of under one u32 per entry)". """
+    if len(store) > MOST_BYTES:
+        return 2, b""
+    entries = formats.store_entries(store, width)
+    if entries is None:
+        return 4, b""
+    if lent < len(entries):
+        return 1, b""
+    place = {name: k for k, (name, _, _) in enumerate(entries)}
+    bodies = [store[start:end] for _, start, end in entries]
+    read = [formats.reading(body, width) for body in bodies]
+    if any(r[0] != "readable" or any(p not in place for p in r[1]) for r in read):
+        return 18, b""
+    parents = [[place[p] for p in r[1]] for r in read]
+    levels = levels_of(parents)
+    if levels is None:
+        return 18, b""
+    seconds = [r[2][0] for r in read]
+    if any(not 0 <= s <= MOST_SECONDS for s in seconds):
+        return 19, b""
+    trees = [formats.id_line(b"tree ", body, width)[0] for body in bodies]
+    return 0, graph_file([(name, trees[k], parents[k], levels[k], seconds[k]) for k, (name, _, _) in enumerate(entries)], width)
+
+
+def write_graph(store, lent, room, width=20):
+    """The same, and then "20 short output". "A refusal leaves the output buffer alone; an accepted writing alters only the file's own bytes there and
+    returns their number." """
+    number, file = graph_length(store, lent, width)
+    return (20, b"") if number == 0 and room < len(file) else (number, file)

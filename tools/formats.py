@@ -32,17 +32,17 @@ def store(bodies):
     return out + entries + u32(end) + u32(len(bodies))
 
 
-def store_entries(b):
-    """The entries (id, start, end) of a good store; None where the layout does not hold."""
+def store_entries(b, width=20):
+    """The entries (id, start, end) of a good store; None where the layout does not hold. width: of ids (card 13)."""
     if len(b) < 8:
         return None
     start, count = be32(b, len(b) - 8), be32(b, len(b) - 4)
-    if len(b) != start + 24 * count + 8:
+    if len(b) != start + (width + 4) * count + 8:
         return None
     out, last, end = [], None, 0
     for k in range(count):
-        at = start + 24 * k
-        name, stop = b[at:at + 20], be32(b, at + 20)
+        at = start + (width + 4) * k
+        name, stop = b[at:at + width], be32(b, at + width)
         if (last is not None and not last < name) or stop < end:
             return None
         out.append((name, end, stop))
@@ -52,14 +52,14 @@ def store_entries(b):
 
 # ---- header lines
 
-def id_line(word, b):
-    n = len(word)
-    if b[:n] != word or len(b) < n + 41 or b[n + 40:n + 41] != b"\n":
+def id_line(word, b, width=20):
+    n, end = len(word), len(word) + 2 * width
+    if b[:n] != word or b[end:end + 1] != b"\n":
         return None
-    digits = b[n:n + 40]
+    digits = b[n:end]
     if any(c not in b"0123456789abcdef" for c in digits):
         return None
-    return bytes.fromhex(digits.decode()), b[n + 41:]
+    return bytes.fromhex(digits.decode()), b[end + 1:]
 
 
 def author_line(b):
@@ -104,10 +104,10 @@ def committer_line(b):
     return sign * int(tail[:n]), zone(tail[n:])
 
 
-def parent_lines(b):
+def parent_lines(b, width=20):
     out = []
     while True:
-        t = id_line(b"parent ", b)
+        t = id_line(b"parent ", b, width)
         if t is None:
             return out, b
         out.append(t[0])
@@ -122,12 +122,12 @@ def stamp_only(body):
     return None if rest is None else committer_line(rest)
 
 
-def reading(body):
+def reading(body, width=20):
     """('readable', parents, (seconds, zone)), ('crowded',) or ('bad',): the earlier line decides."""
-    t = id_line(b"tree ", body)
+    t = id_line(b"tree ", body, width)
     if t is None:
         return ("bad",)
-    ids, rest = parent_lines(t[1])
+    ids, rest = parent_lines(t[1], width)
     if len(ids) > 256:
         return ("crowded",)
     rest = author_line(rest)

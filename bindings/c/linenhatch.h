@@ -39,6 +39,7 @@ extern "C" {
 #define LINENHATCH_SECONDS 2u                                             /* int64_t */
 #define LINENHATCH_CHECK_NUMBERS 1u                                       /* uint64_t, of a check of names */
 #define LINENHATCH_BASE_NUMBERS 1u                                        /* uint64_t, of where two series part */
+#define LINENHATCH_GRAPH_NUMBERS 1u                                       /* uint64_t, of writing a graph file */
 
 /* ---- where a number stands in numbers */
 
@@ -62,6 +63,9 @@ extern "C" {
 
 /* of where two series part alone: */
 #define LINENHATCH_HAS_BASE 0 /* 1 where id holds a commit, else 0 */
+
+/* of writing a graph file alone: */
+#define LINENHATCH_FILE_BYTES 0 /* how many bytes the file has, 0 where there is none */
 
 /* ---- results: a commit or an opening that is accepted is 0, the end 100, no room 101, all others are refusals */
 
@@ -95,8 +99,23 @@ extern "C" {
 #define LINENHATCH_FALSE_NAME 16u     /* a commit's id is not the digest of its body */
 #define LINENHATCH_FALSE_CHECKSUM 17u /* the graph file does not end in the digest of the rest */
 
+/* of writing a graph file */
+#define LINENHATCH_UNFIT_STORE 18u   /* a commit cannot be read or has over 256 parents, a parent is not in the store, or parents run in a circle */
+#define LINENHATCH_UNFIT_SECONDS 19u /* a commit's time is outside 0 to 17,179,869,183 */
+#define LINENHATCH_SHORT_OUTPUT 20u  /* the output is shorter than the file */
+
+/* of readings in messages */
+#define LINENHATCH_READING_TWICE 21u      /* two lines of a message start with the same reading */
+#define LINENHATCH_READING_UNREADABLE 22u /* a line starts with a reading and goes on otherwise than with its number */
+
 /* of where two series part */
 #define LINENHATCH_TANGLED_REACH 23u /* commits are reachable from both tips and none is best: parents run in a circle */
+
+/* of a report by terms */
+#define LINENHATCH_BAD_TERMS 24u /* over 24 terms, out of order, overlapping, ending before it starts, or a month outside the calendar */
+
+/* of a trace */
+#define LINENHATCH_TOO_MANY_MOVES 25u /* over 12 moves */
 
 /* How many places a walk over these files and lists needs. It depends on no setting and on no excluded id, and is given for any bytes,
  * also for files that an opening would refuse. */
@@ -230,6 +249,32 @@ uint32_t linenhatch_merge_base(
     uint32_t *line, size_t line_len,
     const uint8_t *parents, size_t parents_len,
     uint8_t *id, size_t id_len,
+    uint64_t *numbers, size_t numbers_len);
+
+/* How long the commit-graph file of a store is: 0 where it is said, else the number of the first refusal in the order 2, 4, 1, 18, 19.
+ *
+ * width: of the ids that the store has, 32 for SHA-256, any other number for SHA-1 with 20 bytes. numbers: the file's bytes, 0 after a refusal.
+ * generations: one for each entry of the store, as many as its last four bytes say; 1: they are fewer. After 2, 4 and 1 they are as they were,
+ * after all else what they hold is not said. 18: an entry of the store is not readable (a header line is bad, or it has over 256 parents), a
+ * parent is not in the store, or parents run in a circle (a commit that is its own parent too). 19: the seconds of an entry are outside 0 to
+ * 17,179,869,183. Where numbers has no room the result is 101, before all other tests, and nothing is altered. */
+uint32_t linenhatch_graph_length(
+    uint32_t width,
+    const uint8_t *store, size_t store_len,
+    uint32_t *generations, size_t generations_len,
+    uint64_t *numbers, size_t numbers_len);
+
+/* Writes the commit-graph file of a store, git's version 1 with the chunks OIDF, OIDL, CDAT and, where a commit has over two parents, EDGE: 0 where it
+ * stands at the start of output, else the number of the first refusal in the order 2, 4, 1, 18, 19, 20.
+ *
+ * What is lent is that of linenhatch_graph_length, and output: of at least the length that it gives. 20: it is shorter. No byte of output past the
+ * file's is altered, and after a refusal none at all. The generation of a commit without parents is 1, of any other one more than the greatest of its
+ * parents'. It takes time in proportion to the store and its links. */
+uint32_t linenhatch_write_graph(
+    uint32_t width,
+    const uint8_t *store, size_t store_len,
+    uint32_t *generations, size_t generations_len,
+    uint8_t *output, size_t output_len,
     uint64_t *numbers, size_t numbers_len);
 
 #ifdef __cplusplus

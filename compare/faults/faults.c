@@ -598,6 +598,7 @@ static void all_at_once(void)
 }
 
 #include "parting.h"
+#include "writing.h"
 
 static const struct {
     const char *name;
@@ -648,6 +649,7 @@ static const struct {
     {"all random", all_random, 6},
     {"all of these at once", all_at_once, 10},
     {"where two series part", parted, 20},
+    {"writing graph files", written, 20},
 };
 #define KINDS (sizeof kinds / sizeof *kinds)
 
@@ -783,6 +785,7 @@ static void print_table(void)
     printf("%" PRIu64 " openings and %" PRIu64 " next calls; the longest call took %.1f ms (case %" PRIu64 ", %s)\n", openings, calls,
            1000 * longest, longest_case, kind_name(longest_kind));
     print_partings();
+    print_writings();
 }
 
 static uint64_t calls = 5000000;

@@ -18,6 +18,8 @@ pub(crate) const CALL_SECONDS: usize = 2;
 pub(crate) const CHECK_NUMBERS: usize = 1;
 /// How many numbers the call for where two series part sets down.
 pub(crate) const BASE_NUMBERS: usize = 1;
+/// How many numbers the writing of a commit-graph file sets down.
+pub(crate) const GRAPH_NUMBERS: usize = 1;
 
 /// The files, lists and settings that an opening and each of its calls are lent. No call reads the tips.
 #[derive(Clone, Debug)]
@@ -198,6 +200,28 @@ unsafe extern "C" {
         numbers: *mut u64,
         numbers_len: usize,
     ) -> u32;
+
+    fn linenhatch_graph_length(
+        width: u32,
+        store: *const u8,
+        store_len: usize,
+        generations: *mut u32,
+        generations_len: usize,
+        numbers: *mut u64,
+        numbers_len: usize,
+    ) -> u32;
+
+    fn linenhatch_write_graph(
+        width: u32,
+        store: *const u8,
+        store_len: usize,
+        generations: *mut u32,
+        generations_len: usize,
+        output: *mut u8,
+        output_len: usize,
+        numbers: *mut u64,
+        numbers_len: usize,
+    ) -> u32;
 }
 
 /// How many places a walk over these files and lists needs.
@@ -356,6 +380,40 @@ pub(crate) fn merge_base(
     }
 }
 
+/// How long the commit-graph file of a store is: 0, or the number of the refusal; never 101, as in `open`.
+pub(crate) fn graph_length(width: u32, store: &[u8], generations: &mut [u32], numbers: &mut [u64; GRAPH_NUMBERS]) -> u32 {
+    // SAFETY: as in `open`; `generations` and `numbers` are borrowed alone through `&mut`.
+    unsafe {
+        linenhatch_graph_length(
+            width,
+            store.as_ptr(),
+            store.len(),
+            generations.as_mut_ptr(),
+            generations.len(),
+            numbers.as_mut_ptr(),
+            numbers.len(),
+        )
+    }
+}
+
+/// Writes the commit-graph file of a store: 0, or the number of the refusal; never 101, as in `open`.
+pub(crate) fn write_graph(width: u32, store: &[u8], generations: &mut [u32], output: &mut [u8], numbers: &mut [u64; GRAPH_NUMBERS]) -> u32 {
+    // SAFETY: as in `open`; `generations`, `output` and `numbers` are borrowed alone through `&mut`.
+    unsafe {
+        linenhatch_write_graph(
+            width,
+            store.as_ptr(),
+            store.len(),
+            generations.as_mut_ptr(),
+            generations.len(),
+            output.as_mut_ptr(),
+            output.len(),
+            numbers.as_mut_ptr(),
+            numbers.len(),
+        )
+    }
+}
+
 /// The functions themselves, with buffers that the safe ones above never lend.
 #[cfg(test)]
 mod tests {
@@ -465,6 +523,35 @@ mod tests {
                 };
                 assert_eq!((result, out, numbers, format!("{memory:?}")), (NoRoom::NUMBER, [7; 20], [7], before));
             }
+        }
+    }
+
+    /// Before all else: also of a store that would be refused.
+    #[test]
+    fn a_writing_without_room() {
+        for store in [&STORE[..], &STORE[..7]] {
+            let (mut generations, mut output, mut numbers) = ([7u32; 1], [7u8; 1200], [7u64; GRAPH_NUMBERS]);
+            // SAFETY: as in `open`; no length is over the array's.
+            #[rustfmt::skip]
+            let results = unsafe {
+                [linenhatch_graph_length(20, store.as_ptr(), store.len(), generations.as_mut_ptr(), 1, numbers.as_mut_ptr(), 0),
+                 linenhatch_write_graph(
+                    20, store.as_ptr(), store.len(), generations.as_mut_ptr(), 1, output.as_mut_ptr(), 1200, numbers.as_mut_ptr(), 0)]
+            };
+            assert_eq!((results, generations, output, numbers), ([NoRoom::NUMBER; 2], [7], [7; 1200], [7]));
+        }
+    }
+
+    /// The file is as long as is said, and no byte past it is altered; in an output that is shorter by one byte none is.
+    #[test]
+    fn an_output_that_is_long_enough() {
+        for (width, length) in [(20, 1100), (32, 1112), (0, 1100), (u32::MAX, 1100)] {
+            let (mut output, mut numbers) = ([7u8; 1200], [9u64; GRAPH_NUMBERS]);
+            assert_eq!((graph_length(width, &STORE, &mut [], &mut numbers), numbers), (0, [length as u64]));
+            assert_eq!((write_graph(width, &STORE, &mut [], &mut output[..length - 1], &mut numbers), numbers), (20, [0]));
+            assert_eq!(output, [7; 1200]);
+            assert_eq!((write_graph(width, &STORE, &mut [], &mut output, &mut numbers), numbers), (0, [length as u64]));
+            assert_eq!((&output[..4], output[5], &output[length..]), (&b"CGPH"[..], if width == 32 { 2 } else { 1 }, &[7; 1200][length..]));
         }
     }
 

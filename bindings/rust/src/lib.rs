@@ -30,6 +30,8 @@
 
 #[cfg(feature = "walk")]
 mod ffi;
+#[cfg(feature = "walk")]
+mod graph;
 mod id;
 #[cfg(feature = "walk")]
 mod merge_base;
@@ -41,6 +43,8 @@ mod store;
 #[cfg(feature = "walk")]
 mod walk;
 
+#[cfg(feature = "walk")]
+pub use graph::{graph_length, write_graph};
 pub use id::{ObjectId, ParseIdError, ID_BYTES};
 #[cfg(feature = "walk")]
 pub use merge_base::merge_base;

@@ -1,10 +1,10 @@
-//! The refusals of an opening, of a next call and of the check of names, and the library's result for want of room.
+//! The refusals of an opening, of a next call and of the calls of their own, and the library's result for want of room.
 
 use std::error::Error;
 use std::fmt;
 
-/// Why a walk was not opened (1 to 8, and tested 13 to 15), why a call hands out no commit (9 to 12), or what a check of names found (2, 4 to 6,
-/// 16, 17).
+/// Why a walk was not opened (1 to 8, and tested 13 to 15), why a call hands out no commit (9 to 12), what a check of names found (2, 4 to 6, 16,
+/// 17), or why a call of its own has no answer (13, 18 to 25, and those of 1 to 4 that are tested there).
 ///
 /// [`number`](Refusal::number) and [`name`](Refusal::name) are the same in C, in Rust and in what the tool prints (`docs/SPECIFICATION.md`, sections
 /// 6 and 9); `Display` is a sentence.
@@ -47,14 +47,29 @@ pub enum Refusal {
     FalseName,
     /// 17: the commit-graph file does not end in the digest of the rest. [`check_names`](crate::check_names) alone meets this.
     FalseChecksum,
+    /// 18: no commit-graph file can be written of the store: a commit cannot be read or has over 256 parents, a parent is not in the store, or
+    /// parents run in a circle. [`write_graph`](crate::write_graph) and [`graph_length`](crate::graph_length) alone meet this, and the next.
+    UnfitStore,
+    /// 19: a commit's time is before 1970 or past 17,179,869,183, which a commit-graph file cannot hold.
+    UnfitSeconds,
+    /// 20: the output is shorter than the file. [`write_graph`](crate::write_graph) lends enough, so it never meets this.
+    ShortOutput,
+    /// 21: two lines of a message start with the same reading.
+    ReadingTwice,
+    /// 22: a line of a message starts with a reading and goes on otherwise than with a number.
+    ReadingUnreadable,
     /// 23: commits are reachable from both tips, and none of them is best, since parents run in a circle. [`merge_base`](crate::merge_base) alone
     /// meets this.
     TangledReach,
+    /// 24: the list of terms is too long, out of order or overlapping, or a term is no span of months of the calendar.
+    BadTerms,
+    /// 25: more moves than a trace may have.
+    TooManyMoves,
 }
 
 impl Refusal {
     /// All of them, in the order of their numbers.
-    pub const ALL: [Refusal; 18] = [
+    pub const ALL: [Refusal; 25] = [
         Refusal::BufferTooSmall,
         Refusal::InputTooLarge,
         Refusal::PartialId,
@@ -72,7 +87,14 @@ impl Refusal {
         Refusal::PairNotFalling,
         Refusal::FalseName,
         Refusal::FalseChecksum,
+        Refusal::UnfitStore,
+        Refusal::UnfitSeconds,
+        Refusal::ShortOutput,
+        Refusal::ReadingTwice,
+        Refusal::ReadingUnreadable,
         Refusal::TangledReach,
+        Refusal::BadTerms,
+        Refusal::TooManyMoves,
     ];
 
     /// The refusal with a number, if one has it.
@@ -80,7 +102,7 @@ impl Refusal {
         Refusal::ALL.into_iter().find(|refusal| refusal.number() == number)
     }
 
-    /// Its number: 1 to 17, 23.
+    /// Its number: 1 to 25.
     pub fn number(self) -> u32 {
         match self {
             Refusal::BufferTooSmall => 1,
@@ -100,7 +122,14 @@ impl Refusal {
             Refusal::PairNotFalling => 15,
             Refusal::FalseName => 16,
             Refusal::FalseChecksum => 17,
+            Refusal::UnfitStore => 18,
+            Refusal::UnfitSeconds => 19,
+            Refusal::ShortOutput => 20,
+            Refusal::ReadingTwice => 21,
+            Refusal::ReadingUnreadable => 22,
             Refusal::TangledReach => 23,
+            Refusal::BadTerms => 24,
+            Refusal::TooManyMoves => 25,
         }
     }
 
@@ -124,7 +153,14 @@ impl Refusal {
             Refusal::PairNotFalling => "pair not falling",
             Refusal::FalseName => "false name",
             Refusal::FalseChecksum => "false checksum",
+            Refusal::UnfitStore => "unfit store",
+            Refusal::UnfitSeconds => "unfit seconds",
+            Refusal::ShortOutput => "short output",
+            Refusal::ReadingTwice => "reading twice",
+            Refusal::ReadingUnreadable => "reading unreadable",
             Refusal::TangledReach => "tangled reach",
+            Refusal::BadTerms => "bad terms",
+            Refusal::TooManyMoves => "too many moves",
         }
     }
 
@@ -155,9 +191,24 @@ impl Refusal {
             }
             Refusal::FalseName => "a commit is not under the digest of its body",
             Refusal::FalseChecksum => "the commit-graph file does not end in the digest of the rest",
+            Refusal::UnfitStore => {
+                "no commit-graph file can be written: a commit cannot be read or has more than 256 parents, a parent is not in the commit store, or parents run in a circle: complete or mend the history"
+            }
+            Refusal::UnfitSeconds => {
+                "no commit-graph file can be written: a commit's time is below 0 or above 17,179,869,183, which the file cannot hold: go on without one"
+            }
+            Refusal::ShortOutput => "the output is shorter than the commit-graph file: lend as many bytes as the length that is asked for first",
+            Refusal::ReadingTwice => "a commit's message has two lines that start with the same reading: leave one, or list without that commit",
+            Refusal::ReadingUnreadable => {
+                "a line of a commit's message starts with a reading and goes on otherwise than with 1 to 10 digits, at most 1,000,000,000: mend the line, or list without that commit"
+            }
             Refusal::TangledReach => {
                 "both tips reach the same commits, whose parents run in a circle, so that none is best: such a store is no history, make it anew"
             }
+            Refusal::BadTerms => {
+                "the list of terms is not good: give at most 24, rising and without a month in common, each from a month to the same or a later one, January 1970 to December 2099"
+            }
+            Refusal::TooManyMoves => "a trace of more than 12 moves: ask for at most 12",
         }
     }
 }
@@ -214,7 +265,14 @@ mod tests {
             (15, "pair not falling"),
             (16, "false name"),
             (17, "false checksum"),
+            (18, "unfit store"),
+            (19, "unfit seconds"),
+            (20, "short output"),
+            (21, "reading twice"),
+            (22, "reading unreadable"),
             (23, "tangled reach"),
+            (24, "bad terms"),
+            (25, "too many moves"),
         ];
         assert_eq!(names.len(), Refusal::ALL.len());
         for (number, name) in names {
@@ -227,7 +285,7 @@ mod tests {
 
     #[test]
     fn no_other_number() {
-        for number in [0, 18, 22, 24, 100, NoRoom::NUMBER, u32::MAX] {
+        for number in [0, 26, 100, NoRoom::NUMBER, u32::MAX] {
             assert_eq!(Refusal::from_number(number), None);
         }
     }

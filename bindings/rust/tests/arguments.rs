@@ -198,3 +198,29 @@ fn a_branch_of_that_name() {
     assert_eq!(list("main merge-base").revs, ["main", "merge-base"]);
     assert_eq!(list("--hide merge-base").revs, ["HEAD"]);
 }
+
+#[test]
+fn a_graph_file_to_write() {
+    let output = |line: &str| match task(line) {
+        Ok(Task::WriteGraph(output)) => output,
+        other => panic!("{line}: {other:?}"),
+    };
+    let given = output("write-graph");
+    assert_eq!((given.dir.as_path(), given.progress, given.file), (Path::new("."), false, None));
+    let given = output("-C x --progress write-graph y -o file");
+    assert_eq!((given.dir.as_path(), given.progress, given.file.as_deref()), (Path::new("./x/y"), true, Some(Path::new("file"))));
+    assert_eq!(output("write-graph write-graph").dir, Path::new("./write-graph"));
+    assert_eq!(output("write-graph -- -y").dir, Path::new("./-y"));
+    for (line, said) in [
+        ("write-graph a b", "there are 2"),
+        ("write-graph --count", "no option --count"),
+        ("write-graph -o", "-o needs a file"),
+        ("write-graph -C", "-C needs a folder"),
+    ] {
+        assert!(refused(line).contains(said), "{line}");
+    }
+    assert_eq!(task("write-graph -h"), Ok(Task::Help));
+    assert_eq!(task("write-graph --version"), Ok(Task::Version));
+    assert_eq!(list("-- write-graph").revs, ["write-graph"]);
+    assert_eq!(list("--count write-graph").revs, ["write-graph"]);
+}

@@ -53,6 +53,8 @@ fn the_same_in_both_languages() {
         ("linenhatch_next", 32),
         ("linenhatch_check_names", 6),
         ("linenhatch_merge_base", 22),
+        ("linenhatch_graph_length", 7),
+        ("linenhatch_write_graph", 9),
     ] {
         let rust = in_rust(name);
         assert_eq!(rust.0.len(), parameters, "{name}");
@@ -75,6 +77,7 @@ fn the_same_numbers() {
         ("SECONDS", "CALL_SECONDS: usize"),
         ("CHECK_NUMBERS", "CHECK_NUMBERS: usize"),
         ("BASE_NUMBERS", "BASE_NUMBERS: usize"),
+        ("GRAPH_NUMBERS", "GRAPH_NUMBERS: usize"),
     ] {
         assert_eq!(between(RUST, &format!("const {line} = "), ";"), defined(name).to_string(), "{name}");
     }

@@ -518,6 +518,52 @@ mod tool {
         assert!(said.contains("at most 1024"), "{said}");
     }
 
+    /// The file that the tool writes is the one that git writes, and git passes it.
+    #[test]
+    fn graph_files() {
+        if !has_git() {
+            return;
+        }
+        let repository = history("graph-file");
+        let file = repository.dir.join("ours");
+        repository.list(&format!("write-graph -o {}", file.display()));
+        let ours = fs::read(&file).unwrap();
+        let printed = repository.tool("write-graph");
+        assert!(printed.status.success() && printed.stdout == ours);
+        repository.git("-c commitGraph.generationVersion=1 commit-graph write --reachable --no-progress");
+        let theirs = repository.dir.join(".git/objects/info/commit-graph");
+        assert_eq!(fs::read(&theirs).unwrap(), ours);
+        fs::remove_file(&theirs).unwrap();
+        fs::write(&theirs, &ours).unwrap();
+        repository.git("commit-graph verify --no-progress");
+        assert_eq!(set(&repository.list("main")), set(&repository.git("rev-list main")));
+    }
+
+    /// A refusal says why, and leaves the file that is there alone.
+    #[test]
+    fn no_graph_file() {
+        if !has_git() {
+            return;
+        }
+        let repository = Repository::new("no-graph-file");
+        let file = repository.dir.join("ours");
+        fs::write(&file, "kept").unwrap();
+        let body = format!("tree {TREE}\nparent {}\nauthor A <a> 5 +0000\ncommitter A <a> 5 +0000\n\n", "1".repeat(40));
+        let id = repository.git_with("hash-object -t commit -w --stdin", body.as_bytes());
+        fs::write(repository.dir.join(".git/refs/heads/main"), format!("{}\n", id[0])).unwrap();
+        let (printed, why) = repository.fails(&format!("write-graph -o {}", file.display()));
+        assert!(
+            printed.is_empty() && why.contains("(refusal 18, unfit store)") && why.contains("not in the repository: 1 commit"),
+            "{why}"
+        );
+        let late = format!("tree {TREE}\nauthor A <a> 17179869184 +0000\ncommitter A <a> 17179869184 +0000\n\n");
+        let id = repository.git_with("hash-object -t commit -w --stdin", late.as_bytes());
+        fs::write(repository.dir.join(".git/refs/heads/main"), format!("{}\n", id[0])).unwrap();
+        let (_, why) = repository.fails(&format!("write-graph -o {}", file.display()));
+        assert!(why.contains("(refusal 19, unfit seconds)"), "{why}");
+        assert_eq!(fs::read(&file).unwrap(), b"kept");
+    }
+
     #[test]
     fn sha_256() {
         if !has_git() {

@@ -9,6 +9,7 @@ ghost use lib.ListN.{length};
 ghost use Rattle.opening.specs.Checks.{inputOf, lengthsOf};
 ghost use Rattle.reach.specs.Memory.{lent};
 ghost use Rattle.mergewire.specs.Wire.{LibraryMergeBase};
+ghost use Rattle.graphwire.specs.Wire.{kindOf, LibraryMeasures, LibraryWrites};
 ghost use Rattle.traverse.specs.Open.{lentOf};
 ghost use Rattle.traverse.specs.Next.{filesLent};
 ghost use Rattle.wire.specs.Numbers.{settingsOf};
@@ -219,4 +220,35 @@ pub extern "C" fn linenhatch_merge_base(
         id,
         numbers,
     )
+}
+
+// How long the graph file of a store is (document 02, card 4): the result is 0 and the first number the file's bytes, else the number of the
+// refusal, 2, 4, 1, 18 or 19, and 0. width is that of ids: 32 is SHA-256, any other number SHA-1. After 2, 4 and 1 the lent levels, one for each
+// entry, are as they were. Where there is no room for the number the result is 101: nothing is read, and nothing is altered.
+#[no_mangle]
+pub extern "C" fn linenhatch_graph_length(
+    width: u32,
+    store: &[u8],
+    levels: &mut [u32],
+    numbers: &mut [u64],
+) -> u32
+    ensures { λ n. ⌜ LibraryMeasures (kindOf width) (now (store .entry)) (now (levels .entry)) (now (levels .exit)) (now (numbers .entry)) (now (numbers .exit)) n ⌝ }
+{
+    graphwire::graph_length(width, store, levels, numbers)
+}
+
+// Writes the graph file of a store (document 02, card 4) at the start of output: the result is 0 and the first number the file's bytes, and no
+// other byte of output is altered; else the number of the refusal, as of the function above or then 20, and 0, and no byte of output is altered.
+// Where there is no room for the number the result is 101: nothing is read, and nothing is altered.
+#[no_mangle]
+pub extern "C" fn linenhatch_write_graph(
+    width: u32,
+    store: &[u8],
+    levels: &mut [u32],
+    output: &mut [u8],
+    numbers: &mut [u64],
+) -> u32
+    ensures { λ n. ⌜ LibraryWrites (kindOf width) (now (store .entry)) (now (levels .entry)) (now (levels .exit)) (now (output .entry)) (now (output .exit)) (now (numbers .entry)) (now (numbers .exit)) n ⌝ }
+{
+    graphwire::write_graph(width, store, levels, output, numbers)
 }

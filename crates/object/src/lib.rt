@@ -15,7 +15,7 @@ ghost use lib.Dec.{eqb};
 ghost use lib.ListN.{length, drop};
 ghost use Rattle.hash.specs.Bytes.{widthOf};
 ghost use Rattle.object.specs.Header.{treeSize, parentSize, isSome, strip, hexVal, hexBytes, idLine, parentWord, parentLines, most, authorLine, afterAuthor, stampOf, header};
-ghost use Rattle.object.specs.Read.{idRead, idDown, Decodes, treeAt, parentAt, afterParents, stampRead, readingOf};
+ghost use Rattle.object.specs.Read.{idRead, idDown, Decodes, treeAt, treeIdAt, parentAt, afterParents, stampRead, readingOf};
 
 // A line that was read: the place after its newline.
 pub enum Line {
@@ -240,6 +240,13 @@ pub fn tree_line(kind: Kind, body: &[u8], at: usize) -> Line
     } else {
         Line::Bad
     }
+}
+
+// The id of the tree line at a place.
+pub fn tree_id(kind: Kind, body: &[u8], at: usize) -> ParentLine
+    ensures { λ r. ⌜ r ≡ treeIdAt (widthOf kind) (now (body .entry)) at ⌝ }
+{
+    id_line(kind, body, at, b"tree ")
 }
 
 // The parent line at a place.

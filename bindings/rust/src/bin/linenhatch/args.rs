@@ -13,6 +13,7 @@ usage: linenhatch [-C DIR] [--order newest|oldest|breadth] [-n N] [--count] [--r
                   [--hide REV]... [--exclude REV]... [--no-graph] [--untested] [--parents] [--time] [--zone] [--progress] [REV...]
        linenhatch --check-names [-C DIR] [--no-graph] [--progress] [REV...]
        linenhatch [-C DIR] [--progress] merge-base REV REV
+       linenhatch [-C DIR] [--progress] write-graph [REPO] [-o FILE]
 
 Lists what the REVs reach (HEAD if none is given), one id on a line. A REV is any name of a commit that git knows; ^A is --hide A, and A..B is
 --hide A B, HEAD where A or B is left out.
@@ -44,6 +45,10 @@ Lists what the REVs reach (HEAD if none is given), one id on a line. A REV is an
   merge-base        as the first word that is no -C or --progress: lists nothing, prints where two REVs part. That is the best commit which both
                     reach; of several the newest by committer time, among equals the smallest id, so it is the same for everyone and with
                     the two exchanged. Status 1 if both reach none. A branch of this name is listed with -- merge-base
+  write-graph       as the first such word: lists nothing, writes the commit-graph file of all commits that the branches, tags and HEAD of the
+                    repository in REPO (the folder that -C gives if none is) reach, to FILE, or to standard output. It is git's own version 1
+                    file, with a generation for each commit, as git commit-graph write gives it with commitGraph.generationVersion 1.
+                    Nothing is written if a commit cannot be read, a parent is not there, or a time does not fit in 34 bits
   --progress        shows on standard error how far the work is, also where that is no terminal
   -h, --help, -V, --version
 
@@ -59,6 +64,7 @@ Exit status: 0 if all was listed, or no name is false; 1 if it was not, and stan
 pub enum Task {
     List(Args),
     MergeBase(Pair),
+    WriteGraph(Output),
     Help,
     Version,
 }
@@ -93,11 +99,22 @@ pub struct Pair {
     pub revs: [OsString; 2],
 }
 
+/// Where a commit-graph file goes, and whose it is.
+#[derive(Debug, PartialEq)]
+pub struct Output {
+    pub dir: PathBuf,
+    pub progress: bool,
+    /// Standard output if none is given.
+    pub file: Option<PathBuf>,
+}
+
 /// The command line's words, without the program's name.
 pub fn parse(words: impl IntoIterator<Item = OsString>) -> Result<Task, String> {
     let words: Vec<OsString> = words.into_iter().collect();
-    if is_merge_base(&words) {
-        return parse_pair(words);
+    match command(&words) {
+        Some("merge-base") => return parse_pair(words),
+        Some("write-graph") => return parse_output(words),
+        _ => {}
     }
     let mut words = words.into_iter();
     let mut order = None;
@@ -169,17 +186,17 @@ pub fn parse(words: impl IntoIterator<Item = OsString>) -> Result<Task, String> 
     Ok(Task::List(args))
 }
 
-/// Whether the first word that is no -C or --progress is the command.
-fn is_merge_base(words: &[OsString]) -> bool {
+/// The first word that is no -C or --progress, which may be a command.
+fn command(words: &[OsString]) -> Option<&str> {
     let mut words = words.iter();
     while let Some(word) = words.next() {
         match word.to_str() {
             Some("-C") => drop(words.next()),
             Some("--progress") => {}
-            other => return other == Some("merge-base"),
+            other => return other,
         }
     }
-    false
+    None
 }
 
 fn parse_pair(words: Vec<OsString>) -> Result<Task, String> {
@@ -204,6 +221,29 @@ fn parse_pair(words: Vec<OsString>) -> Result<Task, String> {
     let count = revs.len();
     let revs = revs.try_into().map_err(|_| format!("merge-base needs two names of commits, and there {}", are(count)))?;
     Ok(Task::MergeBase(Pair { dir, progress, revs }))
+}
+
+fn parse_output(words: Vec<OsString>) -> Result<Task, String> {
+    let mut words = words.into_iter();
+    let (mut dir, mut progress, mut file, mut named, mut folders) = (PathBuf::from("."), false, None, false, Vec::new());
+    while let Some(word) = words.next() {
+        match word.to_str() {
+            Some("write-graph") if !named => named = true,
+            Some("-C") => dir.push(words.next().ok_or("-C needs a folder")?),
+            Some("-o") => file = Some(PathBuf::from(words.next().ok_or("-o needs a file")?)),
+            Some("--progress") => progress = true,
+            Some("--help" | "-h") => return Ok(Task::Help),
+            Some("--version" | "-V") => return Ok(Task::Version),
+            Some("--") => folders.extend(words.by_ref()),
+            _ if word.as_bytes().starts_with(b"-") => return Err(format!("write-graph has no option {}", word.to_string_lossy())),
+            _ => folders.push(word),
+        }
+    }
+    if folders.len() > 1 {
+        return Err(format!("write-graph takes one repository, and there {}", are(folders.len())));
+    }
+    dir.extend(folders);
+    Ok(Task::WriteGraph(Output { dir, progress, file }))
 }
 
 fn are(count: usize) -> String {

@@ -7,11 +7,13 @@ mod repository;
 
 use std::env;
 use std::ffi::OsString;
+use std::fs;
 use std::io::{self, BufWriter, IsTerminal, Write};
+use std::path::Path;
 use std::process::ExitCode;
 
-use args::{Args, Pair, Task};
-use linenhatch::{check_names, merge_base, Commit, Fault, Lister, ObjectId, Refusal, Walk, MAX_FILE_BYTES, MAX_IDS};
+use args::{Args, Output, Pair, Task};
+use linenhatch::{check_names, merge_base, write_graph, Commit, Fault, Lister, ObjectId, Refusal, Walk, MAX_FILE_BYTES, MAX_IDS};
 use progress::Progress;
 use refused::{counted, named, Refused};
 use repository::{Commits, Repository};
@@ -23,6 +25,7 @@ fn main() -> ExitCode {
         Ok(Task::List(args)) if args.check_names => check(&args),
         Ok(Task::List(args)) => list(&args),
         Ok(Task::MergeBase(pair)) => part(&pair),
+        Ok(Task::WriteGraph(output)) => write(&output),
         Err(message) => {
             say("error", &format!("{message}\n(linenhatch --help says how it is used)"));
             return ExitCode::from(2);
@@ -125,6 +128,37 @@ fn part(pair: &Pair) -> Result<(), String> {
         )),
         Err(refusal) => Err(refusal.to_string()),
     }
+}
+
+/// Writes the commit-graph file of a whole repository; or says why there is none, and then no byte is written.
+fn write(output: &Output) -> Result<(), String> {
+    let repository = Repository::open(output.dir.clone())?;
+    let tips = repository.tips()?;
+    let mut progress = Progress::new(output.progress || io::stderr().is_terminal(), "commits read");
+    let commits = repository.read(&tips, &mut progress);
+    progress.make_way();
+    let mut commits = commits?;
+    let absent = std::mem::take(&mut commits.absent);
+    let store = store(commits)?;
+    let file = write_graph(&store).map_err(|refusal| match refusal {
+        Refusal::UnfitStore => refused::unfit_store(&store, &absent, repository.is_shallow()),
+        _ => refusal.to_string(),
+    })?;
+    match &output.file {
+        None => io::stdout().write_all(&file).map_err(|error| format!("the file cannot be written: {error}")),
+        Some(path) => replace(path, &file),
+    }
+}
+
+/// Puts a file in another's place, whole or not at all.
+fn replace(path: &Path, bytes: &[u8]) -> Result<(), String> {
+    let mut beside = path.as_os_str().to_os_string();
+    beside.push(format!(".{}", std::process::id()));
+    let done = fs::write(&beside, bytes).and_then(|()| fs::rename(&beside, path));
+    done.map_err(|error| {
+        let _ = fs::remove_file(&beside);
+        format!("{} cannot be written: {error}", path.display())
+    })
 }
 
 /// What a check found, with the commit that is meant.

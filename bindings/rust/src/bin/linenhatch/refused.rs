@@ -68,6 +68,18 @@ pub fn unreadable_reach(store: &[u8], absent: &[ObjectId], shallow: bool) -> Str
     format!("{lead}{}\n`git fsck` says more of them; --untested lists what can be read.", unread(store, absent))
 }
 
+/// Why no commit-graph file was written with 18: which commits are not there, which cannot be read, and what to do.
+pub fn unfit_store(store: &[u8], absent: &[ObjectId], shallow: bool) -> String {
+    let lead = format!("nothing is written: {}", Refusal::UnfitStore);
+    if shallow {
+        let behind = counted(absent.len(), "commit");
+        return format!(
+            "this is a shallow clone, and {lead}\n  past its boundary, not there: {behind}\n`git fetch --unshallow` brings what is not there."
+        );
+    }
+    format!("{lead}{}\n`git fsck` says more of them.", unread(store, absent))
+}
+
 /// A number and a word.
 pub fn counted(count: usize, word: &str) -> String {
     format!("{count} {word}{}", if count == 1 { "" } else { "s" })
@@ -152,6 +164,20 @@ mod tests {
         );
         assert!(said.contains("git fsck") && said.contains("--untested") && !said.contains("256 parents:"), "{said}");
         let said = unreadable_reach(&store, &[id(7), id(8)], true);
+        assert!(said.contains("shallow clone") && said.contains("2 commits") && said.contains("--unshallow"), "{said}");
+    }
+
+    #[test]
+    fn what_is_said_of_an_unfit_store() {
+        let id = |n| ObjectId([n; 20]);
+        let store = store_from_commits([(id(3), GOOD.to_string()), (id(2), GOOD.replace("committer ", "keeper "))]).unwrap();
+        let said = unfit_store(&store, &[id(7)], false);
+        assert!(said.starts_with("nothing is written: ") && said.contains(" (refusal 18, unfit store)\n"), "{said}");
+        assert!(
+            said.contains(&format!("\n  not in the repository: 1 commit ({})\n  not to be read: 1 commit ({})\n", id(7), id(2))),
+            "{said}"
+        );
+        let said = unfit_store(&store, &[id(7), id(8)], true);
         assert!(said.contains("shallow clone") && said.contains("2 commits") && said.contains("--unshallow"), "{said}");
     }
 

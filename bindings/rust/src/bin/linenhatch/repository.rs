@@ -69,6 +69,14 @@ impl Repository {
         })
     }
 
+    /// The commits that the repository's branches, tags and HEAD lead to.
+    pub fn tips(&self) -> Result<Vec<ObjectId>, String> {
+        let text = self.text(&["rev-list", "--no-walk=unsorted", "--all"])?;
+        let lines = text.split(|&byte| byte == b'\n').filter(|line| !line.is_empty());
+        let bad = |line: &[u8]| format!("git rev-list printed '{}'", String::from_utf8_lossy(line));
+        lines.map(|line| ObjectId::from_hex(line).ok_or_else(|| bad(line))).collect()
+    }
+
     /// Whether no name of the repository leads to a commit.
     fn is_empty(&self) -> bool {
         self.text(&["rev-list", "--max-count=1", "--all"]).is_ok_and(|text| text.is_empty())

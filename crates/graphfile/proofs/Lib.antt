@@ -1,0 +1,4 @@
+pub mod Pieces
+pub mod Chunks
+pub mod Parents
+pub mod Read

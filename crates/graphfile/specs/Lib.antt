@@ -1,0 +1,2 @@
+pub mod GraphFile
+pub mod Samples

@@ -1,0 +1,3 @@
+pub mod StoreRows
+pub mod Entries
+pub mod Refusing

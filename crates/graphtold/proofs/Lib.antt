@@ -1,0 +1,5 @@
+pub mod Counting
+pub mod Unfit
+pub mod Right
+pub mod Same
+pub mod There

@@ -1,0 +1,3 @@
+pub mod NoRoom
+pub mod Calls
+pub mod Seen

@@ -1,0 +1,4 @@
+pub mod Agree
+pub mod Small
+pub mod Passed
+pub mod Instance

@@ -1,0 +1,2 @@
+pub mod OwnGraph
+pub mod Instances
