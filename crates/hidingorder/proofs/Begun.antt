@@ -4,7 +4,7 @@ use mathlib.Core.Path.{_≡_, refl, sym, _∙_, ap, subst}
 use mathlib.Core.Logic.{inl, ⊎-elim}
 use Prim.Native.Nat.{ℕ, _+_, _*_, _≤_}
 use mathlib.Core.Bool.{Bool, true, false, cond, _||_}
-use mathlib.Core.List.{List, [], _∷_, List·Memᴰ·not-nil}
+use mathlib.Core.List.{List, [], List·Memᴰ·not-nil}
 use native.Mathlib.Omega.{arith}
 use lib.ListN.{length}
 use lib.IntN.{ℤ, pos}
@@ -12,19 +12,19 @@ use Rattle.hash.specs.Bytes.{Id, among}
 use Rattle.hash.proofs.Tests.{byCases, clash}
 use Rattle.walk.specs.Settings.{byTime, goesBefore}
 use Rattle.walk.specs.State.{Walk, State, ids, enter, nobody, isEmpty, emptyState, sees, waits}
-use Rattle.walk.specs.Opening.{distinct, Opening, opened, tipsIn}
-use Rattle.walk.specs.Next.{Answer, outside, paintedWith, takeNext, next}
+use Rattle.walk.specs.Opening.{distinct, opened, tipsIn}
+use Rattle.walk.specs.Next.{outside, paintedWith, takeNext, next}
 use Rattle.walk.specs.Calls.{calls}
 use Rattle.walk.specs.Reach.{Mem, links}
 use Rattle.walk.specs.Demand.{Region, Premises, AdmittedTip, Hidden, Hands}
 use Rattle.walk.proofs.Laws.{Coherent}
-use Rattle.walk.proofs.Queue.{Away, Walked}
+use Rattle.walk.proofs.Queue.{Away}
 use Rattle.walk.proofs.Take.{region-tip}
 use Rattle.walk.proofs.Outside.{outside-nobody, length-ids}
 use Rattle.walk.proofs.Moves.{next-painted, next-first, first-plain, first-paint, same-calls}
 use Rattle.walk.proofs.Open.{Entered, tips-opened, distinct-out, distinct-in, distinct-once, distinct-length}
 use Rattle.walk.proofs.Tips.{tips-keep}
-use Rattle.walk.proofs.Third.{Parts, queue-tip, walked, plain-parts, paint-parts, done-paint, front}
+use Rattle.walk.proofs.Third.{queue-tip, walked, plain-parts, paint-parts, done-paint, front}
 use Rattle.hidingorder.proofs.Ordered.{ranks, Ordered, queued-ordered}
 use Rattle.hidingorder.proofs.Going.{Going}
 

@@ -11,7 +11,6 @@ use Rattle.walk.specs.Next.{Answer}
 use Rattle.walk.specs.Calls.{answerAt, answers}
 use Rattle.walk.specs.Reach.{Mem}
 use Rattle.walk.specs.Demand.{Delivers}
-use Rattle.walk.specs.AnyInput.{handedIds}
 use Rattle.walk.specs.Given.{given}
 use Rattle.walk.proofs.Named.{fits}
 use Rattle.walk.proofs.Calls.{answers-at}

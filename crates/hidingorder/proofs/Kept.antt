@@ -3,21 +3,21 @@
 use mathlib.Core.Path.{_≡_, refl, sym, _∙_, ap, subst}
 use mathlib.Core.Logic.{_⊎_, inl, inr, ⊎-elim, _↔_}
 use Prim.Native.Nat.{ℕ, _+_, _*_, _≤_}
-use mathlib.Core.Bool.{Bool, true, false, not, _&&_}
+use mathlib.Core.Bool.{Bool, true, not, _&&_}
 use mathlib.Core.List.{List, [], _∷_, _++_, List·Memᴰ·not-nil, Memᴰ·append-left, Memᴰ·append-right, List·Memᴰ·append-cases}
 use native.Mathlib.Omega.{arith}
 use lib.ListN.{length, length-append}
 use lib.Seq.{take-all}
-use Rattle.hash.specs.Bytes.{Id, idBytes, idsOf, among}
+use Rattle.hash.specs.Bytes.{Id, idsOf, among}
 use Rattle.hash.proofs.Tests.{clash, not-yes, and-of, and-both}
 use Rattle.walk.specs.Lookup.{World, worldOf}
-use Rattle.walk.specs.State.{Walk, State, isEmpty, emptyState}
-use Rattle.walk.specs.Opening.{Input, walkOf, listIds, listLimit, P, refusal, distinct, opened, tipsIn, openWalk}
+use Rattle.walk.specs.State.{State, isEmpty, emptyState}
+use Rattle.walk.specs.Opening.{Input, walkOf, listIds, P, distinct}
 use Rattle.walk.specs.Next.{Answer}
-use Rattle.walk.specs.Calls.{answerAt, answers, calls}
+use Rattle.walk.specs.Calls.{answerAt, calls}
 use Rattle.walk.specs.Universe.{storeParents}
-use Rattle.walk.specs.Reach.{Mem, links}
-use Rattle.walk.specs.Demand.{Premises, Hidden, Hands, Delivers, Third}
+use Rattle.walk.specs.Reach.{Mem}
+use Rattle.walk.specs.Demand.{Hidden, Hands, Delivers, Third}
 use Rattle.walk.proofs.Laws.{Coherent, not-yes-no, not-no-yes}
 use Rattle.walk.proofs.Open.{among-mem, mem-among}
 use Rattle.walk.proofs.Files.{storeParents-length}

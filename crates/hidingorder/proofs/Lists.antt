@@ -5,21 +5,21 @@ use Prim.Native.Nat.{ℕ, _+_, _*_, _≤_}
 use mathlib.Core.Bool.{Bool, true, false, cond, not}
 use mathlib.Core.List.{List, [], _∷_}
 use lib.ListN.{length}
-use lib.IntN.{ℤ, pos}
+use lib.IntN.{pos}
 use Rattle.hash.specs.Bytes.{Id, ifSome}
 use Rattle.hash.proofs.Tests.{byCases, clash, not-yes}
 use Rattle.walk.specs.declared.Settings.{Settings}
 use Rattle.walk.specs.declared.Refusal.the-variants.{TipNotFound, TipUnreadable}
 use Rattle.walk.specs.Settings.{timed, notBefore, cutoffOf, goesBefore}
 use Rattle.walk.specs.Lookup.{World}
-use Rattle.walk.specs.State.{Walk, State, ids, enter, nobody, emptyState, sees, waits}
+use Rattle.walk.specs.State.{Walk, State, enter, nobody, emptyState, sees, waits}
 use Rattle.walk.specs.Opening.{distinct, closed, opened, tipsIn}
 use Rattle.walk.specs.Next.{outside, paintedWith}
 use Rattle.walk.specs.Calls.{calls}
 use Rattle.walk.specs.Reach.{Mem, links}
 use Rattle.walk.specs.Demand.{Region, Premises, Hidden, Hands}
 use Rattle.walk.proofs.Laws.{Coherent}
-use Rattle.walk.proofs.Queue.{Away, tip}
+use Rattle.walk.proofs.Queue.{tip}
 use Rattle.walk.proofs.Outside.{outside-nobody}
 use Rattle.walk.proofs.Third.{hidden-on}
 use Rattle.hiding.proofs.Sets.{walk}

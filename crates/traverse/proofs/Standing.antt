@@ -29,7 +29,7 @@ use Rattle.opening.proofs.Opened.{opens}
 use Rattle.state.specs.declared.Record.{Record}
 use Rattle.state.specs.Reads.{Shape, Reads, Universe}
 use Rattle.state.specs.Shapes.{shapeOf}
-use Rattle.visit.specs.Link.{GoesBy}
+use Rattle.links.specs.Link.{GoesBy}
 use Rattle.visit.specs.Taking.{Rests, InRows, InStore}
 use Rattle.traverse.specs.declared.Out.{Out}
 use Rattle.traverse.specs.Contract.{Lent, lengthsOf}

@@ -1,14 +1,11 @@
 -- What is set down stays inside the ids that are counted, and the answer has one of document 01's shapes, on any bytes: an id of at most 20
 -- bytes changes nothing past its own place, and at most 256 parents come out of either file. Assumes nothing.
-use mathlib.Core.Path.{_≡_, refl, ap, _∙_}
-use Prim.Native.Nat.{ℕ, _+_, _*_, _-_, _≤_, _<_}
-use mathlib.Core.List.{List, []}
+use mathlib.Core.Path.{_≡_, refl}
+use Prim.Native.Nat.{ℕ, _≤_}
+use mathlib.Core.List.{List}
 use native.Mathlib.Omega.{arith}
-use lib.ListN.{length, take, drop, getD, length-take}
-use lib.IntN.{ℤ, pos}
-use Rattle.hash.specs.Bytes.{Id, idBytes, at, setDown}
+use Rattle.hash.specs.Bytes.{Id, at}
 use Rattle.object.specs.Header.{most}
-use Rattle.commitgraph.specs.Graph.{graphParents, layoutOf, idIn, parentIn}
 use Rattle.walk.specs.declared.Outcome.the-variants.{End, Refused}
 use Rattle.walk.specs.declared.Refusal.{Refusal}
 use Rattle.walk.specs.declared.Refusal.the-variants.{CommitNotFound, CommitUnreadable, TooManyParents}
@@ -17,44 +14,14 @@ use Rattle.walk.specs.declared.MaybeSeconds.{MaybeSeconds}
 use Rattle.walk.specs.declared.MaybeSeconds.the-variants.{NoTime}
 use Rattle.walk.specs.AnyInput.{OfCall}
 use Rattle.walk.specs.Given.{noId}
-use Rattle.walk.specs.Lookup.{row, rowAt}
 use Rattle.date.specs.declared.Zone.{Zone}
 use Rattle.date.specs.declared.Zone.the-variants.{NoZone}
 use Rattle.reading.specs.declared.body.BodyEnd.{BodyEnd}
 use Rattle.reading.specs.declared.body.BodyEnd.the-variants.{Whole, Unreadable, Crowded}
-use Rattle.reading.proofs.Down.{set-down-past}
-use Rattle.reading.proofs.Rows.{parent-there}
 use Rattle.state.specs.declared.Record.{Record}
-use Rattle.visit.specs.Parents.{SetsParent}
-use Rattle.visit.specs.Plain.{Past, Counted, Plain}
+use Rattle.links.specs.Visits.{Past}
+use Rattle.visit.specs.Plain.{Counted, Plain}
 use Rattle.visit.specs.Taking.{gave, endGiven}
-
--- ---- the bytes past the ids
-
-pub past-none : {n : ℕ} {b : List ℕ} → Past n b b
-past-none = record { same = λ k h. refl }
-
--- one id more
-pub past-next : {k : ℕ} {b b′ b″ : List ℕ} → Past k b b′ → Past (k + 1) b′ b″ → Past (k + 1) b b″
-past-next p q = record { same = λ j h. q .same j h ∙ p .same j (omega arith) }
-
-pub parent-set : {k : ℕ} {x b b′ : List ℕ} → length x ≤ idBytes → b′ ≡ setDown b (idBytes * k) x → SetsParent k x b b′
-parent-set {k} {x} {b} h e = record {
-  down = λ i n. e;
-  past = record { same = λ j i. ap (λ (l : List ℕ). getD l j 0) e ∙ set-down-past b (idBytes * k) x j (omega arith) };
-}
-
--- a parent past the most, or an id that does not fit its place
-pub parent-left : {k : ℕ} {x b : List ℕ} → (k < most → length x ≤ idBytes → ⊥) → SetsParent k x b b
-parent-left f = record { down = λ i n. absurd (f i n); past = past-none }
-
--- the id of a row's parent has at most 20 bytes, whatever the file holds
-pub row-narrow : (g : List ℕ) (p : ℕ) (ps : List (Id × ℤ)) (v : ℕ) (t : ℤ) → rowAt g p ≡ row ps v t → (k : ℕ) → k < length ps → length (getD ps k ([], pos 0) .0) ≤ idBytes
-unfolding idIn at graphParents
-row-narrow g p ps v t e k h =
-    let q : ℕ = parentIn idBytes g (layoutOf idBytes g) p k in
-    let there = parent-there g p ps v t e {l = layoutOf idBytes g} {k = k} {q = parentIn idBytes g (layoutOf idBytes g) p k} refl refl h in
-    omega (arith, ap (λ (a : Id × ℤ). length (a .0)) there, length-take idBytes (drop (layoutOf idBytes g .ids + idBytes * q) g))
 
 -- ---- the shape of an answer
 

@@ -29,7 +29,7 @@ use Rattle.walk.specs.declared.MaybeLevel.{MaybeLevel}
 use Rattle.walk.specs.declared.MaybeLevel.the-variants.{NoGeneration}
 use Rattle.walk.specs.declared.MaybeSeconds.{MaybeSeconds}
 use Rattle.walk.specs.declared.MaybeSeconds.the-variants.{Time, NoTime}
-use Rattle.walk.specs.Settings.{followed, byTime, onlyFirst}
+use Rattle.walk.specs.Settings.{followed, byTime}
 use Rattle.walk.specs.Lookup.{secondsFor, World, Row, row, no-row, rowAt, worldOf}
 use Rattle.walk.specs.State.{Walk, State, withQueue, isEmpty}
 use Rattle.object.specs.Read.{zoneGiven}
@@ -51,7 +51,6 @@ use Rattle.reading.specs.Files.{cacheWith, cacheOf, worldUnder}
 use Rattle.reading.specs.Row.{levelOf, rowReadOf}
 use Rattle.reading.specs.declared.row.RowRead.{RowRead}
 use Rattle.reading.specs.declared.row.RowRead.the-variants.{Corrupt, Row as RowAt}
-use Rattle.reading.proofs.Bodies.{followed-one, followed-all}
 use Rattle.reading.proofs.Down.{set-down-none}
 use Rattle.reading.proofs.World.{located-body, located-none, good-cache, kept-world, dropped-world, same-store, found-row, found-body, found-absent}
 use Rattle.reading.proofs.Rows.{row-few, row-is, row-torn, row-counted}
@@ -64,14 +63,19 @@ use Rattle.state.specs.Shapes.{fixedOf, shapeFor, backTo}
 use Rattle.state.specs.Steps.{mem, Pops, Drops}
 use Rattle.state.proofs.States.{queue-length}
 use Rattle.state.proofs.Shapes.{back-shape}
-use Rattle.visit.specs.declared.body.BodyVisited.{BodyVisited}
+use Rattle.bodyvisit.specs.declared.body.BodyVisited.{BodyVisited}
 use Rattle.visit.specs.declared.next.Taken.{Taken}
-use Rattle.visit.specs.Link.{GoesBy, Ready}
-use Rattle.visit.specs.Parents.{VisitsAll, VisitsRow, VisitsBody, stored}
-use Rattle.visit.specs.Taking.{gave, timeGiven, Follows, endGiven, EndsBody, Rests, Gives, InRows, InStore, Popped, TakesRow, TakesBody, TakesStored, TakesCached, TakesNext}
+use Rattle.links.specs.Link.{GoesBy, Ready}
+use Rattle.links.specs.Visits.{VisitsAll}
+use Rattle.links.proofs.Visits.{past-none}
+use Rattle.rowvisit.specs.Row.{Follows, VisitsRow, VisitedBy, VisitsCached}
+use Rattle.rowvisit.specs.declared.row.RowVisited.{RowVisited}
+use Rattle.rowvisit.specs.declared.row.RowVisited.the-variants.{Visited, Corrupt as RowVisited·Corrupt}
+use Rattle.bodyvisit.specs.Body.{VisitsBody, stored}
+use Rattle.visit.specs.Taking.{gave, timeGiven, endGiven, EndsBody, Rests, Gives, InRows, InStore, Popped, TakesBody, TakesStored, TakesCached, TakesNext}
 use Rattle.visit.specs.Plain.{Plain}
-use Rattle.visit.proofs.Past.{past-none, plain-end, plain-bare, counted-lost, plain-ends}
-use Rattle.visit.proofs.Bodies.{followed-take, crowded-followed, seconds-stored}
+use Rattle.visit.proofs.Past.{plain-end, plain-bare, counted-lost, plain-ends}
+use Rattle.bodyvisit.proofs.Bodies.{followed-take, crowded-followed, seconds-stored}
 use Rattle.hash.specs.Bytes.{idBytes}
 
 -- ---- an answer as the code gives it
@@ -116,26 +120,6 @@ time-right {v} {sh} {excluded} {settings} {r} by g s t e =
     let i : byTime (v .settings) ≡ false = q ∙ sym p ∙ k in
     ap (λ (c : Bool). timeGiven c s) h ∙ ap (λ (c : Bool). secondsGiven (cond c (some t) none)) (sym i))
 
--- ---- how many parents are followed
-
-pub follows-one : {settings : Settings} {n : ℕ} → onlyFirst settings ≡ true → 1 < n → Follows settings n 1
-follows-one {settings} {n} o h = record { right = λ ps e. go ps (omega (arith, e)) ∙ ap length (sym (followed-one settings ps o)); few = omega arith }
-  where
-    go : (ps : List (Id × ℤ)) → 1 < length ps → 1 ≡ length (take 1 ps)
-    go [] k = absurd (omega arith)
-    go (p ∷ ps) k = refl
-
-pub follows-few : {settings : Settings} {n : ℕ} → onlyFirst settings ≡ true → n ≤ 1 → Follows settings n n
-follows-few {settings} {n} o h = record { right = λ ps e. e ∙ go ps (omega (arith, e)) ∙ ap length (sym (followed-one settings ps o)); few = omega arith }
-  where
-    go : (ps : List (Id × ℤ)) → length ps ≤ 1 → length ps ≡ length (take 1 ps)
-    go [] k = refl
-    go (p ∷ []) k = refl
-    go (p ∷ (q ∷ ps)) k = absurd (omega arith)
-
-pub follows-all : {settings : Settings} {n : ℕ} → onlyFirst settings ≡ false → Follows settings n n
-follows-all {settings} o = record { right = λ ps e. e ∙ ap length (sym (followed-all settings ps o)); few = omega arith }
-
 -- ---- from the row
 
 module _ {sh : Shape} {r : Record} {m : Memory} {st : State} {u : List Id} where
@@ -143,7 +127,14 @@ module _ {sh : Shape} {r : Record} {m : Memory} {st : State} {u : List Id} where
   part-ready : (n : ℕ) → n ≤ 256 → Ready sh r m st u 256 → Ready sh r m st u (n + (256 - n))
   part-ready n h d = let e : 256 ≡ n + (256 - n) = omega arith in subst (λ (j : ℕ). Ready sh r m st u j) e d
 
-pub takes-row : {excluded : List ℕ} {settings : Settings} {g : List ℕ} {l : Layout} {p n k : ℕ} {c : Level} {r r′ : Record} {x : Id} {s : Seconds} {m m′ : Memory} {b b′ : List ℕ}
+-- the commit x, queued with t seconds and out of the queue already, from its row
+record TakesRow (excluded : List ℕ) (settings : Settings) (g : List ℕ) (l : Layout) (p n : ℕ) (c : Level) (r : Record) (x : Id) (t : ℤ) (m m′ : Memory) (b b′ : List ℕ) (a : Taken) : Type 0 where
+  right : graphOk idBytes g ≡ true → l ≡ layoutOf idBytes g → (ps : List (Id × ℤ)) (s : ℤ) → rowAt g p ≡ row ps (c .0) s → n ≡ length ps → (v : Walk) (sh : Shape) (st : State) (u : List Id) (t′ : ℤ)
+      → GoesBy v sh excluded settings → Ready sh r m st u 256 → ((q : Id) → List·Memᴰ q (map (λ q. q .0) ps) → List·Memᴰ q u) → (sh .timed ≡ true → t ≡ t′) → 5120 ≤ length b
+      → Gives sh m m′ b b′ a (fromRow v st x t′ ps (c .0))
+  plain : n ≤ most → Plain b b′ (a .answer)
+
+takes-row : {excluded : List ℕ} {settings : Settings} {g : List ℕ} {l : Layout} {p n k : ℕ} {c : Level} {r r′ : Record} {x : Id} {s : Seconds} {m m′ : Memory} {b b′ : List ℕ}
     → Follows settings n k → VisitsRow excluded settings g l p k r m m′ b b′ r′
     → TakesRow excluded settings g l p n c r x (s .0) m m′ b b′ (gave Commit x k (levelGiven (levelShown (c .0))) (timeGiven (r .queue .timed) s) NoZone r′)
 unfolding fromRow
@@ -343,7 +334,7 @@ row-own v graph store kept x d own k e =
 
 module _ {excluded : List ℕ} {settings : Settings} {graph store : List ℕ} {l : Layout} {p : ℕ} {n : Next} {names marks : List ℕ} {times : List ℤ} {line : List ℕ} {b : List ℕ} {w : RowRead}
     (read : w ≡ rowReadOf (levelOf graph l p) (parentsIn idBytes graph l p)) where
-  pub cached-row : {m′ : Memory} {b′ : List ℕ} {a : Taken} {many : ℕ} {c : Level} → w ≡ RowAt many c
+  cached-row : {m′ : Memory} {b′ : List ℕ} {a : Taken} {many : ℕ} {c : Level} → w ≡ RowAt many c
       → TakesRow excluded settings graph l p many c (n .rest) (idIn idBytes (n .id .bytes)) (n .seconds .0) (mem names marks times line) m′ b b′ a
       → TakesCached excluded settings graph l p store n (mem names marks times line) m′ b b′ a
   unfolding takeRow
@@ -358,7 +349,7 @@ module _ {excluded : List ℕ} {settings : Settings} {graph store : List ℕ} {l
     plain = t .plain (row-counted graph l p read e);
   }
 
-  pub cached-corrupt : {line′ : List ℕ} {m′ : Memory} {b′ : List ℕ} {a : Taken} {r′ : Record} → w ≡ Corrupt → Drops (n .rest) times line line′ (n .slot) r′
+  cached-corrupt : {line′ : List ℕ} {m′ : Memory} {b′ : List ℕ} {a : Taken} {r′ : Record} → w ≡ Corrupt → Drops (n .rest) times line line′ (n .slot) r′
       → TakesStored excluded settings store r′ (mem names marks times line′) m′ b b′ a → TakesCached excluded settings graph l p store n (mem names marks times line) m′ b b′ a
   unfolding takeRow dropped withQueue
   cached-corrupt {line′} {m′} {b′} {a} {r′} e x t = record {
@@ -376,6 +367,43 @@ module _ {excluded : List ℕ} {settings : Settings} {graph store : List ℕ} {l
         (gives-on (λ c h. x .for-line .kept c (omega (arith, h, k .taken .reads .cap))) (t .right ok graph v sh now u by world rests j z));
     plain = t .plain;
   }
+
+-- the row's parents were visited
+visited-in : {r r′ : Record} {k k′ : ℕ} {c c′ : Level} → Visited r k c ≡ Visited r′ k′ c′ → (r ≡ r′) × (k ≡ k′) × (c ≡ c′)
+visited-in e = (cc, cc, cc)
+
+module _ {excluded : List ℕ} {settings : Settings} {graph store : List ℕ} {l : Layout} {p : ℕ} {n : Next} {names marks : List ℕ} {times : List ℤ} {line : List ℕ} {names₁ marks₁ : List ℕ} {times₁ : List ℤ}
+    {line₁ v v₁ b b₁ : List ℕ} {x : RowVisited}
+    (seen : VisitsCached excluded settings graph l p (n .rest) (mem names marks times line) (mem names₁ marks₁ times₁ line₁) v v₁ b b₁ x) where
+  pub cached-visited : {a : Taken} {r′ : Record} {k : ℕ} {c : Level} → x ≡ Visited r′ k c
+      → a ≡ gave Commit (idIn idBytes (n .id .bytes)) k (levelGiven (levelShown (c .0))) (timeGiven (n .rest .queue .timed) (n .seconds)) NoZone r′
+      → TakesCached excluded settings graph l p store n (mem names marks times line) (mem names₁ marks₁ times₁ line₁) b b₁ a
+  cached-visited {a} {r′} {k} {c} e i = go (rowReadOf (levelOf graph l p) (parentsIn idBytes graph l p)) refl (seen .judged)
+    where
+      go : (w : RowRead) → w ≡ rowReadOf (levelOf graph l p) (parentsIn idBytes graph l p)
+          → VisitedBy w excluded settings graph l p (n .rest) (mem names marks times line) (mem names₁ marks₁ times₁ line₁) v v₁ b b₁ x
+          → TakesCached excluded settings graph l p store n (mem names marks times line) (mem names₁ marks₁ times₁ line₁) b b₁ a
+      go Corrupt read d = let y : RowVisited·Corrupt ≡ Visited r′ k c = sym (d .0) ∙ e in let z : _≡_ {A = ℕ} 0 1 = cc in absurd (omega arith)
+      go (RowAt many c₀) read d =
+          let s = visited-in (sym (d .2) ∙ e) in
+          let w : VisitsRow excluded settings graph l p k (n .rest) (mem names marks times line) (mem names₁ marks₁ times₁ line₁) b b₁ r′ =
+          subst (λ (z : Record). VisitsRow excluded settings graph l p k (n .rest) (mem names marks times line) (mem names₁ marks₁ times₁ line₁) b b₁ z) (s .0)
+          (subst (λ (z : ℕ). VisitsRow excluded settings graph l p z (n .rest) (mem names marks times line) (mem names₁ marks₁ times₁ line₁) b b₁ (d .1)) (s .1) (d .4)) in
+          subst (λ (q : Taken). TakesCached excluded settings graph l p store n (mem names marks times line) (mem names₁ marks₁ times₁ line₁) b b₁ q) (sym i)
+          (cached-row read (ap (RowAt many) (s .2)) (takes-row (subst (λ (z : ℕ). Follows settings many z) (s .1) (d .3)) w))
+
+  -- its list is corrupt: nothing was changed, and the call goes on from the store
+  pub cached-torn : {line′ : List ℕ} {m″ : Memory} {b″ : List ℕ} {a : Taken} {r′ : Record} → x ≡ RowVisited·Corrupt → Drops (n .rest) times₁ line₁ line′ (n .slot) r′
+      → TakesStored excluded settings store r′ (mem names₁ marks₁ times₁ line′) m″ b₁ b″ a → TakesCached excluded settings graph l p store n (mem names marks times line) m″ b b″ a
+  cached-torn {line′} {m″} {b″} {a} {r′} e y t = go (rowReadOf (levelOf graph l p) (parentsIn idBytes graph l p)) refl (seen .judged)
+    where
+      go : (w : RowRead) → w ≡ rowReadOf (levelOf graph l p) (parentsIn idBytes graph l p)
+          → VisitedBy w excluded settings graph l p (n .rest) (mem names marks times line) (mem names₁ marks₁ times₁ line₁) v v₁ b b₁ x
+          → TakesCached excluded settings graph l p store n (mem names marks times line) m″ b b″ a
+      go Corrupt read d =
+          subst (λ (c : List ℕ). TakesCached excluded settings graph l p store n (mem names marks times line) m″ c b″ a) (d .3)
+          (subst (λ (c : Memory). TakesCached excluded settings graph l p store n c m″ b₁ b″ a) (d .1) (cached-corrupt read refl y t))
+      go (RowAt many c₀) read d = let o : Visited (d .1) (d .0) c₀ ≡ RowVisited·Corrupt = sym (d .2) ∙ e in let z : _≡_ {A = ℕ} 0 1 = cc in absurd (omega arith)
 
 -- ---- from what `find` found
 

@@ -1,4 +1,2 @@
-pub mod Link
-pub mod Parents
 pub mod Taking
 pub mod Plain

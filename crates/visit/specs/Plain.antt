@@ -16,10 +16,6 @@ use Rattle.walk.specs.declared.MaybeSeconds.the-variants.{NoTime}
 use Rattle.walk.specs.AnyInput.{OfCall}
 use Rattle.walk.specs.Given.{Given, noId}
 
--- the bytes past the first n ids of the buffer are as they were
-pub record Past (n : ℕ) (b b′ : List ℕ) : Type 0 where
-  pub same : (k : ℕ) → idBytes * n ≤ k → getD b′ k 0 ≡ getD b k 0
-
 -- "A refusal or end carries no id, level or seconds (zeros there)"; card 7: the zone is none "in a refusal or end"
 pub record Bare (a : Given) : Type 0 where
   pub no-id : a .info .id ≡ noId

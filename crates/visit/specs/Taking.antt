@@ -11,12 +11,11 @@ use Rattle.hash.specs.Bytes.{Id}
 use Rattle.date.specs.declared.Seconds.{Seconds}
 use Rattle.date.specs.declared.Zone.{Zone}
 use Rattle.date.specs.declared.Zone.the-variants.{NoZone}
-use Rattle.object.specs.Header.{Header, most}
+use Rattle.object.specs.Header.{Header}
 use Rattle.object.specs.Read.{zoneGiven}
 use Rattle.odb.specs.Store.{storeOk}
 use Rattle.commitgraph.specs.Graph.{graphOk, layoutOf}
 use Rattle.commitgraph.specs.declared.Layout.{Layout}
-use Rattle.commitgraph.specs.declared.Level.{Level}
 use Rattle.walk.specs.declared.Settings.{Settings}
 use Rattle.walk.specs.declared.Outcome.{Outcome}
 use Rattle.walk.specs.declared.Outcome.the-variants.{Commit, Refused}
@@ -25,10 +24,9 @@ use Rattle.walk.specs.declared.MaybeLevel.{MaybeLevel}
 use Rattle.walk.specs.declared.MaybeLevel.the-variants.{NoGeneration}
 use Rattle.walk.specs.declared.MaybeSeconds.{MaybeSeconds}
 use Rattle.walk.specs.declared.MaybeSeconds.the-variants.{Time, NoTime}
-use Rattle.walk.specs.Settings.{followed}
 use Rattle.walk.specs.Lookup.{row, rowAt, worldOf}
 use Rattle.walk.specs.State.{Walk, State, isEmpty}
-use Rattle.walk.specs.Next.{Step, fromRow, fromBody, takeStore, takeRow, takeNext}
+use Rattle.walk.specs.Next.{Step, fromBody, takeStore, takeRow, takeNext}
 use Rattle.walk.specs.Given.{noId, given, parentsGiven}
 use Rattle.reading.specs.declared.body.BodyEnd.{BodyEnd}
 use Rattle.reading.specs.declared.body.BodyEnd.the-variants.{Whole, Unreadable, Crowded}
@@ -37,9 +35,9 @@ use Rattle.state.specs.declared.Next.{Next}
 use Rattle.state.specs.Reads.{Memory, Shape, Reads, Universe}
 use Rattle.state.specs.Shapes.{fixedOf}
 use Rattle.state.specs.Steps.{Taken as OutOfQueue}
-use Rattle.visit.specs.declared.body.BodyVisited.{BodyVisited}
+use Rattle.bodyvisit.specs.declared.body.BodyVisited.{BodyVisited}
 use Rattle.visit.specs.declared.next.Taken.{Taken}
-use Rattle.visit.specs.Link.{GoesBy, Ready}
+use Rattle.links.specs.Link.{GoesBy, Ready}
 use Rattle.visit.specs.Plain.{Plain}
 use Rattle.hash.specs.Bytes.{idBytes}
 
@@ -58,11 +56,6 @@ gave o x n l t z r = record {
 
 abbrev pub timeGiven : Bool → Seconds → MaybeSeconds
 timeGiven b s = cond b (Time s) NoTime
-
--- how many of n parents are followed
-pub record Follows (settings : Settings) (n k : ℕ) : Type 0 where
-  pub right : (ps : List (Id × ℤ)) → n ≡ length ps → k ≡ length (followed settings ps)
-  pub few : k ≤ n
 
 abbrev pub endGiven : BodyEnd → Id → ℕ → MaybeSeconds → Zone → Record → Taken
 endGiven Whole x n t z r = gave Commit x n NoGeneration t z r
@@ -96,14 +89,7 @@ pub record InRows (v : Walk) (u : List Id) : Type 0 where
 pub record InStore (v : Walk) (u : List Id) : Type 0 where
   pub inside : (x p : Id) (h : Header) → v .world .store x ≡ some h → List·Memᴰ p (h .ids) → List·Memᴰ p u
 
--- the commit x, queued with t seconds and out of the queue already, from its row
-pub record TakesRow (excluded : List ℕ) (settings : Settings) (g : List ℕ) (l : Layout) (p n : ℕ) (c : Level) (r : Record) (x : Id) (t : ℤ) (m m′ : Memory) (b b′ : List ℕ) (a : Taken) : Type 0 where
-  pub right : graphOk idBytes g ≡ true → l ≡ layoutOf idBytes g → (ps : List (Id × ℤ)) (s : ℤ) → rowAt g p ≡ row ps (c .0) s → n ≡ length ps → (v : Walk) (sh : Shape) (st : State) (u : List Id) (t′ : ℤ)
-      → GoesBy v sh excluded settings → Ready sh r m st u 256 → ((q : Id) → List·Memᴰ q (map (λ q. q .0) ps) → List·Memᴰ q u) → (sh .timed ≡ true → t ≡ t′) → 5120 ≤ length b
-      → Gives sh m m′ b b′ a (fromRow v st x t′ ps (c .0))
-  pub plain : n ≤ most → Plain b b′ (a .answer)
-
--- the same from its body with the header h, where the store has that under x
+-- the commit x, queued with t seconds and out of the queue already, from its body with the header h, where the store has that under x
 pub record TakesBody (excluded : List ℕ) (settings : Settings) (store : List ℕ) (h : Header) (r : Record) (x : Id) (t : ℤ) (m m′ : Memory) (b b′ : List ℕ) (a : Taken) : Type 0 where
   pub right : storeOk idBytes store ≡ true → (g : List ℕ) (v : Walk) (sh : Shape) (st : State) (u : List Id) (t′ : ℤ) → GoesBy v sh excluded settings → v .world ≡ worldOf store g
       → v .world .store x ≡ some h → Ready sh r m st u 256 → InStore v u → (sh .timed ≡ true → t ≡ t′) → 5120 ≤ length b → Gives sh m m′ b b′ a (fromBody v st x t′ (some h))

@@ -1,8 +1,6 @@
 // The next commit of the queue.
-use crate::body::BodyVisited;
-use crate::body::visit_body;
-use crate::link::only_first;
-use crate::row::visit_row;
+use bodyvisit::BodyVisited;
+use bodyvisit::visit_body;
 use commit::Either;
 use commitgraph::Layout;
 use commitgraph::Level;
@@ -12,7 +10,7 @@ use hash::Kind;
 use object::ObjectId;
 use odb::Located;
 use reading::BodyEnd;
-use reading::RowRead;
+use rowvisit::RowVisited;
 use state::Next;
 use state::Record;
 use walk::Answer;
@@ -28,13 +26,14 @@ ghost use lib.ListN.{getD};
 ghost use Rattle.walk.specs.declared.Outcome.the-variants.{Refused};
 ghost use Rattle.walk.specs.declared.MaybeLevel.the-variants.{NoGeneration};
 ghost use Rattle.walk.specs.declared.MaybeSeconds.the-variants.{NoTime};
-ghost use Rattle.walk.specs.Given.{noId};
+ghost use Rattle.walk.specs.Given.{noId, levelGiven};
+ghost use Rattle.walk.specs.Next.{levelShown};
 ghost use Rattle.hash.specs.Bytes.{idBytes};
 ghost use Rattle.object.specs.Header.{header};
 ghost use Rattle.object.specs.Ids.{idIn};
 ghost use Rattle.date.specs.declared.Zone.the-variants.{NoZone};
 ghost use Rattle.state.specs.Steps.{mem};
-ghost use Rattle.visit.specs.Taking.{gave, timeGiven, Follows, EndsBody, TakesRow, TakesBody, TakesStored, TakesCached, TakesNext};
+ghost use Rattle.visit.specs.Taking.{gave, timeGiven, EndsBody, TakesBody, TakesStored, TakesCached, TakesNext};
 ghost use Rattle.visit.specs.Plain.{Plain};
 
 // An answer, and the record after it.
@@ -108,65 +107,19 @@ fn time_given(timed: bool, s: Seconds) -> MaybeSeconds
     MaybeSeconds::NoTime
 }
 
-// How many of n parents are followed.
-fn followed_count(settings: Settings, n: usize) -> usize
-    ensures { λ a. ⌜ Follows settings n a ⌝ }
-{
-    if only_first(settings) {
-        if 1 < n {
-            return 1;
-        }
-    }
-    n
-}
-
-// The commit from its row.
-fn take_row(
-    r: Record,
-    id: ObjectId,
-    s: Seconds,
-    graph: &[u8],
-    l: Layout,
-    position: usize,
-    count: usize,
-    level: Level,
-    names: &mut [u8],
-    marks: &mut [u8],
-    levels: &mut [u32],
-    times: &mut [i64],
-    line: &mut [u32],
-    parents: &mut [u8],
-    excluded: &[u8],
-    settings: Settings,
-) -> Taken
-    ensures { λ a. ⌜ TakesRow (now (excluded .entry)) settings (now (graph .entry)) l position count level r (idIn idBytes (id .bytes)) (s .0) (mem (now (names .entry)) (now (marks .entry)) (now (times .entry)) (now (line .entry))) (mem (now (names .exit)) (now (marks .exit)) (now (times .exit)) (now (line .exit))) (now (parents .entry)) (now (parents .exit)) a ⌝ }
+// The answer for a commit from its row, of which n parents were visited.
+fn give_row(r: Record, id: ObjectId, s: Seconds, n: usize, level: Level, after: Record) -> Taken
+    ensures { λ a. ⌜ a ≡ gave Outcome.Commit (idIn idBytes (id .bytes)) n (levelGiven (levelShown (level .0))) (timeGiven (r .queue .timed) s) NoZone after ⌝ }
 {
     let q = r.queue;
-    let time = time_given(q.timed, s);
-    let n = followed_count(settings, count);
-    let at = visit_row(
-        r,
-        graph,
-        l,
-        position,
-        n,
-        names,
-        marks,
-        levels,
-        times,
-        line,
-        parents,
-        excluded,
-        settings,
-    );
     give(
         Outcome::Commit,
         id,
         n,
         reading::level_shown(level),
-        time,
+        time_given(q.timed, s),
         Zone::NoZone,
-        at,
+        after,
     )
 }
 
@@ -331,29 +284,26 @@ fn take_cached(
 ) -> Taken
     ensures { λ a. ⌜ TakesCached (now (excluded .entry)) settings (now (graph .entry)) l position (now (store .entry)) first (mem (now (names .entry)) (now (marks .entry)) (now (times .entry)) (now (line .entry))) (mem (now (names .exit)) (now (marks .exit)) (now (times .exit)) (now (line .exit))) (now (parents .entry)) (now (parents .exit)) a ⌝ }
 {
-    match reading::collect_parents(graph, l, position) {
-        RowRead::Row {
-            parents: count,
+    match rowvisit::visit_cached(
+        first.rest,
+        graph,
+        l,
+        position,
+        names,
+        marks,
+        levels,
+        times,
+        line,
+        parents,
+        excluded,
+        settings,
+    ) {
+        RowVisited::Visited {
+            after,
+            parents: n,
             level,
-        } => take_row(
-            first.rest,
-            first.id,
-            first.seconds,
-            graph,
-            l,
-            position,
-            count,
-            level,
-            names,
-            marks,
-            levels,
-            times,
-            line,
-            parents,
-            excluded,
-            settings,
-        ),
-        RowRead::Corrupt => {
+        } => give_row(first.rest, first.id, first.seconds, n, level, after),
+        RowVisited::Corrupt => {
             let back = state::drop_graph(first.rest, times, line, first.slot);
             take_stored(
                 back,

@@ -1,6 +1,6 @@
 -- `visit::next::next_by_topology_or_commit_date` meets its contract: what `find` finds of the front decides the case, as in the walk. Assumes nothing.
 use mathlib.Core.Path.{_∙_}
-use Rattle.visit.proofs.Bodies.{not-true, not-false}
+use Rattle.links.proofs.Links.{not-true, not-false}
 use Rattle.visit.proofs.Past.{plain-end}
 use Rattle.visit.proofs.Takings.{next-none, next-cached, next-body, next-absent, plain-absent}
 use borrow.Author.Needs.{needs}

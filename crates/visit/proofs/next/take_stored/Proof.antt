@@ -1,6 +1,6 @@
 -- `visit::next::take_stored` meets its contract: the first of the queue is popped, and what the store has of it decides. Assumes nothing.
 use mathlib.Core.Path.{_∙_}
-use Rattle.visit.proofs.Bodies.{not-true, not-false}
+use Rattle.links.proofs.Links.{not-true, not-false}
 use Rattle.visit.proofs.Takings.{stored-none, stored-body, stored-absent}
 use borrow.Author.Needs.{needs}
 use Rattle.visit.proofs.next.take_stored.Statement.{statement}

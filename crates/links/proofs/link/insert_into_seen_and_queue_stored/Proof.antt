@@ -1,0 +1,62 @@
+-- `links::link::insert_into_seen_and_queue_stored` meets its contract: the same with the seconds in the store, which are read where the parent is new and do not count elsewhere. Assumes nothing.
+use Rattle.walk.specs.Lookup.{worldOf, secondsFor}
+use Rattle.reading.proofs.Tips.{seconds-right}
+use Rattle.links.proofs.Links.{not-true, not-false}
+use Rattle.links.proofs.Links.{visits, visits-known}
+use borrow.Author.Needs.{needs}
+use Rattle.links.proofs.link.insert_into_seen_and_queue_stored.Statement.{statement}
+use Rattle.links.proofs.link.insert_into_seen_and_queue_stored.Tie as tie
+
+see-requires : tie.Need-see-requires
+see-requires c κs = search needs
+
+same-length : tie.Need-same-length
+same-length c = search needs
+
+same-length-2 : tie.Need-same-length-2
+same-length-2 c = search needs
+
+returns : tie.Need-returns
+returns c = let x = c .before .before .before .before .before .before .before .before .before .before .before .before .before .before .before .before .args in record { right = λ ok g. visits-known (c .before .before .before .before .before .before .see .ensures) (not-true (c .before .before .before .before .before .before .see .result .fresh) (c .if1 .taken)) (secondsFor (worldOf (x .store .now) g) (x .id .now)) }
+
+new-seconds-requires : tie.Need-new-seconds-requires
+new-seconds-requires c κs = search needs
+
+insert-into-queue-requires : tie.Need-insert-into-queue-requires
+insert-into-queue-requires c κs = search needs
+
+same-length-3 : tie.Need-same-length-3
+same-length-3 c = search needs
+
+same-length-4 : tie.Need-same-length-4
+same-length-4 c = search needs
+
+same-length-5 : tie.Need-same-length-5
+same-length-5 c = search needs
+
+same-length-6 : tie.Need-same-length-6
+same-length-6 c = search needs
+
+same-length-7 : tie.Need-same-length-7
+same-length-7 c = search needs
+
+returns-2 : tie.Need-returns-2
+returns-2 c = let x = c .before .before .before .before .before .before .before .before .before .before .before .before .before .before .before .before .before .before .before .before .before .before .before .before .before .before .before .args in
+    record { right = λ ok g. visits (c .before .before .before .before .before .before .before .before .before .before .before .before .before .before .before .before .before .see .ensures) (not-false (c .before .before .before .before .before .before .before .before .before .before .before .before .before .before .before .before .before .see .result .fresh) (c .before .before .before .before .before .before .before .before .before .before .before .if1 .left)) (c .before .before .before .before .before .before .before .before .new-seconds .result .0) (secondsFor (worldOf (x .store .now) g) (x .id .now)) (λ j. seconds-right (c .before .before .before .before .before .before .before .before .new-seconds .ensures j) ok g) (c .before .before .before .insert-into-queue .ensures) }
+
+pub insert-into-seen-and-queue-stored-spec : {M : Type 1} → statement M
+insert-into-seen-and-queue-stored-spec =
+    tie.close
+    (tie.spec
+    see-requires
+    same-length
+    same-length-2
+    returns
+    new-seconds-requires
+    insert-into-queue-requires
+    same-length-3
+    same-length-4
+    same-length-5
+    same-length-6
+    same-length-7
+    returns-2)

@@ -1,0 +1,149 @@
+// One link to a parent (`insert_into_seen_and_next`, `insert_into_seen_and_queue`).
+use commitgraph::Layout;
+use commitgraph::rows;
+use date::Seconds;
+use hash::Kind;
+use state::Record;
+use walk::Parents;
+use walk::Settings;
+ghost use mathlib.Core.Path.{_≡_};
+ghost use mathlib.Core.Bool.{true};
+ghost use Rattle.commitgraph.specs.Graph.{secondsIn};
+ghost use Rattle.walk.specs.Settings.{onlyFirst};
+ghost use Rattle.reading.specs.Tip.{GivesSeconds};
+ghost use Rattle.state.specs.Steps.{mem};
+ghost use Rattle.links.specs.Link.{Admits, Enters, Visits, VisitsStored};
+ghost use Rattle.hash.specs.Bytes.{idBytes};
+
+// No place is noted from here on.
+const MOST: usize = 4294967295;
+
+// Whether a walk follows first parents alone.
+pub fn only_first(settings: Settings) -> bool
+    ensures { λ r. ⌜ r ≡ onlyFirst settings ⌝ }
+{
+    let parents = settings.parents;
+    match parents {
+        Parents::All => false,
+        Parents::First => true,
+    }
+}
+
+// Whether the link to a parent that is not seen yet is admitted: it is not excluded, and not before the cutoff, which first parents ignore.
+pub fn admits(excluded: &[u8], settings: Settings, id: &[u8], s: Seconds) -> bool
+    ensures { λ r. ⌜ Admits (now (excluded .entry)) settings (now (id .entry)) (s .0) r ⌝ }
+{
+    if reading::is_among(excluded, id) {
+        return false;
+    }
+    if only_first(settings) {
+        return true;
+    }
+    let sorting = settings.sorting;
+    walk::within_cutoff_time(sorting, s)
+}
+
+// A new parent waits in its slot, if its link is admitted.
+fn insert_into_queue(
+    r: Record,
+    slot: usize,
+    times: &mut [i64],
+    line: &mut [u32],
+    excluded: &[u8],
+    settings: Settings,
+    id: &[u8],
+    s: Seconds,
+) -> Record
+    ensures { λ a. ⌜ Enters (now (excluded .entry)) settings r (now (times .entry)) (now (times .exit)) (now (line .entry)) (now (line .exit)) (now (id .entry)) (s .0) slot a ⌝ }
+{
+    if admits(excluded, settings, id, s) {
+        return state::wait(r, times, line, slot, s);
+    }
+    r
+}
+
+// The seconds of a new parent in its own graph row, where commits wait by time; else they are not asked.
+fn new_row_seconds(graph: &[u8], l: Layout, parent: usize, timed: bool) -> Seconds
+    ensures { λ r. ⌜ (timed ≡ true → r .0 ≡ secondsIn idBytes (now (graph .entry)) l parent) ⌝ }
+{
+    if timed {
+        return rows::seconds(Kind::Sha1, graph, l, parent);
+    }
+    Seconds(0)
+}
+
+// Notes beside its slot where a new parent stands, its position in the commit-graph file or the number of its entry in the store: that is
+// tried first when the parent leaves the queue. One more is set down, as an opening leaves 0 where nothing is noted. Nothing is promised of
+// what is noted: a commit is looked up by its id.
+fn note(levels: &mut [u32], slot: usize, place: usize) {
+    if slot < levels.len() {
+        if place < MOST {
+            levels[slot] = (place + 1) as u32;
+        }
+    }
+}
+
+// Visits the parent at a position of the commit-graph file: its seconds are those of its own row.
+pub fn insert_into_seen_and_queue_cached(
+    r: Record,
+    names: &mut [u8],
+    marks: &mut [u8],
+    levels: &mut [u32],
+    times: &mut [i64],
+    line: &mut [u32],
+    excluded: &[u8],
+    settings: Settings,
+    graph: &[u8],
+    l: Layout,
+    parent: usize,
+    id: &[u8],
+) -> Record
+    ensures { λ a. ⌜ Visits (now (excluded .entry)) settings r (mem (now (names .entry)) (now (marks .entry)) (now (times .entry)) (now (line .entry))) (mem (now (names .exit)) (now (marks .exit)) (now (times .exit)) (now (line .exit))) (now (id .entry)) (secondsIn idBytes (now (graph .entry)) l parent) a ⌝ }
+{
+    let seen = state::see(r, names, marks, id);
+    // a known parent changes nothing, and the record is handed back before anything of it is asked
+    if !seen.fresh {
+        return r;
+    }
+    let q = r.queue;
+    let s = new_row_seconds(graph, l, parent, q.timed);
+    note(levels, seen.slot, parent);
+    insert_into_queue(r, seen.slot, times, line, excluded, settings, id, s)
+}
+
+// The seconds of a new parent in the store, where commits wait by time, and its entry is noted beside its slot; else they are not asked.
+fn new_seconds(store: &[u8], id: &[u8], timed: bool, levels: &mut [u32], slot: usize) -> Seconds
+    ensures { λ r. ⌜ (timed ≡ true → GivesSeconds (now (store .entry)) (now (id .entry)) r) ⌝ }
+{
+    if timed {
+        let mut entry = 0;
+        let s = reading::seconds_noting(store, id, &mut entry);
+        note(levels, slot, entry);
+        return s;
+    }
+    Seconds(0)
+}
+
+// Visits a parent of a commit from the store: its seconds are those in the store, else 0.
+pub fn insert_into_seen_and_queue_stored(
+    r: Record,
+    names: &mut [u8],
+    marks: &mut [u8],
+    levels: &mut [u32],
+    times: &mut [i64],
+    line: &mut [u32],
+    excluded: &[u8],
+    settings: Settings,
+    store: &[u8],
+    id: &[u8],
+) -> Record
+    ensures { λ a. ⌜ VisitsStored (now (excluded .entry)) settings (now (store .entry)) r (mem (now (names .entry)) (now (marks .entry)) (now (times .entry)) (now (line .entry))) (mem (now (names .exit)) (now (marks .exit)) (now (times .exit)) (now (line .exit))) (now (id .entry)) a ⌝ }
+{
+    let seen = state::see(r, names, marks, id);
+    if !seen.fresh {
+        return r;
+    }
+    let q = r.queue;
+    let s = new_seconds(store, id, q.timed, levels, seen.slot);
+    insert_into_queue(r, seen.slot, times, line, excluded, settings, id, s)
+}

@@ -1,0 +1,174 @@
+// The parents of a commit from the commit-graph file.
+use commitgraph::Layout;
+use commitgraph::Level;
+use commitgraph::parents;
+use commitgraph::rows;
+use hash::Kind;
+use links::insert_into_seen_and_queue_cached;
+use links::only_first;
+use reading::RowRead;
+use state::Record;
+use walk::Settings;
+ghost use Rattle.state.specs.Steps.{mem};
+ghost use Rattle.rowvisit.specs.Row.{Follows, SetsParent, VisitsRowParent, VisitsRow, VisitsCached};
+
+// The parents of a row that were visited, how many they are, and the row's level; or its list is corrupt.
+pub enum RowVisited {
+    Visited {
+        after: Record,
+        parents: usize,
+        level: Level,
+    },
+    Corrupt,
+}
+
+// The most parents of a commit.
+const MOST_PARENTS: usize = 256;
+
+// Sets down the id of parent k in the 20 bytes that are its place; a longer one is not set down.
+fn set_parent(parents: &mut [u8], k: usize, id: &[u8])
+    ensures { λ r. ⌜ SetsParent k (now (id .entry)) (now (parents .entry)) (now (parents .exit)) ⌝ }
+{
+    if k < MOST_PARENTS && id.len() <= hash::width(Kind::Sha1) {
+        hash::set_nth(Kind::Sha1, parents, k, id);
+    }
+}
+
+// Sets down and visits parent k of the row at a position: its id goes from the file to the buffers, its seconds are those of its own row.
+fn visit_row_parent(
+    r: Record,
+    graph: &[u8],
+    l: Layout,
+    position: usize,
+    k: usize,
+    names: &mut [u8],
+    marks: &mut [u8],
+    levels: &mut [u32],
+    times: &mut [i64],
+    line: &mut [u32],
+    parents: &mut [u8],
+    excluded: &[u8],
+    settings: Settings,
+) -> Record
+    ensures { λ a. ⌜ VisitsRowParent (now (excluded .entry)) settings (now (graph .entry)) l position k r (mem (now (names .entry)) (now (marks .entry)) (now (times .entry)) (now (line .entry))) (mem (now (names .exit)) (now (marks .exit)) (now (times .exit)) (now (line .exit))) (now (parents .entry)) (now (parents .exit)) a ⌝ }
+{
+    let parent = parents::parent(Kind::Sha1, graph, l, position, k);
+    let id = rows::id_at(Kind::Sha1, graph, l, parent);
+    set_parent(parents, k, id);
+    insert_into_seen_and_queue_cached(
+        r,
+        names,
+        marks,
+        levels,
+        times,
+        line,
+        excluded,
+        settings,
+        graph,
+        l,
+        parent,
+        id,
+    )
+}
+
+// Sets down and visits the first n parents of the row at a position, whose list was found good before.
+fn visit_row(
+    r: Record,
+    graph: &[u8],
+    l: Layout,
+    position: usize,
+    n: usize,
+    names: &mut [u8],
+    marks: &mut [u8],
+    levels: &mut [u32],
+    times: &mut [i64],
+    line: &mut [u32],
+    parents: &mut [u8],
+    excluded: &[u8],
+    settings: Settings,
+) -> Record
+    ensures { λ a. ⌜ VisitsRow (now (excluded .entry)) settings (now (graph .entry)) l position n r (mem (now (names .entry)) (now (marks .entry)) (now (times .entry)) (now (line .entry))) (mem (now (names .exit)) (now (marks .exit)) (now (times .exit)) (now (line .exit))) (now (parents .entry)) (now (parents .exit)) a ⌝ }
+{
+    let mut at = r;
+    let mut k = 0;
+    while k < n {
+        at = visit_row_parent(
+            at,
+            graph,
+            l,
+            position,
+            k,
+            names,
+            marks,
+            levels,
+            times,
+            line,
+            parents,
+            excluded,
+            settings,
+        );
+        k += 1;
+    }
+    at
+}
+
+// How many of n parents are followed.
+fn followed_count(settings: Settings, n: usize) -> usize
+    ensures { λ a. ⌜ Follows settings n a ⌝ }
+{
+    if only_first(settings) {
+        if 1 < n {
+            return 1;
+        }
+    }
+    n
+}
+
+// The parents of the row at a position, those that the mode follows: the whole list is judged first. Where it is corrupt, nothing is set down,
+// seen or queued.
+pub fn visit_cached(
+    r: Record,
+    graph: &[u8],
+    l: Layout,
+    position: usize,
+    names: &mut [u8],
+    marks: &mut [u8],
+    levels: &mut [u32],
+    times: &mut [i64],
+    line: &mut [u32],
+    parents: &mut [u8],
+    excluded: &[u8],
+    settings: Settings,
+) -> RowVisited
+    ensures { λ a. ⌜ VisitsCached (now (excluded .entry)) settings (now (graph .entry)) l position r (mem (now (names .entry)) (now (marks .entry)) (now (times .entry)) (now (line .entry))) (mem (now (names .exit)) (now (marks .exit)) (now (times .exit)) (now (line .exit))) (now (levels .entry)) (now (levels .exit)) (now (parents .entry)) (now (parents .exit)) a ⌝ }
+{
+    match reading::collect_parents(graph, l, position) {
+        RowRead::Row {
+            parents: count,
+            level,
+        } => {
+            let n = followed_count(settings, count);
+            let at = visit_row(
+                r,
+                graph,
+                l,
+                position,
+                n,
+                names,
+                marks,
+                levels,
+                times,
+                line,
+                parents,
+                excluded,
+                settings,
+            );
+            RowVisited::Visited {
+                after: at,
+                parents: n,
+                level,
+            }
+        }
+        RowRead::Corrupt => RowVisited::Corrupt,
+    }
+}

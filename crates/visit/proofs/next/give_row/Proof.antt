@@ -1,0 +1,19 @@
+-- `visit::next::give_row` meets its contract: the answer has the level and the seconds as they are shown. Assumes nothing.
+use borrow.Author.Needs.{needs}
+use Rattle.visit.proofs.next.give_row.Statement.{statement}
+use Rattle.visit.proofs.next.give_row.Tie as tie
+
+level-shown-requires : tie.Need-level-shown-requires
+level-shown-requires c κs = search needs
+
+time-given-requires : tie.Need-time-given-requires
+time-given-requires c κs = search needs
+
+give-requires : tie.Need-give-requires
+give-requires c κs = search needs
+
+returns : tie.Need-returns
+returns c = rw (c .give .ensures, c .before .before .level-shown .ensures, c .before .time-given .ensures)
+
+pub give-row-spec : {M : Type 1} → statement M
+give-row-spec = tie.close (tie.spec level-shown-requires time-given-requires give-requires returns)
