@@ -1,7 +1,7 @@
 """Document 01's walk, from its words alone, and document 02's cards; the readers of the two files are tools/formats.py, from the same words.
 
 `Files` is what the two files say of an id. `Walk` is an opening and its next calls. Sentences in quotation marks are the documents'.
-`reach` and `Tested` are card 1, `commit_id` and `check_names` card 2, `write_graph` card 4, `merge_base` cards 8 and 11.
+`reach` and `Tested` are card 1, `commit_id` and `check_names` card 2, `write_graph` card 4, `feed_report` card 5, `merge_base` cards 8 and 11.
 """
 import collections
 import hashlib
@@ -512,3 +512,72 @@ def write_graph(store, lent, room, width=20):
     returns their number." """
     number, file = graph_length(store, lent, width)
     return (20, b"") if number == 0 and room < len(file) else (number, file)
+
+
+# ---- card 5
+
+CONE, BED = b"Cone-feed: ", b"Bed-feed: "
+MOST_FEED = 1000000000
+
+
+def message(body):
+    """"the message is what follows the first empty line"; no message is an empty one"""
+    at = 0
+    while at < len(body):
+        end = body.find(b"\n", at)
+        if end < 0:
+            break
+        if end == at:
+            return body[at + 1:]
+        at = end + 1
+    return b""
+
+
+def feed(body):
+    """The two readings, None where there is none; raises Refused. "21 reading given twice (two lines with the same start, readable or not), 22 reading
+    unreadable, … 21 first". """
+    # "message lines starting so count wherever they stand. A line ends at its newline or at the body's end"
+    lines = message(body).split(b"\n")
+    given = [[line[len(start):] for line in lines if line.startswith(start)] for start in (CONE, BED)]
+    if any(len(values) > 1 for values in given):
+        raise Refused(21)
+    # "1 to 10 decimal digits, millimetres, at most 1,000,000,000"; "one that starts so and goes on otherwise is unreadable"
+    for values in given:
+        for digits in values:
+            if not 1 <= len(digits) <= 10 or any(not 48 <= byte <= 57 for byte in digits) or int(digits) > MOST_FEED:
+                raise Refused(22)
+    return [int(values[0]) if values else None for values in given]
+
+
+def handed(walk):
+    """The ids that a walk hands out, one after the other; raises Refused at its own first refusal."""
+    if walk.refused is not None:
+        raise Refused(walk.refused)
+    while True:
+        answer = walk.next()
+        if answer.kind == "error":
+            raise Refused(answer.number)
+        if answer.kind == "end":
+            return
+        yield answer.name
+
+
+def feed_report(walk):
+    """The number, then runs with both, cone alone, bed alone and neither, the two sums, and cone less bed over paired runs. "A walk's own refusal ends the
+    report with that number and zeros." 21 and 22 "at the first such run in walk order …; the report is zeros. Of these and a walk's refusal the earlier
+    call decides." """
+    both = cone_alone = bed_alone = neither = cones = beds = less = 0
+    try:
+        for name in handed(walk):
+            # "A commit found only in the graph has no message and counts as neither."
+            cone, bed = feed(walk.files.bodies.get(name, b""))
+            both += cone is not None and bed is not None
+            cone_alone += cone is not None and bed is None
+            bed_alone += cone is None and bed is not None
+            neither += cone is None and bed is None
+            cones, beds = cones + (cone or 0), beds + (bed or 0)
+            if cone is not None and bed is not None:
+                less += cone - bed
+    except Refused as refused:
+        return refused.number, [0] * 6, 0
+    return 0, [both, cone_alone, bed_alone, neither, cones, beds], less

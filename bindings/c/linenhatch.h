@@ -40,6 +40,8 @@ extern "C" {
 #define LINENHATCH_CHECK_NUMBERS 1u                                       /* uint64_t, of a check of names */
 #define LINENHATCH_BASE_NUMBERS 1u                                        /* uint64_t, of where two series part */
 #define LINENHATCH_GRAPH_NUMBERS 1u                                       /* uint64_t, of writing a graph file */
+#define LINENHATCH_FEED_NUMBERS 6u                                        /* uint64_t, of a feed report */
+#define LINENHATCH_FEED_DIFFERENCES 1u                                    /* int64_t, of a feed report */
 
 /* ---- where a number stands in numbers */
 
@@ -66,6 +68,14 @@ extern "C" {
 
 /* of writing a graph file alone: */
 #define LINENHATCH_FILE_BYTES 0 /* how many bytes the file has, 0 where there is none */
+
+/* of a feed report alone; the first four add up to the commits handed out: */
+#define LINENHATCH_FEED_BOTH 0    /* commits with both readings */
+#define LINENHATCH_FEED_CONE 1    /* with a cone reading alone */
+#define LINENHATCH_FEED_BED 2     /* with a bed reading alone */
+#define LINENHATCH_FEED_NEITHER 3 /* with neither, also those that the graph file alone has */
+#define LINENHATCH_CONE_SUM 4     /* the sum of all cone readings, in millimetres */
+#define LINENHATCH_BED_SUM 5      /* the sum of all bed readings */
 
 /* ---- results: a commit or an opening that is accepted is 0, the end 100, no room 101, all others are refusals */
 
@@ -104,7 +114,7 @@ extern "C" {
 #define LINENHATCH_UNFIT_SECONDS 19u /* a commit's time is outside 0 to 17,179,869,183 */
 #define LINENHATCH_SHORT_OUTPUT 20u  /* the output is shorter than the file */
 
-/* of readings in messages */
+/* of a feed report */
 #define LINENHATCH_READING_TWICE 21u      /* two lines of a message start with the same reading */
 #define LINENHATCH_READING_UNREADABLE 22u /* a line starts with a reading and goes on otherwise than with its number */
 
@@ -276,6 +286,31 @@ uint32_t linenhatch_write_graph(
     uint32_t *generations, size_t generations_len,
     uint8_t *output, size_t output_len,
     uint64_t *numbers, size_t numbers_len);
+
+/* The feed report of a whole walk, opened as linenhatch_open opens one and called to its end: 0, or the number of the refusal: that of the opening, the
+ * walk's own first one (9 to 11), or 21 or 22 of a commit's message, whichever comes first in the walk; of 21 and 22 in one message 21.
+ *
+ * A message is what follows a commit's first empty line. A line of it that starts with "Cone-feed: " or "Bed-feed: " gives a reading in millimetres, 1 to 10
+ * digits up to the line's end, at most 1,000,000,000.
+ *
+ * numbers: see above. difference: one number, the sum of cone less bed over the commits with both readings. Both are set down in every case, zeros
+ * after a refusal; where one of them is too short the result is 101, before all other tests, and nothing is altered. names to parents are working memory, of the
+ * sizes that an opening asks for: after 1 to 8 not a byte there is altered, else what they hold is free. */
+uint32_t linenhatch_feed(
+    const uint8_t *store, size_t store_len,
+    const uint8_t *graph, size_t graph_len,
+    const uint8_t *tips, size_t tips_len,
+    const uint8_t *hidden, size_t hidden_len,
+    const uint8_t *excluded, size_t excluded_len,
+    uint32_t sorting, uint32_t has_cutoff, int64_t cutoff, uint32_t first,
+    uint8_t *names, size_t names_len,
+    uint8_t *marks, size_t marks_len,
+    uint32_t *generations, size_t generations_len,
+    int64_t *times, size_t times_len,
+    uint32_t *line, size_t line_len,
+    uint8_t *parents, size_t parents_len,
+    uint64_t *numbers, size_t numbers_len,
+    int64_t *difference, size_t difference_len);
 
 #ifdef __cplusplus
 }

@@ -599,6 +599,7 @@ static void all_at_once(void)
 
 #include "parting.h"
 #include "writing.h"
+#include "feeding.h"
 
 static const struct {
     const char *name;
@@ -650,6 +651,7 @@ static const struct {
     {"all of these at once", all_at_once, 10},
     {"where two series part", parted, 20},
     {"writing graph files", written, 20},
+    {"feed reports", fed, 20},
 };
 #define KINDS (sizeof kinds / sizeof *kinds)
 
@@ -786,6 +788,7 @@ static void print_table(void)
            1000 * longest, longest_case, kind_name(longest_kind));
     print_partings();
     print_writings();
+    print_feedings();
 }
 
 static uint64_t calls = 5000000;

@@ -21,6 +21,10 @@ pub(crate) const BASE_NUMBERS: usize = 1;
 /// How many numbers the writing of a commit-graph file sets down.
 pub(crate) const GRAPH_NUMBERS: usize = 1;
 
+/// How many numbers a feed report sets down, and how many signed ones.
+pub(crate) const FEED_NUMBERS: usize = 6;
+pub(crate) const FEED_DIFFERENCES: usize = 1;
+
 /// The files, lists and settings that an opening and each of its calls are lent. No call reads the tips.
 #[derive(Clone, Debug)]
 pub(crate) struct Input<'a> {
@@ -222,6 +226,39 @@ unsafe extern "C" {
         numbers: *mut u64,
         numbers_len: usize,
     ) -> u32;
+
+    fn linenhatch_feed(
+        store: *const u8,
+        store_len: usize,
+        graph: *const u8,
+        graph_len: usize,
+        tips: *const u8,
+        tips_len: usize,
+        hidden: *const u8,
+        hidden_len: usize,
+        excluded: *const u8,
+        excluded_len: usize,
+        sorting: u32,
+        has_cutoff: u32,
+        cutoff: i64,
+        first: u32,
+        names: *mut u8,
+        names_len: usize,
+        marks: *mut u8,
+        marks_len: usize,
+        generations: *mut u32,
+        generations_len: usize,
+        times: *mut i64,
+        times_len: usize,
+        line: *mut u32,
+        line_len: usize,
+        parents: *mut u8,
+        parents_len: usize,
+        numbers: *mut u64,
+        numbers_len: usize,
+        difference: *mut i64,
+        difference_len: usize,
+    ) -> u32;
 }
 
 /// How many places a walk over these files and lists needs.
@@ -414,6 +451,51 @@ pub(crate) fn write_graph(width: u32, store: &[u8], generations: &mut [u32], out
     }
 }
 
+/// The feed report of a whole walk: 0, or the number of the refusal; never 101, as in `open`. The memory's record plays no part.
+pub(crate) fn feed(
+    input: &Input<'_>,
+    tips: &[u8],
+    memory: &mut Memory,
+    numbers: &mut [u64; FEED_NUMBERS],
+    difference: &mut [i64; FEED_DIFFERENCES],
+) -> u32 {
+    // SAFETY: as in `open`; the mutable ones are all of one field each of `memory`, `numbers` and `difference`.
+    unsafe {
+        linenhatch_feed(
+            input.store.as_ptr(),
+            input.store.len(),
+            input.graph.as_ptr(),
+            input.graph.len(),
+            tips.as_ptr(),
+            tips.len(),
+            input.hidden.as_ptr(),
+            input.hidden.len(),
+            input.excluded.as_ptr(),
+            input.excluded.len(),
+            input.sorting,
+            input.has_cutoff,
+            input.cutoff,
+            input.first,
+            memory.names.as_mut_ptr(),
+            memory.names.len(),
+            memory.marks.as_mut_ptr(),
+            memory.marks.len(),
+            memory.generations.as_mut_ptr(),
+            memory.generations.len(),
+            memory.times.as_mut_ptr(),
+            memory.times.len(),
+            memory.line.as_mut_ptr(),
+            memory.line.len(),
+            memory.parents.as_mut_ptr(),
+            memory.parents.len(),
+            numbers.as_mut_ptr(),
+            numbers.len(),
+            difference.as_mut_ptr(),
+            difference.len(),
+        )
+    }
+}
+
 /// The functions themselves, with buffers that the safe ones above never lend.
 #[cfg(test)]
 mod tests {
@@ -552,6 +634,29 @@ mod tests {
             assert_eq!(output, [7; 1200]);
             assert_eq!((write_graph(width, &STORE, &mut [], &mut output, &mut numbers), numbers), (0, [length as u64]));
             assert_eq!((&output[..4], output[5], &output[length..]), (&b"CGPH"[..], if width == 32 { 2 } else { 1 }, &[7; 1200][length..]));
+        }
+    }
+
+    /// Before all else: also of a store that would be refused.
+    #[test]
+    fn a_feed_report_without_room() {
+        for store in [&STORE[..], &STORE[..7]] {
+            for (count, signed) in [(FEED_NUMBERS - 1, FEED_DIFFERENCES), (FEED_NUMBERS, 0), (0, 0)] {
+                let mut memory = Memory { parents: vec![7; 5120], ..Memory::with_places(2) };
+                memory.names.fill(7);
+                let before = format!("{memory:?}");
+                let (list, mut numbers, mut difference) = ([0u8; 0], [7u64; FEED_NUMBERS], [7i64; FEED_DIFFERENCES]);
+                // SAFETY: as in `open`; no length is over the array's.
+                #[rustfmt::skip]
+                let result = unsafe {
+                    linenhatch_feed(
+                        store.as_ptr(), store.len(), list.as_ptr(), 0, list.as_ptr(), 0, list.as_ptr(), 0, list.as_ptr(), 0, 0, 0, 0, 0,
+                        memory.names.as_mut_ptr(), memory.names.len(), memory.marks.as_mut_ptr(), memory.marks.len(), memory.generations.as_mut_ptr(),
+                        memory.generations.len(), memory.times.as_mut_ptr(), memory.times.len(), memory.line.as_mut_ptr(), memory.line.len(),
+                        memory.parents.as_mut_ptr(), memory.parents.len(), numbers.as_mut_ptr(), count, difference.as_mut_ptr(), signed)
+                };
+                assert_eq!((result, numbers, difference, format!("{memory:?}")), (NoRoom::NUMBER, [7; FEED_NUMBERS], [7], before));
+            }
         }
     }
 

@@ -39,6 +39,8 @@ mod merge_base;
 mod names;
 mod order;
 mod refusal;
+#[cfg(feature = "walk")]
+mod reports;
 mod store;
 #[cfg(feature = "walk")]
 mod walk;
@@ -52,6 +54,8 @@ pub use merge_base::merge_base;
 pub use names::{check_names, Fault};
 pub use order::Order;
 pub use refusal::{NoRoom, Refusal};
+#[cfg(feature = "walk")]
+pub use reports::FeedReport;
 pub use store::{header, parents, store_from_commits, StoreBuilder, TooLarge, MAX_FILE_BYTES, MAX_IDS};
 #[cfg(feature = "walk")]
 pub use walk::{Commit, Lister, Numbers, Walk};

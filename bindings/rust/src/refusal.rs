@@ -54,7 +54,7 @@ pub enum Refusal {
     UnfitSeconds,
     /// 20: the output is shorter than the file. [`write_graph`](crate::write_graph) lends enough, so it never meets this.
     ShortOutput,
-    /// 21: two lines of a message start with the same reading.
+    /// 21: two lines of a message start with the same reading. [`feed_report`](crate::Lister::feed_report) alone meets this, and the next.
     ReadingTwice,
     /// 22: a line of a message starts with a reading and goes on otherwise than with a number.
     ReadingUnreadable,

@@ -167,6 +167,11 @@ impl<'a> Lister<'a> {
         ffi::places(&self.input(), &joined(&self.tips))
     }
 
+    /// Files, lists and settings as the library takes them, and the tips.
+    pub(crate) fn lent(&self) -> (Input<'a>, Vec<u8>) {
+        (self.input(), joined(&self.tips))
+    }
+
     fn input(&self) -> Input<'a> {
         Input {
             store: self.store,
@@ -189,7 +194,7 @@ fn joined(ids: &[ObjectId]) -> Vec<u8> {
     ids.iter().flat_map(|id| id.0).collect()
 }
 
-fn refusal(number: u32) -> Refusal {
+pub(crate) fn refusal(number: u32) -> Refusal {
     match Refusal::from_number(number) {
         Some(refusal) => refusal,
         None if number == NoRoom::NUMBER => unreachable!("{NoRoom}"),

@@ -8,7 +8,7 @@ use std::ffi::OsString;
 use std::os::unix::ffi::OsStringExt;
 use std::path::Path;
 
-use args::{parse, Args, Task};
+use args::{parse, Args, Report, Task};
 use linenhatch::Order;
 
 fn task(line: &str) -> Result<Task, String> {
@@ -223,4 +223,20 @@ fn a_graph_file_to_write() {
     assert_eq!(task("write-graph --version"), Ok(Task::Version));
     assert_eq!(list("-- write-graph").revs, ["write-graph"]);
     assert_eq!(list("--count write-graph").revs, ["write-graph"]);
+}
+
+#[test]
+fn a_report() {
+    let args = list("-C x feed --csv --order oldest --hide a b");
+    assert_eq!((args.report, args.csv, args.order), (Some(Report::Feed), true, Order::Oldest));
+    assert_eq!((args.dir.as_path(), args.hide, args.revs), (Path::new("./x"), vec![OsString::from("a")], vec![OsString::from("b")]));
+    assert_eq!(list("feed").revs, ["HEAD"]);
+    assert_eq!(list("feed feed").revs, ["feed"]);
+    assert_eq!((list("-- feed").report, list("main feed").report), (None, None));
+    for option in ["-n 3", "--count", "--reverse", "--parents", "--time", "--zone"] {
+        assert!(refused(&format!("feed {option}")).contains("a report has no option"), "{option}");
+    }
+    assert!(refused("feed --check-names").contains("no option --check-names"));
+    assert!(refused("--csv").contains("no option --csv"));
+    assert_eq!(task("feed -h"), Ok(Task::Help));
 }

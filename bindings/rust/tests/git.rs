@@ -608,4 +608,33 @@ mod tool {
         assert!(list.is_empty());
         assert!(said.contains("its 30000 commits needs ") && said.contains("at most 16777216"), "{said}");
     }
+    #[test]
+    fn reports_feeds() {
+        if !has_git() {
+            return;
+        }
+        let repository = Repository::new("feeds");
+        let one = repository.commit_with(100, &[], "\nCone-feed: 1200\nBed-feed: 1250\n");
+        let two = repository.commit_with(200, &[&one], "\nCone-feed: 0800\n");
+        let three = repository.commit(300, &[&two]);
+        repository.point("main", &three);
+        let fields = repository.list("feed --csv main");
+        assert!(fields[0].starts_with("commits,both,"), "{fields:?}");
+        assert_eq!(fields[1..], ["3,1,1,0,1,2000,1250,-50,1000.000,1250.000,-50.000"]);
+        assert_eq!(repository.list(&format!("feed --csv main ^{one}"))[1], "2,0,1,0,1,800,0,0,800.000,,");
+        let text = repository.list("feed");
+        assert_eq!(text.len(), 8);
+        assert!(text[0].starts_with("commits ") && text[0].ends_with(" 3"), "{text:?}");
+        assert!(text[7].starts_with("cone less bed") && text[7].ends_with(" -50 mm, mean -50.000"), "{text:?}");
+
+        let bad = repository.commit_with(400, &[&three], "\nBed-feed: x\n");
+        let worse = repository.commit_with(500, &[&bad], "\nBed-feed: 1\nBed-feed: 2\n");
+        repository.point("main", &bad);
+        repository.point("feed", &worse);
+        for (name, id) in [("main", &bad), ("-- feed", &worse)] {
+            let (report, why) = repository.fails(&format!("feed {name}"));
+            assert!(report.is_empty() && why.contains(id), "{why}");
+        }
+        assert_eq!(repository.list("-- feed").len(), 5);
+    }
 }

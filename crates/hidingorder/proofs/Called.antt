@@ -18,7 +18,7 @@ use Rattle.traverse.specs.Demand.{Call, answersOf, handedOut, OfTheWalk}
 use Rattle.traverse.proofs.Numbered.{length-upTo, hands-ids, given-ids}
 use Rattle.traverse.proofs.Calls.{answers-upTo}
 use Rattle.traverse.proofs.ThirdDemand.{third-demand}
-use Rattle.lister.specs.Walked.{wholeList}
+use Rattle.driver.specs.Walked.{wholeList}
 use Rattle.lister.proofs.Demanded.{list-demand}
 use Rattle.hiding.specs.Hiding.{Tested}
 use Rattle.hiding.specs.Called.{Walked, idsHanded, SetDown, idsSetDown}

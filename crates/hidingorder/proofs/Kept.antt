@@ -28,7 +28,7 @@ use Rattle.walk.proofs.Whole.{Accepted, accepted, length-list, answers-calls, t
 use Rattle.reach.specs.Search.{ReachedBy, reachList}
 use Rattle.reach.proofs.Closure.{links-named, list-reached}
 use Rattle.traverse.proofs.Numbered.{length-upTo, hands-ids}
-use Rattle.lister.specs.Walked.{allAnswers, wholeList}
+use Rattle.driver.specs.Walked.{allAnswers, wholeList}
 use Rattle.hiding.specs.Hiding.{hiding, Whole, Tested, PartsTested, SameTested}
 use Rattle.hiding.proofs.Joined.{list-joined}
 use Rattle.hiding.proofs.Adding.{parts-tested, same-tested}

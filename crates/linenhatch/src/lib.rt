@@ -9,6 +9,7 @@ ghost use lib.ListN.{length};
 ghost use Rattle.opening.specs.Checks.{inputOf, lengthsOf};
 ghost use Rattle.reach.specs.Memory.{lent};
 ghost use Rattle.mergewire.specs.Wire.{LibraryMergeBase};
+ghost use Rattle.reportwire.specs.Feed.{LibraryFeed};
 ghost use Rattle.graphwire.specs.Wire.{kindOf, LibraryMeasures, LibraryWrites};
 ghost use Rattle.traverse.specs.Open.{lentOf};
 ghost use Rattle.traverse.specs.Next.{filesLent};
@@ -251,4 +252,51 @@ pub extern "C" fn linenhatch_write_graph(
     ensures { λ n. ⌜ LibraryWrites (kindOf width) (now (store .entry)) (now (levels .entry)) (now (levels .exit)) (now (output .entry)) (now (output .exit)) (now (numbers .entry)) (now (numbers .exit)) n ⌝ }
 {
     graphwire::write_graph(width, store, levels, output, numbers)
+}
+
+// The feed report of a whole walk (document 02, card 5): the result is 0, six numbers are the commits with both readings, the cone's alone, the
+// bed's alone and neither, and the sums of all readings of the cone and of the bed, and the signed number is the sum of cone less bed over those with
+// both; else the number of the refusal, and zeros. After 1 to 8 the lent memory is as it was. Where there is no room for the numbers the
+// result is 101: nothing is read, and nothing is altered.
+#[no_mangle]
+pub extern "C" fn linenhatch_feed(
+    store: &[u8],
+    graph: &[u8],
+    tips: &[u8],
+    hidden: &[u8],
+    excluded: &[u8],
+    sorting: u32,
+    limited: u32,
+    cutoff: i64,
+    first: u32,
+    names: &mut [u8],
+    marks: &mut [u8],
+    levels: &mut [u32],
+    times: &mut [i64],
+    line: &mut [u32],
+    parents: &mut [u8],
+    numbers: &mut [u64],
+    difference: &mut [i64],
+) -> u32
+    ensures { λ n. ⌜ LibraryFeed (inputOf (now (store .entry)) (now (graph .entry)) (now (tips .entry)) (now (hidden .entry)) (now (excluded .entry)) (settingsOf sorting limited cutoff first)) (lentOf (now (names .entry)) (now (marks .entry)) (now (levels .entry)) (now (times .entry)) (now (line .entry)) (now (parents .entry))) (lentOf (now (names .exit)) (now (marks .exit)) (now (levels .exit)) (now (times .exit)) (now (line .exit)) (now (parents .exit))) (now (numbers .entry)) (now (numbers .exit)) (now (difference .entry)) (now (difference .exit)) n ⌝ }
+{
+    reportwire::feed(
+        store,
+        graph,
+        tips,
+        hidden,
+        excluded,
+        sorting,
+        limited,
+        cutoff,
+        first,
+        names,
+        marks,
+        levels,
+        times,
+        line,
+        parents,
+        numbers,
+        difference,
+    )
 }

@@ -13,22 +13,22 @@ use Rattle.walk.specs.State.{State}
 use Rattle.walk.specs.Opening.{Input, walkOf, listIds, refusal, roomFor, P, Opening, closed, opened, openWalk}
 use Rattle.walk.specs.Next.{Answer}
 use Rattle.walk.specs.Calls.{answerAt}
-use Rattle.walk.specs.Demand.{Premises, Third}
+use Rattle.walk.specs.Demand.{Premises}
 use Rattle.walk.specs.AnyInput.{RefusedByCall}
 use Rattle.walk.specs.Given.{joined}
 use Rattle.walk.proofs.Calls.{answers-at}
-use Rattle.walk.proofs.Whole.{third}
 use Rattle.walk.proofs.Refused.{refused-by-call}
 use Rattle.opening.specs.Checks.{checkedBy}
 use Rattle.opening.proofs.Opened.{opens}
 use Rattle.traverse.specs.Contract.{Lent, lengthsOf}
-use Rattle.traverse.proofs.Numbered.{length-upTo, hands-ids}
 use Rattle.lister.specs.declared.Listing.{Listing}
-use Rattle.lister.specs.Walked.{allAnswers, wholeList, firstRefusal}
+use Rattle.driver.specs.Walked.{allAnswers, wholeList}
+use Rattle.driver.proofs.Whole.{Wide, list-wide, list-once, list-within, ends-from, list-all, listed-whole}
+use Rattle.lister.specs.Walked.{firstRefusal}
 use Rattle.lister.specs.Says.{ListSays}
 use Rattle.lister.specs.Demand.{ReadsAs, Delivers, AnyListing, ListDemand}
-use Rattle.lister.proofs.SetDown.{Wide, read-back, kept-past}
-use Rattle.lister.proofs.Whole.{list-wide, list-once, list-within, ends-from, list-all, hands-none, none-first, first-of}
+use Rattle.lister.proofs.SetDown.{read-back, kept-past}
+use Rattle.lister.proofs.Refusals.{hands-none, none-first, first-of}
 
 reads-as : (list : List Id) (ids ids′ : List ℕ) → Wide list → ids′ ≡ setDown ids 0 (joined (take (length ids / idBytes) list)) → ReadsAs list ids ids′
 reads-as list ids ids′ w e = record {
@@ -63,13 +63,12 @@ module _ (i : Input) (m : Lent) (ids : List ℕ) (l : Listing) (m′ : Lent) (id
       }
 
   delivers : refusal i ≡ none → roomFor i (lengthsOf m) ≡ true → Premises (walkOf i) (listIds (i .tips)) → Delivers i ids l ids′
-  unfolding Third wholeList
   delivers e room pre =
-      let d = third i e pre in
+      let q = listed-whole i e pre in
+      let d = q .0 in
       let a = any (d .state) (ap (openWalk i) room ∙ d .accepted) in
       let w = s .accepted-open (d .state) (ap (openWalk i) room ∙ d .accepted) in
-      let n : length (allAnswers i) ≡ P i + 2 = ap (λ (x : List Answer). length x) (answers-at i (P i + 2)) ∙ length-upTo (answerAt i) (P i + 2) in
-      let same : wholeList i ≡ d .list = hands-ids (d .list) (allAnswers i) (d .handed-out (P i + 2)) ∙ take-all (length (allAnswers i)) (d .list) (omega (arith, n, d .within)) in
+      let same : wholeList i ≡ d .list = q .1 in
       let h = hands-none (allAnswers i) (d .handed-out (P i + 2)) in
       record {
         accepted = w .accepted;

@@ -1,7 +1,6 @@
-pub mod OneMore
 pub mod SetDown
-pub mod Ended
-pub mod Turns
-pub mod Whole
+pub mod OneMore
+pub mod Refusals
+pub mod Ids
 pub mod ListSaid
 pub mod Demanded

@@ -1,40 +1,20 @@
--- One call more: the answers to k + 1 calls are those to k calls and the answer of call k, so each count goes on by that answer alone.
--- Assumes nothing.
+-- One answer more: each count goes on by that answer alone. Assumes nothing.
 use mathlib.Core.Path.{_≡_, refl, sym, _∙_, ap}
-use Prim.Native.Nat.{ℕ, zero, suc, _+_, _*_}
-use mathlib.Core.List.{List, [], _∷_, _++_, append-assoc, append-nil}
+use Prim.Native.Nat.{ℕ, suc, _+_, _*_}
+use mathlib.Core.List.{List, [], _∷_, _++_, append-nil}
 use native.Mathlib.Omega.{arith}
 use lib.ListN.{length, length-append}
 use Rattle.hash.specs.Bytes.{Id, idBytes, setDown}
 use Rattle.walk.specs.declared.Refusal.{Refusal}
 use Rattle.walk.specs.declared.Outcome.{Outcome}
 use Rattle.walk.specs.declared.Outcome.the-variants.{Commit, End, Refused}
-use Rattle.walk.specs.Opening.{Input}
 use Rattle.walk.specs.Next.{Kind, end, refused, handed, Answer}
-use Rattle.walk.specs.Calls.{answerAt, answers, upTo}
-use Rattle.walk.specs.AnyInput.{handedBy, handedIds}
-use Rattle.walk.specs.Given.{outcomeOf, idOfKind, parentsGiven}
-use Rattle.walk.proofs.Calls.{answers-at}
-use Rattle.lister.specs.Walked.{refusedBy, refusals, refusalOr, firstRefusal, parentsLeft, putDown, commitsAfter, refusedAfter, reasonAfter, idsAfter}
-
-upTo-more : {A : Type 0} (f : ℕ → A) (k : ℕ) → upTo f (suc k) ≡ upTo f k ++ (f k ∷ [])
-unfolding upTo
-upTo-more f zero = refl
-upTo-more f (suc k) = ap (λ (l : List _). f zero ∷ l) (upTo-more (λ n. f (suc n)) k)
-
-pub no-answers : (i : Input) → answers i 0 ≡ []
-unfolding upTo
-no-answers i = answers-at i 0
-
-pub answers-more : (i : Input) (k : ℕ) → answers i (suc k) ≡ answers i k ++ (answerAt i k ∷ [])
-answers-more i k = answers-at i (suc k) ∙ upTo-more (answerAt i) k ∙ ap (λ (l : List Answer). l ++ (answerAt i k ∷ [])) (sym (answers-at i k))
+use Rattle.walk.specs.AnyInput.{handedBy}
+use Rattle.walk.specs.Given.{outcomeOf, idOfKind}
+use Rattle.driver.specs.Tally.{commitsAfter, refusedAfter, reasonAfter, idsAfter}
+use Rattle.lister.specs.Walked.{refusedBy, refusals, refusalOr, firstRefusal, putDown}
 
 -- ---- what a list of answers comes to
-
-pub handed-more : (l : List Answer) (a : Answer) → handedIds (l ++ (a ∷ [])) ≡ handedIds l ++ handedBy (a .kind)
-unfolding handedIds
-handed-more [] a = append-nil (handedBy (a .kind))
-handed-more (b ∷ l) a = ap (λ (r : List Id). handedBy (b .kind) ++ r) (handed-more l a) ∙ sym (append-assoc (handedBy (b .kind)) (handedIds l) (handedBy (a .kind)))
 
 pub refusals-more : (l : List Answer) (a : Answer) → refusals (l ++ (a ∷ [])) ≡ refusals l + refusedBy (a .kind)
 unfolding refusals
@@ -60,11 +40,6 @@ pub first-more : (l : List Answer) (a : Answer) → firstRefusal (l ++ (a ∷ []
 unfolding firstRefusal
 first-more [] a = first-only (a .kind)
 first-more (b ∷ l) a = first-later (b .kind) (outcomeOf (a .kind)) (firstRefusal l) (firstRefusal (l ++ (a ∷ []))) (first-more l a)
-
-pub parents-more : (l : List Answer) (a : Answer) (b : List ℕ) → parentsLeft (l ++ (a ∷ [])) b ≡ parentsGiven a (parentsLeft l b)
-unfolding parentsLeft
-parents-more [] a b = refl
-parents-more (c ∷ l) a b = parents-more l a (parentsGiven c b)
 
 put-more : (b : List ℕ) (n : ℕ) (l : List Id) (x : Id) → putDown b n (l ++ (x ∷ [])) ≡ setDown (putDown b n l) (idBytes * (n + length l)) x
 unfolding putDown

@@ -11,11 +11,9 @@ use Rattle.hash.proofs.Bytes.{setDown-fits, setDown-not, length-setDown}
 use Rattle.hashtable.proofs.TableIds.{less?}
 use Rattle.walk.specs.Reach.{Mem}
 use Rattle.walk.specs.Given.{joined}
+use Rattle.driver.proofs.Ended.{set-down-nothing}
+use Rattle.driver.proofs.Whole.{Wide}
 use Rattle.lister.specs.Walked.{putDown}
-
--- every id has 20 bytes
-abbrev pub Wide : List Id → Type 0
-Wide l = (x : Id) → Mem x l → length x ≡ idBytes
 
 wide-head : (x : Id) (l : List Id) → Wide (x ∷ l) → length x ≡ idBytes
 wide-head x l w = w x (List·Memᴰ·head refl)
@@ -32,12 +30,6 @@ length-joined [] w = refl
 length-joined (x ∷ l) w = length-append x (joined l) ∙ omega (arith, wide-head x l w, length-joined l (wide-tail x l w))
 
 -- ---- set down at once
-
-pub set-down-nothing : (b : List ℕ) (i : ℕ) → setDown b i [] ≡ b
-set-down-nothing b i =
-    ⊎-elim (λ h. setDown-not b i [] h)
-    (λ h. let e : i + 0 ≡ i = omega arith in setDown-fits b i [] h ∙ ap (λ (k : ℕ). take i b ++ drop k b) e ∙ take-append-drop i b)
-    (less? (length b) (i + 0))
 
 -- bytes set down behind others
 set-down-behind : (b : List ℕ) (i : ℕ) (x y : List ℕ) → i + length x + length y ≤ length b → setDown (setDown b i x) (i + length x) y ≡ setDown b i (x ++ y)

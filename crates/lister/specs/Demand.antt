@@ -18,7 +18,7 @@ use Rattle.walk.specs.Demand.{Premises, Listed}
 use Rattle.walk.specs.AnyInput.{OfCall, handedIds}
 use Rattle.traverse.specs.Contract.{Lent, lengthsOf}
 use Rattle.lister.specs.declared.Listing.{Listing}
-use Rattle.lister.specs.Walked.{wholeList}
+use Rattle.driver.specs.Walked.{wholeList}
 use Rattle.lister.specs.Says.{ListSays}
 
 -- a list of ids read from the caller's buffer, which was ids and is ids′

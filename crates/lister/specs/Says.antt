@@ -10,17 +10,16 @@ use Rattle.walk.specs.declared.OpenOutcome.{OpenOutcome}
 use Rattle.walk.specs.declared.OpenOutcome.the-variants.{Accepted, NotOpened}
 use Rattle.walk.specs.State.{State}
 use Rattle.walk.specs.Opening.{Input, P, roomFor, openWalk, closed, opened}
-use Rattle.walk.specs.Calls.{answers, stateAfter}
-use Rattle.walk.specs.AnyInput.{handedIds}
+use Rattle.walk.specs.Calls.{stateAfter}
 use Rattle.walk.specs.Given.{joined}
 use Rattle.state.specs.declared.Record.{Record}
 use Rattle.state.specs.Reads.{Reads, closedRecord}
 use Rattle.state.specs.Shapes.{shapeOf}
-use Rattle.traverse.specs.declared.Opened.{Opened}
-use Rattle.traverse.specs.declared.Out.{Out}
-use Rattle.traverse.specs.Contract.{Files, Lent, inputWith, lengthsOf}
+use Rattle.traverse.specs.Contract.{Lent, lengthsOf}
 use Rattle.lister.specs.declared.Listing.{Listing}
-use Rattle.lister.specs.Walked.{allAnswers, wholeList, refusals, firstRefusal, parentsLeft, putDown, commitsAfter, refusedAfter, reasonAfter}
+use Rattle.driver.specs.declared.Driven.{Driven}
+use Rattle.driver.specs.Walked.{allAnswers, wholeList, parentsLeft}
+use Rattle.lister.specs.Walked.{refusals, firstRefusal}
 
 -- ---- list
 
@@ -48,35 +47,14 @@ pub record ListSays (i : Input) (m : Lent) (ids : List ℕ) (l : Listing) (m′ 
   pub accepted-open : (st : State) → openWalk i (roomFor i (lengthsOf m)) ≡ opened st → Whole i m ids l m′ ids′
   pub same-lengths : lengthsOf m′ ≡ lengthsOf m
 
--- ---- its parts
+-- ---- its part
 
--- a listing before any call
-abbrev pub beforeCalls : Opened → Listing
-beforeCalls o = listing (o .answer .outcome) (o .record)
-
--- a listing after one call more
-abbrev pub counted : Listing → Out → Listing
-counted l o = record {
-  outcome = l .outcome;
-  commits = commitsAfter (l .commits) (o .answer .outcome);
-  refused = refusedAfter (l .refused) (o .answer .outcome);
-  reason = reasonAfter (l .reason) (o .answer .outcome);
-  «record» = o .record;
+-- what the driver came to, as a listing
+abbrev pub listingOf : Driven → Listing
+listingOf d = record {
+  outcome = d .outcome;
+  commits = d .tally .commits;
+  refused = d .tally .refused;
+  reason = d .tally .reason;
+  «record» = d .record;
 }
-
--- k calls of the walk are made and counted; the buffers were ids₀ and parents₀ before them
-pub record Made (i : Input) (ids₀ parents₀ : List ℕ) (k : ℕ) (l : Listing) (m : Lent) (ids : List ℕ) : Type 0 where
-  pub accepted : l .outcome ≡ Accepted
-  pub commits : l .commits ≡ length (handedIds (answers i k))
-  pub refused : l .refused ≡ refusals (answers i k)
-  pub reason : l .reason ≡ firstRefusal (answers i k)
-  pub put-down : ids ≡ putDown ids₀ 0 (handedIds (answers i k))
-  pub parents : m .parents ≡ parentsLeft (answers i k) parents₀
-  pub reads : Reads (l .record) (m .memory) (shapeOf i) (stateAfter i k)
-
--- call_all, with at most n calls, for the files f: none are made, or all that the walk can need
-pub record CallsAll (f : Files) (n : ℕ) (l : Listing) (m : Lent) (ids : List ℕ) (l′ : Listing) (m′ : Lent) (ids′ : List ℕ) : Type 0 where
-  pub no-call : n ≡ 0 → (l′ ≡ l) × (m′ ≡ m) × (ids′ ≡ ids)
-  pub all-calls : (tips : List ℕ) (st : State) → openWalk (inputWith f tips) (roomFor (inputWith f tips) (lengthsOf m)) ≡ opened st → n ≡ P (inputWith f tips) + 2
-      → Made (inputWith f tips) ids (m .parents) 0 l m ids → Made (inputWith f tips) ids (m .parents) (P (inputWith f tips) + 2) l′ m′ ids′
-  pub same-lengths : lengthsOf m′ ≡ lengthsOf m

@@ -344,7 +344,7 @@ fn seconds_value(t: MaybeSeconds) -> Seconds
 }
 
 // Seconds set down at the start of a slice, if it has a place.
-fn put_seconds(s: i64, out: &mut [i64])
+pub fn put_seconds(s: i64, out: &mut [i64])
     ensures { λ r. ⌜ now (out .exit) ≡ set (now (out .entry)) 0 s ⌝ }
 {
     if 0 < out.len() {

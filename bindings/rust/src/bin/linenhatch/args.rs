@@ -12,6 +12,7 @@ linenhatch: lists the commits of a git repository, with a walk that is proved to
 usage: linenhatch [-C DIR] [--order newest|oldest|breadth] [-n N] [--count] [--reverse] [--since SECONDS] [--first-parent]
                   [--hide REV]... [--exclude REV]... [--no-graph] [--untested] [--parents] [--time] [--zone] [--progress] [REV...]
        linenhatch --check-names [-C DIR] [--no-graph] [--progress] [REV...]
+       linenhatch feed [--csv] [the options of a list] [REV...]
        linenhatch [-C DIR] [--progress] merge-base REV REV
        linenhatch [-C DIR] [--progress] write-graph [REPO] [-o FILE]
 
@@ -42,6 +43,11 @@ Lists what the REVs reach (HEAD if none is given), one id on a line. A REV is an
                     commit-graph file has none, which holds no zones (--no-graph), nor one whose committer line has none that can be read
   --check-names     lists nothing: checks that each commit which the REVs reach is under the id that git makes of its body, and that git's
                     commit-graph file ends in the digest of the rest. Says which commit is at fault. The commits must fit in one store, whole
+  feed              as the first word that is no -C or --progress: lists nothing, reports what the messages of the commits that would be listed say of
+                    feeds, in millimetres, by lines such as Cone-feed: 1200 and Bed-feed: 1250: how many have both, one or neither, the sums, the
+                    means, and cone less bed over those with both. Says which commit is at fault if a line cannot be read or stands twice.
+                    It has none of -n, --count, --reverse, --parents, --time, --zone. The commits must fit in one store, whole
+  --csv             prints a report as two or more lines of fields parted by commas, the first with their names
   merge-base        as the first word that is no -C or --progress: lists nothing, prints where two REVs part. That is the best commit which both
                     reach; of several the newest by committer time, among equals the smallest id, so it is the same for everyone and with
                     the two exchanged. Status 1 if both reach none. A branch of this name is listed with -- merge-base
@@ -88,7 +94,15 @@ pub struct Args {
     pub zone: bool,
     pub progress: bool,
     pub check_names: bool,
+    pub report: Option<Report>,
+    pub csv: bool,
     pub revs: Vec<OsString>,
+}
+
+/// What is reported of the commits in place of a list.
+#[derive(Clone, Copy, Debug, PartialEq)]
+pub enum Report {
+    Feed,
 }
 
 /// Two names, of which is asked where they part.
@@ -112,10 +126,22 @@ pub struct Output {
 pub fn parse(words: impl IntoIterator<Item = OsString>) -> Result<Task, String> {
     let words: Vec<OsString> = words.into_iter().collect();
     match command(&words) {
-        Some("merge-base") => return parse_pair(words),
-        Some("write-graph") => return parse_output(words),
-        _ => {}
+        Some("merge-base") => parse_pair(words),
+        Some("write-graph") => parse_output(words),
+        Some("feed") => parse_list(without(words, "feed"), Some(Report::Feed)),
+        _ => parse_list(words, None),
     }
+}
+
+/// The words without the first that is the command.
+fn without(mut words: Vec<OsString>, command: &str) -> Vec<OsString> {
+    if let Some(at) = words.iter().position(|word| word == command) {
+        words.remove(at);
+    }
+    words
+}
+
+fn parse_list(words: Vec<OsString>, report: Option<Report>) -> Result<Task, String> {
     let mut words = words.into_iter();
     let mut order = None;
     let mut args = Args {
@@ -135,6 +161,8 @@ pub fn parse(words: impl IntoIterator<Item = OsString>) -> Result<Task, String> 
         zone: false,
         progress: false,
         check_names: false,
+        report,
+        csv: false,
         revs: Vec::new(),
     };
     while let Some(word) = words.next() {
@@ -156,6 +184,9 @@ pub fn parse(words: impl IntoIterator<Item = OsString>) -> Result<Task, String> 
         match option.as_str() {
             "-C" => args.dir.push(value("a folder")?),
             "--order" => order = Some(order_of(&value("newest, oldest or breadth")?)?),
+            "-n" | "--max-count" | "--count" | "--reverse" | "--parents" | "--time" | "--zone" if report.is_some() => {
+                return Err(format!("a report has no option {option}"));
+            }
             "-n" | "--max-count" => args.max_count = Some(count_of(&value("a number of commits")?)?),
             "--since" => args.since = Some(seconds_of(&value("a number of seconds")?)?),
             "--hide" => args.hide.push(name(value("a commit")?)?),
@@ -170,7 +201,8 @@ pub fn parse(words: impl IntoIterator<Item = OsString>) -> Result<Task, String> 
             "--time" => args.time = true,
             "--zone" => args.zone = true,
             "--progress" => args.progress = true,
-            "--check-names" => args.check_names = true,
+            "--csv" if report.is_some() => args.csv = true,
+            "--check-names" if report.is_none() => args.check_names = true,
             "--help" | "-h" => return Ok(Task::Help),
             "--version" | "-V" => return Ok(Task::Version),
             _ => return Err(unknown(&word)),

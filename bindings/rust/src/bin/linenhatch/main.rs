@@ -3,6 +3,7 @@
 mod args;
 mod progress;
 mod refused;
+mod report;
 mod repository;
 
 use std::env;
@@ -23,6 +24,7 @@ fn main() -> ExitCode {
         Ok(Task::Help) => return show(args::HELP),
         Ok(Task::Version) => return show(concat!("linenhatch ", env!("CARGO_PKG_VERSION"), "\n")),
         Ok(Task::List(args)) if args.check_names => check(&args),
+        Ok(Task::List(args)) if args.report.is_some() => report(&args),
         Ok(Task::List(args)) => list(&args),
         Ok(Task::MergeBase(pair)) => part(&pair),
         Ok(Task::WriteGraph(output)) => write(&output),
@@ -66,13 +68,7 @@ fn list(args: &Args) -> Result<(), String> {
     let store = store(commits)?;
     let graph = if args.graph { graph(&repository) } else { Vec::new() };
 
-    let mut lister = Lister::new(&store).graph(&graph).tips(&tips).hide(&hidden).exclude(&excluded).order(args.order);
-    if let Some(seconds) = args.since {
-        lister = lister.cutoff(seconds);
-    }
-    if args.first_parent {
-        lister = lister.first_parent();
-    }
+    let lister = lister(args, &store, &graph, &tips, &hidden, &excluded);
     let opened = if args.untested { lister.open() } else { lister.open_tested() };
     let walk = opened.map_err(|refusal| match refusal {
         Refusal::UnreadableReach => refused::unreadable_reach(&store, &absent, shallow),
@@ -86,6 +82,46 @@ fn list(args: &Args) -> Result<(), String> {
         return Ok(());
     }
     Err(refused.message(&store, &absent, shallow))
+}
+
+/// Prints a report over all commits that would be listed; or says why there is none.
+fn report(args: &Args) -> Result<(), String> {
+    let repository = Repository::open(args.dir.clone())?;
+    let tips = resolve(&repository, &args.revs, "names")?;
+    let hidden = resolve(&repository, &args.hide, "hidden names")?;
+    let excluded = resolve(&repository, &args.exclude, "excluded names")?;
+    let mut progress = Progress::new(args.progress || io::stderr().is_terminal(), "commits read");
+    let commits = repository.read(&[&tips[..], &hidden].concat(), &mut progress);
+    progress.make_way();
+    let mut commits = commits?;
+    let absent = std::mem::take(&mut commits.absent);
+    let store = report::store(args, commits)?;
+    let graph = if args.graph { graph(&repository) } else { Vec::new() };
+    let lister = lister(args, &store, &graph, &tips, &hidden, &excluded);
+    if !args.untested {
+        lister.open_tested().map_err(|refusal| match refusal {
+            Refusal::UnreadableReach => refused::unreadable_reach(&store, &absent, repository.is_shallow()),
+            _ => not_opened(refusal, &store, &tips),
+        })?;
+    }
+    let text = report::text(args, &lister).map_err(|refusal| match refusal {
+        Refusal::ReadingTwice | Refusal::ReadingUnreadable => report::at_fault(refusal, &lister, &store),
+        _ => not_opened(refusal, &store, &tips),
+    })?;
+    let _ = io::stdout().write_all(text.as_bytes());
+    Ok(())
+}
+
+/// The walk that the options ask for.
+fn lister<'a>(args: &Args, store: &'a [u8], graph: &'a [u8], tips: &[ObjectId], hidden: &[ObjectId], excluded: &[ObjectId]) -> Lister<'a> {
+    let mut lister = Lister::new(store).graph(graph).tips(tips).hide(hidden).exclude(excluded).order(args.order);
+    if let Some(seconds) = args.since {
+        lister = lister.cutoff(seconds);
+    }
+    if args.first_parent {
+        lister = lister.first_parent();
+    }
+    lister
 }
 
 /// Checks the names of all commits that the REVs reach, and the checksum of git's commit-graph file; or says which is false.

@@ -1,0 +1,69 @@
+//! Reports over a whole walk, as text and as fields parted by commas.
+
+use linenhatch::{store_from_commits, FeedReport, Lister, ObjectId, Refusal};
+
+use crate::args::{Args, Report};
+use crate::refused::entries;
+use crate::repository::Commits;
+
+/// The commit store that a report needs: a feed report reads messages, so the commits have to fit whole.
+pub fn store(args: &Args, commits: Commits) -> Result<Vec<u8>, String> {
+    match args.report {
+        Some(Report::Feed) => commits.whole.finish().map_err(|too_large| format!("the messages cannot be read at once: {too_large}")),
+        None => crate::store(commits),
+    }
+}
+
+/// What is printed.
+pub fn text(args: &Args, lister: &Lister<'_>) -> Result<String, Refusal> {
+    match args.report {
+        Some(Report::Feed) => lister.feed_report().map(|report| if args.csv { feed_fields(&report) } else { feed_lines(&report) }),
+        None => Ok(String::new()),
+    }
+}
+
+fn feed_lines(report: &FeedReport) -> String {
+    let counts = [
+        ("commits", report.commits()),
+        ("both readings", report.both),
+        ("cone alone", report.cone_alone),
+        ("bed alone", report.bed_alone),
+        ("neither", report.neither),
+    ];
+    let sums = [
+        ("cone", report.cone_sum.to_string(), report.cone_mean()),
+        ("bed", report.bed_sum.to_string(), report.bed_mean()),
+        ("cone less bed, of both", report.difference.to_string(), report.difference_mean()),
+    ];
+    let counts = counts.iter().map(|(what, count)| format!("{what:<24}{count:>16}\n"));
+    let sums = sums.iter().map(|(what, sum, mean)| format!("{what:<24}{sum:>16} mm, mean {}\n", mean.map_or("-".into(), decimal)));
+    counts.chain(sums).collect()
+}
+
+fn feed_fields(report: &FeedReport) -> String {
+    let means = [report.cone_mean(), report.bed_mean(), report.difference_mean()].map(|mean| mean.map_or(String::new(), decimal)).join(",");
+    let FeedReport { both, cone_alone, bed_alone, neither, cone_sum, bed_sum, difference } = report;
+    format!(
+        "commits,both,cone_alone,bed_alone,neither,cone_mm,bed_mm,difference_mm,cone_mean,bed_mean,difference_mean\n\
+         {},{both},{cone_alone},{bed_alone},{neither},{cone_sum},{bed_sum},{difference},{means}\n",
+        report.commits()
+    )
+}
+
+fn decimal(mean: f64) -> String {
+    format!("{mean:.3}")
+}
+
+/// The refusal of a message, with the commit that is meant: the first of the walk whose message alone is so refused.
+pub fn at_fault(refusal: Refusal, lister: &Lister<'_>, store: &[u8]) -> String {
+    let alone = |id: ObjectId| {
+        let body = entries(store).find(|(name, _)| *name == id).map(|(_, body)| body)?;
+        let message = body.windows(2).position(|two| two == b"\n\n").map_or(&[][..], |at| &body[at..]);
+        let head = format!("tree {}\nauthor A <a> 5 +0000\ncommitter A <a> 5 +0000", "0".repeat(40));
+        let store = store_from_commits([(id, [head.as_bytes(), message].concat())]).ok()?;
+        (Lister::new(&store).tips(&[id]).feed_report() == Err(refusal)).then_some(id)
+    };
+    let first = lister.open().ok().and_then(|mut walk| walk.find_map(|commit| alone(commit.ok()?.id)));
+    let which = first.map_or(String::new(), |id| format!(": {id}"));
+    format!("{refusal}{which}")
+}

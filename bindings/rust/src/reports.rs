@@ -1,0 +1,93 @@
+//! Reports over a whole walk.
+
+use crate::ffi::{self, Input, Memory};
+use crate::refusal::Refusal;
+use crate::walk::{refusal, Lister};
+
+/// What the messages of a whole walk's commits say of feeds, in millimetres.
+///
+/// A message is what follows the first empty line of a commit. It gives a reading by a line that starts with `Cone-feed: ` or `Bed-feed: ` and goes on
+/// to its end with 1 to 10 digits, at most 1,000,000,000.
+#[derive(Clone, Copy, Debug, Default, PartialEq, Eq, Hash)]
+pub struct FeedReport {
+    /// The commits with both readings.
+    pub both: u64,
+    /// Those with a cone reading alone.
+    pub cone_alone: u64,
+    /// Those with a bed reading alone.
+    pub bed_alone: u64,
+    /// Those with neither; also those that the commit-graph file alone has, which holds no messages.
+    pub neither: u64,
+    /// The sum of all cone readings.
+    pub cone_sum: u64,
+    /// The sum of all bed readings.
+    pub bed_sum: u64,
+    /// The sum of cone less bed, over the commits with both.
+    pub difference: i64,
+}
+
+impl FeedReport {
+    /// How many commits the walk handed out: the sum of the first four numbers.
+    pub fn commits(&self) -> u64 {
+        self.both + self.cone_alone + self.bed_alone + self.neither
+    }
+
+    /// The mean of all cone readings, if there is one.
+    pub fn cone_mean(&self) -> Option<f64> {
+        mean(self.cone_sum as f64, self.both + self.cone_alone)
+    }
+
+    /// The mean of all bed readings, if there is one.
+    pub fn bed_mean(&self) -> Option<f64> {
+        mean(self.bed_sum as f64, self.both + self.bed_alone)
+    }
+
+    /// The mean of cone less bed, if a commit has both.
+    pub fn difference_mean(&self) -> Option<f64> {
+        mean(self.difference as f64, self.both)
+    }
+}
+
+fn mean(sum: f64, count: u64) -> Option<f64> {
+    (count > 0).then(|| sum / count as f64)
+}
+
+impl Lister<'_> {
+    /// Walks to the end, and reports what the commits' messages say of feeds.
+    ///
+    /// Refused as [`open`](Lister::open) is; with the walk's own first refusal (9 to 11); with 21 where a message has two lines that start with the same
+    /// reading; or with 22 where a line that starts with a reading goes on otherwise than with its number. Of these the earlier commit in the
+    /// walk decides, and of 21 and 22 in one message 21. There is no report of a part of a walk.
+    ///
+    /// ```
+    /// use linenhatch::{store_from_commits, FeedReport, Lister, ObjectId};
+    ///
+    /// let head = "tree 0000000000000000000000000000000000000000\nauthor A <a> 5 +0000\ncommitter A <a> 5 +0000\n\n";
+    /// let [one, two] = [1, 2].map(|n| ObjectId([n; 20]));
+    /// let store = store_from_commits([(one, format!("{head}Cone-feed: 1200\nBed-feed: 1250\n")), (two, format!("{head}Cone-feed: 0800"))])?;
+    ///
+    /// let report = Lister::new(&store).tips(&[one, two]).feed_report()?;
+    /// assert_eq!(report, FeedReport { both: 1, cone_alone: 1, cone_sum: 2000, bed_sum: 1250, difference: -50, ..FeedReport::default() });
+    /// assert_eq!((report.commits(), report.cone_mean(), report.bed_mean()), (2, Some(1000.0), Some(1250.0)));
+    /// # Ok::<(), Box<dyn std::error::Error>>(())
+    /// ```
+    pub fn feed_report(&self) -> Result<FeedReport, Refusal> {
+        let (input, tips) = self.lent();
+        let (mut numbers, mut difference) = ([0; ffi::FEED_NUMBERS], [0; ffi::FEED_DIFFERENCES]);
+        with_memory(&input, &tips, |memory| ffi::feed(&input, &tips, memory, &mut numbers, &mut difference))?;
+        let ([both, cone_alone, bed_alone, neither, cone_sum, bed_sum], [difference]) = (numbers, difference);
+        Ok(FeedReport { both, cone_alone, bed_alone, neither, cone_sum, bed_sum, difference })
+    }
+}
+
+/// Files and lists are tested before memory, so a first try without memory finds their faults, and memory is made for good files alone.
+fn with_memory(input: &Input<'_>, tips: &[u8], mut call: impl FnMut(&mut Memory) -> u32) -> Result<(), Refusal> {
+    let mut result = call(&mut Memory::with_places(0));
+    if result == Refusal::BufferTooSmall.number() {
+        result = call(&mut Memory::with_places(ffi::places(input, tips)));
+    }
+    match result {
+        0 => Ok(()),
+        number => Err(refusal(number)),
+    }
+}

@@ -1,0 +1,214 @@
+"""reports.py LIBRARY.so: the reports over a whole walk by the static library, made into a shared one, and by model.py's, on generated files:
+
+- the feed report (card 5): every number of it, over generate.py's histories with messages that hold readings, none, two of a kind, unreadable ones, and
+  lines that only look so; faulty commits before and after a commit that the walk refuses, and commits that the graph alone has.
+
+Each call is also made with a buffer of the memory an element too short, with a ragged or oversize list, and without room for what is reported. After 1
+to 8 no lent byte may be altered but the report's own; and no byte beside a buffer ever.
+
+Prints how many came to each result; ends with status 1 if anything differs. Options: --seed N, --scale N (percent).
+
+    rt staticlib linenhatch
+    make -C bindings/c shared
+    python3 compare/reports.py target/c/liblinenhatch.so
+"""
+import argparse
+import collections
+import ctypes
+import random
+import re
+import sys
+
+import generate
+import model
+from library import GUARD, MOST_PLACES, NO_ROOM, Buffer, lend
+
+FEED = 36000
+FAMILIES = [family for _, family, pairs, *_ in generate.FAMILIES if pairs > 100] + [generate.wide]
+CASES = 6  # of each pair of files
+SIZES = ((ctypes.c_uint8, 20), (ctypes.c_uint8, 1), (ctypes.c_uint32, 1), (ctypes.c_int64, 1), (ctypes.c_uint32, 5))
+
+
+# ---- the library
+
+class Call:
+    """A report of one case. short: which buffer of the memory is lent an element less, None for none; tips: bytes in place of the case's."""
+
+    def __init__(self, library, case, short=None, tips=None):
+        lists = [case.pair.store, case.pair.graph, b"".join(case.tips) if tips is None else tips, b"".join(case.hidden), b"".join(case.barred)]
+        lent = [lend(data) for data in lists]
+        self.kept = [(part, data) for (_, part), data in zip(lent, lists)]
+        words = [word for pair, _ in lent for word in pair]
+        p = min(library.linenhatch_places(*words[:8]), MOST_PLACES)
+        order = {"breadth": 0, "newest": 1, "oldest": 2}[generate.ORDER[case.sorting]]
+        settings = [ctypes.c_uint32(order), ctypes.c_uint32(case.sorting >= generate.CUTOFF_NEWEST), ctypes.c_int64(case.cutoff), ctypes.c_uint32(case.first)]
+        sizes = [(kind, times * p) for kind, times in SIZES] + [(ctypes.c_uint8, 5120)]
+        self.memory = [Buffer(kind, max(0, n - (k == short))) for k, (kind, n) in enumerate(sizes)]
+        self.library, self.inputs, self.settings = library, words, settings
+
+    def lent(self):
+        return [word for b in self.memory for word in b.words()]
+
+    def feed(self, numbers=6, difference=1):
+        self.own = [Buffer(ctypes.c_uint64, numbers), Buffer(ctypes.c_int64, difference)]
+        self.result = self.library.linenhatch_feed(*self.inputs, *self.settings, *self.lent(), *(w for b in self.own for w in b.words()))
+        return self.result
+
+
+    def said(self):
+        return self.result, list(self.own[0].part), list(self.own[1].part)
+
+    def sound(self):
+        return all(b.sound() for b in self.memory + self.own) and all(bytes(part)[:len(data)] == data for part, data in self.kept)
+
+    def as_lent(self, buffers):
+        return all(set(bytes(b.all)) <= {GUARD} for b in buffers)
+
+
+# ---- bodies
+
+LOOKALIKES = [b"Cone-feed:5", b" Cone-feed: 5", b"cone-feed: 5", b"Cone-feed : 5", b"Bed-feed:", b"Bed-feed:7", b"xBed-feed: 7", b"Bed-Feed: 7", b"Cone-Bed-feed: 1", b"Cone-feed", b"\rCone-feed: 5"]
+UNREADABLE = [b"", b" ", b"5 ", b" 5", b"5\r", b"-5", b"+5", b"5.0", b"1000000001", b"9999999999", b"00000000001", b"12345678901", b"x", b"5x", b"\0", b"0x10", b"5\t", b"/", b":", b"\xb2"]
+READINGS = [0, 1, 9, 10, 999999999, 1000000000]
+
+
+def digits(rng):
+    n = rng.choice(READINGS) if rng.random() < 0.3 else rng.randrange(10 ** rng.randrange(1, 10))
+    text = b"%d" % n
+    return text.rjust(rng.randrange(len(text), 11), b"0") if rng.random() < 0.3 else text
+
+
+def message(rng, faulty):
+    """Lines after the first empty one: readings, and with a chance of `faulty` a fault."""
+    lines = [rng.choice([b"words", b"", b"a: b", rng.choice(LOOKALIKES)]) for _ in range(rng.randrange(4))]
+    for start in (model.CONE, model.BED):
+        if rng.random() < 0.6:
+            lines.append(start + digits(rng))
+    if rng.random() < faulty:
+        start = rng.choice((model.CONE, model.BED))
+        lines.append(start + (rng.choice(UNREADABLE) if rng.random() < 0.7 else digits(rng)))
+        if rng.random() < 0.3:
+            lines.append(rng.choice((model.CONE, model.BED)) + rng.choice(UNREADABLE))
+    rng.shuffle(lines)
+    end = rng.choice([b"\n", b"\n", b"", b"\r\n" if rng.random() < faulty else b"\n"])
+    return b"\n".join(lines) + end
+
+
+def with_messages(rng, pair, faulty):
+    """The same files with other messages; now and then a reading in the header, where it is none."""
+    bodies = {}
+    for name in sorted(pair.bodies):
+        body = pair.bodies[name]
+        if rng.random() < 0.9:
+            if not body.endswith(b"\n\n") and rng.random() < 0.8:
+                body += b"\n" if body.endswith(b"\n") else b"\n\n"
+            if rng.random() < 0.05:
+                body = body[:-1] + b"Cone-feed: 3\n\n" if body.endswith(b"\n\n") else b"Bed-feed: 4\n" + body
+            body += message(rng, faulty)
+        bodies[name] = body
+    return same_graph(pair, bodies)
+
+
+def same_graph(pair, bodies):
+    torn = pair.torn_store is not None and pair.torn_store != generate.formats.store(pair.bodies)
+    return generate.Pair(bodies, pair.rows, pair.edges, store=pair.torn_store if torn else None, graph=pair.torn_graph)
+
+
+
+# ---- one case
+
+def before_the_walk(wanted):
+    return 1 <= wanted <= 8
+
+
+def wrong_feed(library, rng, case):
+    """None, or what differs; and the result."""
+    wanted = model.feed_report(case.walk())
+    call = Call(library, case)
+    call.feed(*rng.choice(((6, 1), (6, 1), (7, 2))))
+    rest = [0x5C5C5C5C5C5C5C5C] * (len(call.own[0].part) - 6), [0x5C5C5C5C5C5C5C5C] * (len(call.own[1].part) - 1)
+    said = wanted[0], wanted[1] + rest[0], [wanted[2]] + rest[1]
+    if call.said() != said or not call.sound():
+        return "%s for %s" % (call.said(), said), wanted
+    if before_the_walk(wanted[0]) and not call.as_lent(call.memory):
+        return "memory altered by %d" % wanted[0], wanted
+    return refused_early(library, rng, case, wanted[0], lambda c: c.feed(), lambda c: c.feed(*rng.choice(((5, 1), (6, 0), (0, 0)))), (6, 1)), wanted
+
+
+
+def refused_early(library, rng, case, wanted, run, no_room, own):
+    """None, or what differs where memory or room is too short, or a list is ragged or oversize: zeros, and no other byte altered."""
+    zeros = [0] * own[0], [0] * own[1]
+    first = wanted if wanted in (2, 4, 5, 6, 24) else 1
+    call = Call(library, case, short=rng.randrange(6))
+    run(call)
+    if any(b.n == 0 for b in call.memory[:5]):
+        first = wanted  # nothing of it can be lacking
+    elif call.said() != (first, *zeros) or not call.sound() or not call.as_lent(call.memory):
+        return "%s with memory too short, for %d" % (call.said(), first)
+    tips, number = rng.choice(((b"x" * 20 * 1025, 2), (b"x" * 19, 3), (b"".join(case.tips) + b"y", 3)))
+    number = 24 if wanted == 24 else 2 if wanted == 2 else number
+    call = Call(library, case, tips=tips)
+    run(call)
+    if call.said() != (number, *zeros) or not call.sound() or not call.as_lent(call.memory):
+        return "%s with another list, for %d" % (call.said(), number)
+    call = Call(library, case)
+    no_room(call)
+    if call.result != NO_ROOM or not call.as_lent(call.memory + call.own):
+        return "%d without room" % call.result
+    return None
+
+
+# ---- the run
+
+def cases(rng, count):
+    """Cases over generate.py's files, made as many as asked for."""
+    done = 0
+    while done < count:
+        pair, names, seconds, strangers, stranger = rng.choice(FAMILIES)(rng)
+        yield pair, [generate.some_case(rng, pair, names, seconds, strangers, stranger) for _ in range(min(CASES, count - done))]
+        done += CASES
+
+
+def feeds(library, seed, count):
+    rng, results, bad = random.Random("feeds %d" % seed), collections.Counter(), 0
+    for pair, drawn in cases(rng, count):
+        pair = with_messages(rng, pair, rng.choice([0, 0, 0, 0.05, 0.3]))
+        for case in drawn:
+            case.pair = pair
+            found, wanted = wrong_feed(library, rng, case)
+            results[wanted[0]] += 1
+            results["runs"] += sum(wanted[1][:4])
+            results["paired"] += wanted[1][0]
+            if found:
+                bad += 1
+                if bad <= 5:
+                    print("feed: %s" % found)
+    return tell("feed reports", results, bad)
+
+
+
+def tell(what, results, bad):
+    numbers = {key: n for key, n in results.items() if isinstance(key, int)}
+    print("%d %s: %s; %s; each with three calls more: %d differ" % (
+        sum(numbers.values()), what, ", ".join("%s %d" % ("whole" if not key else "refused %d" % key, numbers[key]) for key in sorted(numbers)),
+        ", ".join("%s %d" % (key, n) for key, n in results.items() if not isinstance(key, int)), bad))
+    return bad
+
+
+def main():
+    options = argparse.ArgumentParser()
+    options.add_argument("library")
+    options.add_argument("--seed", type=int, default=1)
+    options.add_argument("--scale", type=int, default=100)
+    options = options.parse_args()
+    library = ctypes.CDLL(options.library)
+    library.linenhatch_places.restype = ctypes.c_size_t
+    library.linenhatch_feed.restype = ctypes.c_uint32
+    bad = feeds(library, options.seed, FEED * options.scale // 100)
+    print("%d differ" % bad)
+    return 1 if bad else 0
+
+
+if __name__ == "__main__":
+    sys.exit(main())

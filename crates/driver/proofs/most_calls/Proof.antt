@@ -1,0 +1,22 @@
+-- `most_calls` meets its contract: by the cases of the opening's outcome. Assumes nothing.
+use borrow.Author.Needs.{needs}
+use Rattle.driver.proofs.most_calls.Statement.{statement}
+use Rattle.driver.proofs.most_calls.Tie as tie
+
+enum-told : tie.Need-enum-told
+enum-told c = search needs
+
+add-result : tie.Need-add-result
+add-result c = search needs
+
+enum-told-2 : tie.Need-enum-told-2
+enum-told-2 c = search needs
+
+returns : tie.Need-returns
+returns c = rw (c .before .enum-told .given .1)
+
+returns-2 : tie.Need-returns-2
+returns-2 c = rw (c .enum-told2 .given .1)
+
+pub most-calls-spec : {M : Type 1} → statement M
+most-calls-spec = tie.close (tie.spec enum-told add-result enum-told-2 returns returns-2)

@@ -1,0 +1,55 @@
+-- `tally::feed_step` meets its contract: by the cases of the outcome. Assumes nothing.
+use mathlib.Core.Path.{sym, _∙_, ap, subst}
+use Rattle.hash.specs.Bytes.{idBytes}
+use Rattle.walk.specs.declared.Outcome.{Outcome}
+use Rattle.walk.specs.declared.Outcome.the-variants.{Commit}
+use Rattle.driver.specs.Feeds.{feedAt, SmallIn}
+use Rattle.driver.specs.Tally.{counted, fedBy}
+use Rattle.driver.proofs.Few.{at-small}
+use borrow.Author.Needs.{needs}
+use Rattle.driver.proofs.tally.feed_step.Statement.{statement}
+use Rattle.driver.proofs.tally.feed_step.Tie as tie
+use Rattle.driver.proofs.tally.add_commit.Reads as add-commit-reads
+use Rattle.driver.proofs.tally.count.Reads as count-reads
+use Rattle.driver.proofs.tally.feed_at.Reads as feed-at-reads
+
+enum-told : tie.Need-enum-told
+enum-told c = search needs
+
+feed-at-requires : tie.Need-feed-at-requires
+feed-at-requires c κs = search needs
+
+add-commit-requires : tie.Need-add-commit-requires
+add-commit-requires c κs = (c .before .before .before .before .before .before .before .before .before .pre .1, subst SmallIn (sym (c .feed-at .ensures)) (at-small idBytes (c .before .before .before .before .before .before .before .before .before .args .store .now) (c .before .before .before .before .before .before .before .before .before .args .answer .info .id)))
+
+enum-told-2 : tie.Need-enum-told-2
+enum-told-2 c = search needs
+
+enum-told-3 : tie.Need-enum-told-3
+enum-told-3 c = search needs
+
+count-requires : tie.Need-count-requires
+count-requires c κs = search needs
+
+returns : tie.Need-returns
+returns c = let x = c .before .before .before .before .before .before .before .before .before .before .args in c .add-commit .ensures ∙ ap (fedBy (x .t) Commit) (c .before .feed-at .ensures) ∙ ap (λ (o : Outcome). fedBy (x .t) o (feedAt idBytes (x .store .now) (x .answer .info .id))) (sym (c .before .before .before .before .before .enum-told .given .1))
+
+returns-2 : tie.Need-returns-2
+returns-2 c = let x = c .before .before .before .before .before .args in ap (λ (o : Outcome). fedBy (x .t) o (feedAt idBytes (x .store .now) (x .answer .info .id))) (sym (c .enum-told2 .given .1))
+
+returns-3 : tie.Need-returns-3
+returns-3 c = let x = c .before .before .before .before .before .before .args in c .count .ensures ∙ ap (λ (o : Outcome). counted (x .t) o (x .t .feeds)) (c .before .enum-told3 .given .1) ∙ ap (λ (o : Outcome). fedBy (x .t) o (feedAt idBytes (x .store .now) (x .answer .info .id))) (sym (c .before .enum-told3 .given .1))
+
+pub feed-step-spec : {M : Type 1} → statement M
+feed-step-spec =
+    tie.close
+    (tie.spec
+    enum-told
+    feed-at-requires
+    add-commit-requires
+    enum-told-2
+    enum-told-3
+    count-requires
+    returns
+    returns-2
+    returns-3)

@@ -1,0 +1,4 @@
+pub mod Feeds
+pub mod Tally
+pub mod Walked
+pub mod Says

@@ -1,0 +1,64 @@
+-- What `feed_report` comes to: where there is a fault the calls up to it decide; where there is none all P + 2 calls are tallied. Assumes nothing.
+use mathlib.Core.Path.{_≡_, refl, sym, _∙_, ap, subst}
+use Prim.Native.Nat.{ℕ, _+_, _≤_}
+use mathlib.Core.Option.{Option, none, some}
+use mathlib.Core.List.{List}
+use native.Mathlib.Omega.{arith}
+use Rattle.hash.specs.Bytes.{idBytes}
+use Rattle.walk.specs.declared.Refusal.{Refusal}
+use Rattle.walk.specs.declared.Outcome.{Outcome}
+use Rattle.walk.specs.declared.OpenOutcome.{OpenOutcome}
+use Rattle.walk.specs.State.{State}
+use Rattle.walk.specs.Opening.{Input, P, roomFor, closed, opened, openWalk}
+use Rattle.walk.specs.Calls.{answers}
+use Rattle.walk.specs.AnyInput.{handedIds}
+use Rattle.traverse.specs.Contract.{Lent, lengthsOf}
+use Rattle.driver.specs.declared.Driven.{Driven}
+use Rattle.driver.specs.declared.feeds.Feeds.{Feeds}
+use Rattle.driver.specs.declared.tally.Task.the-variants.{Feed}
+use Rattle.driver.specs.Feeds.{feedsOver, LowFeeds}
+use Rattle.driver.specs.Tally.{isRefusal, holding}
+use Rattle.driver.specs.Walked.{allAnswers, wholeList}
+use Rattle.driver.specs.Says.{Drove, Drives}
+use Rattle.driver.proofs.Few.{few-up}
+use Rattle.reports.specs.declared.FeedReport.{FeedReport}
+use Rattle.reports.specs.Report.{wholeReport, firstFault, reportFrom, feedReport, FeedSays, reportBy, openedBy, reportOf, refusedReport}
+use Rattle.reports.proofs.Faults.{fault-stays}
+use Rattle.reports.proofs.Told.{asReason, Told, told-all}
+
+module _ {i : Input} {m : Lent} {d : Driven} {m′ : Lent} {ids ids′ : List ℕ} (s : Drives Feed i m ids d m′ ids′) where
+  pub low-feeds : LowFeeds (d .tally .feeds)
+  low-feeds = few-up 1048578 4294967296 (d .tally) (omega arith) (s .few) .feeds
+
+  accepted : (st : State) → openWalk i (roomFor i (lengthsOf m)) ≡ opened st → reportOf d ≡ feedReport i
+  unfolding feedReport wholeList
+  accepted st e = go (firstFault idBytes (i .store) (answers i (v .calls))) refl
+    where
+      v : Drove Feed i ids (m .parents) d m′ ids′
+      v = s .accepted-open st e
+
+      t : Told (i .store) (answers i (v .calls)) (holding (d .tally) ids′)
+      t = subst (Told (i .store) (answers i (v .calls))) (sym (v .made .held)) (told-all i ids (v .calls))
+
+      one : (f : Option Refusal) → firstFault idBytes (i .store) (answers i (v .calls)) ≡ f → reportOf d ≡ reportBy (asReason f) (d .tally .feeds)
+      one f h =
+          ap (λ (o : OpenOutcome). openedBy o (d .tally .reason) (d .tally .feeds)) (v .made .accepted)
+          ∙ ap (λ (o : Outcome). reportBy o (d .tally .feeds)) (t .reason ∙ ap asReason h)
+
+      go : (f : Option Refusal) → firstFault idBytes (i .store) (answers i (v .calls)) ≡ f
+          → reportOf d ≡ reportFrom (firstFault idBytes (i .store) (allAnswers i)) (feedsOver idBytes (i .store) (handedIds (allAnswers i)))
+      go none h =
+          let n = v .whole (ap isRefusal (t .reason ∙ ap asReason h)) in
+          one none h
+          ∙ ap wholeReport (t .feeds ∙ ap (λ (j : ℕ). feedsOver idBytes (i .store) (handedIds (answers i j))) n)
+          ∙ ap (λ (f : Option Refusal). reportFrom f (feedsOver idBytes (i .store) (handedIds (allAnswers i)))) (sym (subst (λ (j : ℕ). firstFault idBytes (i .store) (answers i j) ≡ none) n h))
+      go (some r) h =
+          one (some r) h
+          ∙ ap (λ (f : Option Refusal). reportFrom f (feedsOver idBytes (i .store) (handedIds (allAnswers i)))) (sym (fault-stays idBytes (i .store) i r (v .calls) (P i + 2) (v .few) h))
+
+  pub feed-says : {r : FeedReport} → r ≡ reportOf d → FeedSays i m r m′
+  feed-says b = record {
+    refused-open = λ q e. let u = s .refused-open q e in (b ∙ ap reportOf (u .0), u .1);
+    accepted-open = λ st e. b ∙ accepted st e;
+    same-lengths = s .same-lengths;
+  }

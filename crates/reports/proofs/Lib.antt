@@ -1,0 +1,6 @@
+pub mod Signed
+pub mod Adding
+pub mod Faults
+pub mod Told
+pub mod FeedSaid
+pub mod Demanded

@@ -1,0 +1,82 @@
+-- The task Feed: after k calls the tally's reason is the first fault of their answers, and its numbers are those of the commits handed out.
+-- Assumes nothing.
+use mathlib.Core.Path.{_≡_, refl, sym, _∙_, ap, subst}
+use Prim.Native.Nat.{ℕ, zero, suc}
+use mathlib.Core.Option.{Option, none, some}
+use mathlib.Core.List.{List, _++_, append-nil}
+use Rattle.hash.specs.Bytes.{Id, idBytes}
+use Rattle.feed.specs.declared.FeedOutcome.{FeedOutcome}
+use Rattle.feed.specs.declared.FeedOutcome.the-variants.{Read, Faulty}
+use Rattle.walk.specs.declared.Refusal.{Refusal}
+use Rattle.walk.specs.declared.Outcome.{Outcome}
+use Rattle.walk.specs.declared.Outcome.the-variants.{Commit, End, Refused}
+use Rattle.walk.specs.Opening.{Input}
+use Rattle.walk.specs.Next.{Kind, end, refused, handed, Answer}
+use Rattle.walk.specs.Calls.{answerAt, answers}
+use Rattle.walk.specs.AnyInput.{handedBy, handedIds}
+use Rattle.walk.specs.Given.{outcomeOf, idOfKind}
+use Rattle.driver.specs.declared.feeds.Feeds.{Feeds}
+use Rattle.driver.specs.declared.tally.Task.the-variants.{Feed}
+use Rattle.driver.specs.declared.tally.Tally.{Tally}
+use Rattle.driver.specs.Feeds.{feedAt, feedsIn, plus, feedsOver}
+use Rattle.driver.specs.Tally.{reasonOr, fedBy, stepOf, Held, holding, noTally, stepped, folded}
+use Rattle.driver.proofs.OneMore.{no-answers, answers-more, handed-more, fold-call, fold-none}
+use Rattle.reports.specs.Report.{faultIn, faultBy, firstFault}
+use Rattle.reports.proofs.Adding.{plus-none, over-more}
+use Rattle.reports.proofs.Faults.{firstOf, first-last, fault-call}
+
+abbrev pub asReason : Option Refusal → Outcome
+asReason none = End
+asReason (some r) = Refused r
+
+-- the answers l came to h
+pub record Told (s : List ℕ) (l : List Answer) (h : Held) : Type 0 where
+  pub reason : h .tally .reason ≡ asReason (firstFault idBytes s l)
+  pub feeds : h .tally .feeds ≡ feedsOver idBytes s (handedIds l)
+
+reason-more : (o : Outcome) (f : Option Refusal) (r : Refusal) → o ≡ asReason f → reasonOr o (Refused r) ≡ asReason (firstOf f (some r))
+reason-more o none r e = ap (λ (z : Outcome). reasonOr z (Refused r)) e
+reason-more o (some q) r e = ap (λ (z : Outcome). reasonOr z (Refused r)) e
+
+reason-on : (s : List ℕ) (t : Tally) (f : Option Refusal) (k : Kind) → t .reason ≡ asReason f
+    → stepOf Feed s t (outcomeOf k) (idOfKind k) .reason ≡ asReason (firstOf f (faultBy idBytes s k))
+reason-on s t f end e = e ∙ ap asReason (sym (first-last f))
+reason-on s t f (refused r) e = reason-more (t .reason) f r e
+reason-on s t f (handed x g u) e = go (feedAt idBytes s x)
+  where
+    go : (q : FeedOutcome) → fedBy t Commit q .reason ≡ asReason (firstOf f (faultIn q))
+    go (Read p) = e ∙ ap asReason (sym (first-last f))
+    go (Faulty r) = reason-more (t .reason) f r e
+
+feeds-on : (s : List ℕ) (t : Tally) (l : List Id) (k : Kind) → t .feeds ≡ feedsOver idBytes s l
+    → stepOf Feed s t (outcomeOf k) (idOfKind k) .feeds ≡ feedsOver idBytes s (l ++ handedBy k)
+unfolding handedBy
+feeds-on s t l end e = e ∙ ap (feedsOver idBytes s) (sym (append-nil l))
+feeds-on s t l (refused r) e = e ∙ ap (feedsOver idBytes s) (sym (append-nil l))
+feeds-on s t l (handed x g u) e = go (feedAt idBytes s x) ∙ ap (λ (f : Feeds). plus f (feedsIn (feedAt idBytes s x))) e ∙ sym (over-more idBytes s l x)
+  where
+    go : (q : FeedOutcome) → fedBy t Commit q .feeds ≡ plus (t .feeds) (feedsIn q)
+    go (Read p) = refl
+    go (Faulty r) = sym (plus-none (t .feeds))
+
+module _ (i : Input) (ids₀ : List ℕ) where
+  told-none : Told (i .store) (answers i 0) (holding noTally ids₀)
+  unfolding firstFault feedsOver handedIds
+  told-none = record {
+    reason = ap (λ (l : List Answer). asReason (firstFault idBytes (i .store) l)) (sym (no-answers i));
+    feeds = ap (λ (l : List Answer). feedsOver idBytes (i .store) (handedIds l)) (sym (no-answers i));
+  }
+
+  told-next : (k : ℕ) (h : Held) → Told (i .store) (answers i k) h → Told (i .store) (answers i (suc k)) (stepped Feed (i .store) h (answerAt i k .kind))
+  told-next k h d = record {
+    reason = reason-on (i .store) (h .tally) (firstFault idBytes (i .store) (answers i k)) (answerAt i k .kind) (d .reason) ∙ ap asReason (sym (fault-call idBytes (i .store) i k));
+    feeds =
+        feeds-on (i .store) (h .tally) (handedIds (answers i k)) (answerAt i k .kind) (d .feeds)
+        ∙ ap (feedsOver idBytes (i .store)) (sym (ap handedIds (answers-more i k) ∙ handed-more (answers i k) (answerAt i k)));
+  }
+
+  pub told-all : (k : ℕ) → Told (i .store) (answers i k) (folded Feed (i .store) (holding noTally ids₀) (answers i k))
+  told-all zero = subst (Told (i .store) (answers i 0)) (sym (fold-none Feed (i .store) (holding noTally ids₀) i)) told-none
+  told-all (suc k) =
+      subst (Told (i .store) (answers i (suc k))) (sym (fold-call Feed (i .store) (holding noTally ids₀) i k))
+      (told-next k (folded Feed (i .store) (holding noTally ids₀) (answers i k)) (told-all k))

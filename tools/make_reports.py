@@ -1,0 +1,178 @@
+"""make_reports.py DIR: writes DIR/stdin and DIR/stdout, the cases of the program `reportcases` and what it must print.
+
+A case is the report's letter (`f` feed), the settings (big-endian u32s: order, whether a cutoff stands, the mode First; then the
+cutoff in 8 bytes), the lengths of the six buffers to lend, those of the six parts, and the parts: store, graph, tips, hidden tips, excluded
+ids, and one that is empty. Before a case stands its own length. What is expected comes from compare/model.py, document 02's words; each hand-made case also says what it should be.
+"""
+import os
+import random
+import struct
+import sys
+
+sys.path[:0] = [os.path.dirname(__file__), os.path.join(os.path.dirname(__file__), "..", "compare")]
+import generate  # noqa: E402
+import model  # noqa: E402
+import reports  # noqa: E402
+from formats import body, store, u32  # noqa: E402
+from generate import BREADTH, CUTOFF_NEWEST, NEWEST, OLDEST, Case, Pair  # noqa: E402
+
+PLACES = 512
+cases, lines = [], []
+
+
+def lengths(case):
+    p = case.walk().P if case.pair.files.fault is None else 0
+    return [20 * p, p, p, p, 5 * p, 5120]
+
+
+def encoded(letter, case, months, lent):
+    order = {"breadth": 0, "newest": 1, "oldest": 2}[generate.ORDER[case.sorting]]
+    parts = (case.pair.store, case.pair.graph, b"".join(case.tips), b"".join(case.hidden), b"".join(case.barred), b"".join(map(u32, months)))
+    out = letter + struct.pack(">IIIQ", order, case.sorting >= CUTOFF_NEWEST, case.first, case.cutoff)
+    out += b"".join(map(u32, lent)) + b"".join(u32(len(part)) for part in parts) + b"".join(parts)
+    assert len(out) <= 65536 and all(n <= most for n, most in zip(lent, (20 * PLACES, PLACES, PLACES, PLACES, 5 * PLACES, 5120)))
+    cases.append(u32(len(out)) + out)
+
+
+def said(number, numbers):
+    return " ".join(["refused %d" % number if number else "whole"] + [str(n) for n in numbers])
+
+
+def feed(case, want=None, lent=None):
+    """want: the number, or the seven numbers."""
+    number, numbers, less = model.feed_report(case.walk())
+    if lent is None:
+        lent = lengths(case)
+    elif number not in (2, 3, 4, 5, 6):
+        number, numbers, less = 1, [0] * 6, 0
+    line = said(number, numbers + [less])
+    assert want is None or line == (said(want, [0] * 7) if isinstance(want, int) else said(0, want)), (line, want)
+    encoded(b"f", case, (), lent)
+    lines.append(line)
+
+
+def name(k):
+    return bytes([k]) * 20
+
+
+HEAD = b"tree " + b"0" * 40 + b"\nauthor A <a> 5 +0000\ncommitter A <a> 5 +0000\n"
+
+
+# ---- card 5
+
+def lone(text, **settings):
+    """A history of one commit with this body."""
+    return Case(Pair({name(1): text}), [name(1)], **settings)
+
+
+def bodies():
+    """One body, whatever stands in it."""
+    cone, bed = b"Cone-feed: ", b"Bed-feed: "
+    neither = [0, 0, 0, 1, 0, 0, 0]
+    only = lambda n: [0, 1, 0, 0, n, 0, 0]
+    feed(lone(HEAD), neither)                                                    # no message
+    feed(lone(HEAD + b"\n"), neither)                                            # an empty one
+    feed(lone(HEAD + b"\n" + cone + b"5"), only(5))                              # no newline at the end
+    feed(lone(HEAD + b"\n" + cone + b"5\n"), only(5))
+    feed(lone(HEAD + b"\n" + bed + b"7\n" + cone + b"5\n"), [1, 0, 0, 0, 5, 7, -2])
+    feed(lone(HEAD + b"\n" + bed + b"7"), [0, 0, 1, 0, 0, 7, 0])
+    feed(lone(HEAD + b"\nwords\n" + cone + b"5\n\nmore\n" + bed + b"5\nwords"), [1, 0, 0, 0, 5, 5, 0])    # wherever they stand
+    feed(lone(HEAD + b"\n" + cone + b"5\r\n"), 22)                               # CR
+    feed(lone(HEAD + b"\n" + cone + b"5 \n"), 22)
+    feed(lone(HEAD + b"\n" + cone + b" 5\n"), 22)
+    feed(lone(HEAD + b"\n" + cone + b"\n"), 22)                                  # nothing
+    feed(lone(HEAD + b"\n" + cone), 22)
+    feed(lone(HEAD + b"\n" + cone + b"0000000001\n"), only(1))                   # ten digits
+    feed(lone(HEAD + b"\n" + cone + b"00000000001\n"), 22)                       # eleven
+    feed(lone(HEAD + b"\n" + cone + b"1000000000\n"), only(10 ** 9))
+    feed(lone(HEAD + b"\n" + cone + b"1000000001\n"), 22)
+    feed(lone(HEAD + b"\n" + bed + b"1000000001\n"), 22)
+    feed(lone(HEAD + b"\n" + bed + b"9999999999\n"), 22)
+    feed(lone(HEAD + b"\n" + cone + b"007\n"), only(7))                          # leading zeros
+    feed(lone(HEAD + b"\n" + cone + b"0\n"), only(0))
+    feed(lone(HEAD + b"\n" + cone + b"/\n"), 22)
+    feed(lone(HEAD + b"\n" + cone + b":\n"), 22)
+    feed(lone(HEAD + b"\n" + cone + b"-5\n"), 22)
+    feed(lone(HEAD + cone + b"5\n\n"), neither)                                  # before the first empty line
+    feed(lone(HEAD + cone + b"5\n\n" + cone + b"6\n"), only(6))
+    feed(lone(HEAD + b"\nCone-feed:5\n"), neither)                               # without its space
+    feed(lone(HEAD + b"\n " + cone + b"5\n"), neither)
+    feed(lone(HEAD + b"\ncone-feed: 5\n"), neither)
+    feed(lone(HEAD + b"\nx" + cone + b"5\n"), neither)
+    feed(lone(HEAD + b"\n\n\n" + cone + b"5"), only(5))                          # further empty lines are the message's
+    feed(lone(HEAD + b"\n" + cone + b"5\n" + cone + b"5\n"), 21)                 # twice
+    feed(lone(HEAD + b"\n" + cone + b"5\n" + cone + b"x\n"), 21)                 # readable or not
+    feed(lone(HEAD + b"\n" + cone + b"x\n" + cone + b"x"), 21)
+    feed(lone(HEAD + b"\n" + cone + b"x\n" + bed + b"1\n" + bed + b"1\n"), 21)   # 21 first, across the two
+    feed(lone(HEAD + b"\n" + bed + b"1\n" + cone + b"x\n" + bed + b"1\n"), 21)
+    feed(lone(HEAD + b"\n" + cone + b"x\n" + bed + b"y\n"), 22)                  # both faulty
+    feed(lone(HEAD + b"\n" + cone + b"1\n" + bed + b"y\n"), 22)
+    feed(lone(HEAD[:-1] + b"\n\n" + cone + b"5"), only(5))
+    feed(lone(HEAD, sorting=NEWEST), neither)
+
+
+def several():
+    """Several commits: sums, what comes first, and commits without a message."""
+    def chain(messages, rows=None, **settings):
+        """The first of the messages is the tip's; None: a commit that the store lacks."""
+        n = len(messages)
+        texts = {name(k + 1): body([name(k + 2)] if k + 1 < n else [], 100 - k) + text for k, text in enumerate(messages) if text is not None}
+        rows = {name(k + 1): ([name(k + 2)] if k + 1 < n else [], n - k, 100 - k) for k in range(n)} if rows else None
+        return Case(Pair(texts, rows), [name(1)], **settings)
+
+    one, two = b"Cone-feed: 5\nBed-feed: 3\n", b"Cone-feed: 2\nBed-feed: 10\n"
+    for sorting in (BREADTH, NEWEST, OLDEST):
+        feed(chain([one, two, b"Cone-feed: 7", b"Bed-feed: 9", b"", b"\n"], sorting=sorting), [2, 1, 1, 2, 14, 22, -6])
+    feed(chain([one, None, two], rows=True), [2, 0, 0, 1, 7, 13, -6])            # the graph alone has it
+    feed(chain([one, None, two]), 9)
+    feed(chain([one, b"Cone-feed: x", None]), 22)                                # the earlier call decides
+    feed(chain([one, None, b"Cone-feed: x"]), 9)
+    feed(chain([b"Bed-feed: \n", b"Cone-feed: 1\nCone-feed: 1"]), 22)            # the first run
+    feed(chain([b"Cone-feed: 1\nCone-feed: 1", b"Bed-feed: \n"]), 21)
+    feed(chain([one, two], hidden=[name(2)]), [1, 0, 0, 0, 5, 3, 2])
+    feed(chain([one, two, b"Cone-feed: x"], barred=[name(3)]), [2, 0, 0, 0, 7, 13, -6])
+    feed(chain([one, two, b"Cone-feed: x"], sorting=CUTOFF_NEWEST, cutoff=99), [2, 0, 0, 0, 7, 13, -6])
+    feed(chain([one] * 40), [40, 0, 0, 0, 200, 120, 80])
+    most = b"Cone-feed: 1000000000\nBed-feed: 0\n"
+    feed(chain([most] * 60), [60, 0, 0, 0, 60 * 10 ** 9, 0, 60 * 10 ** 9])       # past 32 bits
+    feed(chain([b"Cone-feed: 0\nBed-feed: 1000000000\n"] * 60), [60, 0, 0, 0, 0, 60 * 10 ** 9, -60 * 10 ** 9])
+    feed(Case(Pair({}), []), [0] * 7)
+    feed(Case(Pair({}), [name(1)]), 9)
+    feed(Case(Pair({}), [name(1)], sorting=NEWEST), 7)
+    feed(lone(b"tree", sorting=NEWEST), 8)
+    feed(lone(b"tree\n\nCone-feed: x"), 10)
+    feed(Case(Pair({}, store=b""), [name(1)]), 4)
+    feed(Case(Pair({}, graph=b"CGPHxxxx"), []), 5)
+    feed(Case(Pair({}, graph=b"CGPH\1\1\4\0"), []), 6)
+    good = chain([one, two])
+    for k in range(6):
+        feed(good, 1, [n - (j == k) for j, n in enumerate(lengths(good))])
+
+
+def generated(seed, count):
+    rng = random.Random("reportcases %d" % seed)
+    for pair, drawn in reports.cases(rng, count):
+        if len(pair.store) + len(pair.graph) > 6000 or pair.files.fault is None and 8 + len(pair.store) // 48 + pair.files.count > PLACES - 200:
+            continue
+        for case in drawn:
+            case.cutoff = max(case.cutoff, 0)
+            case.pair = reports.with_messages(rng, pair, rng.choice([0, 0, 0.1]))
+            if case.walk().P <= PLACES:
+                feed(case)
+
+
+def main(out):
+    bodies()
+    several()
+    generated(1, 240)
+    open(os.path.join(out, "stdin"), "wb").write(b"".join(cases))
+    open(os.path.join(out, "stdout"), "w").write("\n".join(lines) + "\n")
+    kinds = {}
+    for line in lines:
+        k = " ".join(line.split()[:2]) if line[0] == "r" else "whole"
+        kinds[k] = kinds.get(k, 0) + 1
+    print(len(lines), kinds)
+
+
+if __name__ == "__main__":
+    main(*sys.argv[1:])
