@@ -1,7 +1,8 @@
 """Document 01's walk, from its words alone, and document 02's cards; the readers of the two files are tools/formats.py, from the same words.
 
 `Files` is what the two files say of an id. `Walk` is an opening and its next calls. Sentences in quotation marks are the documents'.
-`reach` and `Tested` are card 1, `commit_id` and `check_names` card 2, `write_graph` card 4, `feed_report` card 5, `merge_base` cards 8 and 11.
+`reach` and `Tested` are card 1, `commit_id` and `check_names` card 2, `write_graph` card 4, `feed_report` card 5, `merge_base` cards 8 and 11,
+`trace` card 12.
 """
 import collections
 import hashlib
@@ -581,3 +582,55 @@ def feed_report(walk):
     except Refused as refused:
         return refused.number, [0] * 6, 0
     return 0, [both, cone_alone, bed_alone, neither, cones, beds], less
+
+
+# ---- card 12
+
+
+def within(files, start, steps):
+    """Every id within so many parent steps of the start, the start included, calibrations or not."""
+    met, edge = {start}, {start}
+    for _ in range(steps):
+        edge = {p for name in edge if readable(files, name) for p in files.header(name).ids} - met
+        met |= edge
+    return met
+
+
+def forced(files, listed, start, moves):
+    """Card 12, by sets and from the end of the trace: who gets to the list from where with 0, 1, 2 … moves left, the cone to move and the bed to move.
+    "The bench to move and the bench to reply are judged by one another's prospects with one move fewer"; "a commit without parents off the list does not"
+    count. Whether the cone forces it from the start, and the parents of the start from which it does, the bed to move. """
+    parents = {name: files.header(name).ids if readable(files, name) else [] for name in within(files, start, moves)}
+    cone = bed = {name for name in parents if name in listed}
+    before = bed
+    for _ in range(moves):
+        before = bed
+        cone, bed = (
+            {name for name, ids in parents.items() if name in listed or any(p in bed for p in ids)},
+            {name for name, ids in parents.items() if name in listed or ids and all(p in cone for p in ids)},
+        )
+    return start in cone, [n for n, p in enumerate(parents[start]) if p in before] if moves else []
+
+
+def trace(store, start, calibrations, moves):
+    """Card 12. The number of the refusal, 0 where there is none; what is said (0 not forced, 1 the start is on the list, 2 forced by a parent); the parent's number
+    and its id. "Refused: 25 d over 12, before any reading; then 2 to 4; then 13 for an unreadable commit within d parent steps of the start, the start
+    included." """
+    nothing = 0, 0, bytes(20)
+    if moves > 12:
+        return 25, *nothing
+    if len(store) > MOST_BYTES or len(calibrations) > 20 * MOST_IDS:
+        return 2, *nothing
+    if len(calibrations) % 20:
+        return 3, *nothing
+    files = Files(store, b"")
+    if files.fault is not None:
+        return files.fault, *nothing
+    if not all(readable(files, name) for name in within(files, start, moves)):
+        return 13, *nothing
+    listed = {calibrations[k:k + 20] for k in range(0, len(calibrations), 20)}
+    if start in listed:
+        return 0, 1, 0, bytes(20)
+    wins, forcing = forced(files, listed, start, moves)
+    assert wins == bool(forcing)
+    return (0, 2, forcing[0], files.header(start).ids[forcing[0]]) if wins else (0, *nothing)

@@ -42,6 +42,7 @@ extern "C" {
 #define LINENHATCH_GRAPH_NUMBERS 1u                                       /* uint64_t, of writing a graph file */
 #define LINENHATCH_FEED_NUMBERS 6u                                        /* uint64_t, of a feed report */
 #define LINENHATCH_FEED_DIFFERENCES 1u                                    /* int64_t, of a feed report */
+#define LINENHATCH_TRACE_NUMBERS 2u                                       /* uint64_t, of a trace */
 
 /* ---- where a number stands in numbers */
 
@@ -76,6 +77,9 @@ extern "C" {
 #define LINENHATCH_FEED_NEITHER 3 /* with neither, also those that the graph file alone has */
 #define LINENHATCH_CONE_SUM 4     /* the sum of all cone readings, in millimetres */
 #define LINENHATCH_BED_SUM 5      /* the sum of all bed readings */
+/* of a trace alone: */
+#define LINENHATCH_FORCED 0        /* 0: not forced; 1: the start is on the list; 2: forced by a parent, which id holds */
+#define LINENHATCH_PARENT_NUMBER 1 /* that parent's number in header order, counted from 0 */
 
 /* ---- results: a commit or an opening that is accepted is 0, the end 100, no room 101, all others are refusals */
 
@@ -115,6 +119,7 @@ extern "C" {
 #define LINENHATCH_SHORT_OUTPUT 20u  /* the output is shorter than the file */
 
 /* of a feed report */
+/* of readings in messages */
 #define LINENHATCH_READING_TWICE 21u      /* two lines of a message start with the same reading */
 #define LINENHATCH_READING_UNREADABLE 22u /* a line starts with a reading and goes on otherwise than with its number */
 
@@ -311,6 +316,29 @@ uint32_t linenhatch_feed(
     uint8_t *parents, size_t parents_len,
     uint64_t *numbers, size_t numbers_len,
     int64_t *difference, size_t difference_len);
+
+/* Tracing by turns: 0 where it is said, else the number of the first refusal in the order 25, 2, 3, 4, 13.
+ *
+ * Two benches trace back from a commit by turns, each choosing a parent, the cone bench first, moves times at most. The cone gets its way if the trace
+ * reaches a commit of the list; a commit without parents off the list is none. start: of which the first 20 bytes count. list: the calibrations, as
+ * the lists of an opening. numbers says 1 where the start is on the list; 2 where the cone can force it however the bed chooses, and then
+ * the number of the first parent by which it does, whose id stands in id; else 0. id is zeros but after 2.
+ *
+ * 25: moves is over 12. 13: a commit within moves parent steps of the start, the start too and past commits of the list, is not in the store or not readable
+ * there. After a refusal numbers and id are zeros.
+ *
+ * memo: memory of any length, also 0, in which what was found is remembered. The answer is the same whatever its length; with 26 bytes for each entry of the
+ * store it takes time in proportion to the links, with none it may take 256 to the power of moves. After 25 and 2 to 4 it is as it was, after all else
+ * what it holds is not said. Where start has under 20 bytes, or id or numbers is too short, the result is 101, before all other tests, and nothing at all is
+ * altered. */
+uint32_t linenhatch_trace(
+    const uint8_t *store, size_t store_len,
+    const uint8_t *start, size_t start_len,
+    const uint8_t *list, size_t list_len,
+    uint32_t moves,
+    uint8_t *memo, size_t memo_len,
+    uint8_t *id, size_t id_len,
+    uint64_t *numbers, size_t numbers_len);
 
 #ifdef __cplusplus
 }

@@ -600,6 +600,7 @@ static void all_at_once(void)
 #include "parting.h"
 #include "writing.h"
 #include "feeding.h"
+#include "tracing.h"
 
 static const struct {
     const char *name;
@@ -652,6 +653,7 @@ static const struct {
     {"where two series part", parted, 20},
     {"writing graph files", written, 20},
     {"feed reports", fed, 20},
+    {"tracing by turns", traced, 20},
 };
 #define KINDS (sizeof kinds / sizeof *kinds)
 
@@ -789,6 +791,7 @@ static void print_table(void)
     print_partings();
     print_writings();
     print_feedings();
+    print_tracings();
 }
 
 static uint64_t calls = 5000000;

@@ -24,6 +24,8 @@ pub(crate) const GRAPH_NUMBERS: usize = 1;
 /// How many numbers a feed report sets down, and how many signed ones.
 pub(crate) const FEED_NUMBERS: usize = 6;
 pub(crate) const FEED_DIFFERENCES: usize = 1;
+/// How many numbers a trace sets down.
+pub(crate) const TRACE_NUMBERS: usize = 2;
 
 /// The files, lists and settings that an opening and each of its calls are lent. No call reads the tips.
 #[derive(Clone, Debug)]
@@ -259,6 +261,21 @@ unsafe extern "C" {
         difference: *mut i64,
         difference_len: usize,
     ) -> u32;
+    fn linenhatch_trace(
+        store: *const u8,
+        store_len: usize,
+        start: *const u8,
+        start_len: usize,
+        list: *const u8,
+        list_len: usize,
+        moves: u32,
+        memo: *mut u8,
+        memo_len: usize,
+        id: *mut u8,
+        id_len: usize,
+        numbers: *mut u64,
+        numbers_len: usize,
+    ) -> u32;
 }
 
 /// How many places a walk over these files and lists needs.
@@ -377,6 +394,36 @@ pub(crate) fn next(input: &Input<'_>, memory: &mut Memory, answer: &mut Answer) 
 pub(crate) fn check_names(store: &[u8], graph: &[u8], numbers: &mut [u64; CHECK_NUMBERS]) -> u32 {
     // SAFETY: as in `open`; `numbers` is borrowed alone through `&mut`.
     unsafe { linenhatch_check_names(store.as_ptr(), store.len(), graph.as_ptr(), graph.len(), numbers.as_mut_ptr(), numbers.len()) }
+}
+
+/// Tracing by turns: 0, or the number of the refusal; never 101, as in `open`.
+pub(crate) fn trace(
+    store: &[u8],
+    start: &[u8; 20],
+    list: &[u8],
+    moves: u32,
+    memo: &mut [u8],
+    id: &mut [u8; 20],
+    numbers: &mut [u64; TRACE_NUMBERS],
+) -> u32 {
+    // SAFETY: as in `open`; `memo`, `id` and `numbers` are each borrowed alone through `&mut`.
+    unsafe {
+        linenhatch_trace(
+            store.as_ptr(),
+            store.len(),
+            start.as_ptr(),
+            start.len(),
+            list.as_ptr(),
+            list.len(),
+            moves,
+            memo.as_mut_ptr(),
+            memo.len(),
+            id.as_mut_ptr(),
+            id.len(),
+            numbers.as_mut_ptr(),
+            numbers.len(),
+        )
+    }
 }
 
 /// Where two series part: 0, or the number of the refusal; never 101, as in `open`. The memory's record plays no part.

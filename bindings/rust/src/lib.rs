@@ -43,6 +43,8 @@ mod refusal;
 mod reports;
 mod store;
 #[cfg(feature = "walk")]
+mod trace;
+#[cfg(feature = "walk")]
 mod walk;
 
 #[cfg(feature = "walk")]
@@ -50,6 +52,8 @@ pub use graph::{graph_length, write_graph};
 pub use id::{ObjectId, ParseIdError, ID_BYTES};
 #[cfg(feature = "walk")]
 pub use merge_base::merge_base;
+#[cfg(feature = "walk")]
+pub use trace::{trace, Prospect, MAX_MOVES};
 #[cfg(feature = "walk")]
 pub use names::{check_names, Fault};
 pub use order::Order;

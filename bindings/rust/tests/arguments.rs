@@ -192,6 +192,27 @@ fn where_two_part() {
 
 /// A branch of that name is still listed, where the word is not the first.
 #[test]
+fn a_trace() {
+    let Ok(Task::Trace(given)) = task("-C x trace a --calibration b --moves 5 --calibration c") else { panic!("no trace") };
+    assert_eq!((given.dir.to_str(), given.rev.to_str(), given.moves, given.progress), (Some("./x"), Some("a"), 5, false));
+    assert_eq!(given.calibrations, ["b", "c"]);
+    for (words, said) in [
+        ("trace --moves 5", "there are none"),
+        ("trace a b --moves 5", "there are 2"),
+        ("trace a", "needs --moves"),
+        ("trace a --moves x", "needs a number, not x"),
+        ("trace a --moves", "--moves needs a number"),
+        ("trace a --moves 1 --calibration", "--calibration needs a name"),
+        ("trace a --moves 1 --count", "no option --count"),
+    ] {
+        let message = task(words).unwrap_err();
+        assert!(message.contains(said), "{words}: {message}");
+    }
+    assert_eq!(task("trace --help"), Ok(Task::Help));
+    assert_eq!(list("-- trace").revs, ["trace"]);
+}
+
+#[test]
 fn a_branch_of_that_name() {
     assert_eq!(list("-- merge-base").revs, ["merge-base"]);
     assert_eq!(list("--count merge-base").revs, ["merge-base"]);

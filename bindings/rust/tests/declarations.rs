@@ -56,6 +56,7 @@ fn the_same_in_both_languages() {
         ("linenhatch_graph_length", 7),
         ("linenhatch_write_graph", 9),
         ("linenhatch_feed", 30),
+        ("linenhatch_trace", 13),
     ] {
         let rust = in_rust(name);
         assert_eq!(rust.0.len(), parameters, "{name}");
@@ -79,6 +80,7 @@ fn the_same_numbers() {
         ("CHECK_NUMBERS", "CHECK_NUMBERS: usize"),
         ("BASE_NUMBERS", "BASE_NUMBERS: usize"),
         ("GRAPH_NUMBERS", "GRAPH_NUMBERS: usize"),
+        ("TRACE_NUMBERS", "TRACE_NUMBERS: usize"),
     ] {
         assert_eq!(between(RUST, &format!("const {line} = "), ";"), defined(name).to_string(), "{name}");
     }

@@ -1,11 +1,11 @@
 // The header lines of one commit one by one, as gix_object::CommitRefIter gives them: a struct of the commit's body, a place in it and the
 // id kind. The place says which line may stand there, so that only tree, parents, author and committer in this order are good. The
 // functions over the struct are thin; above them stand functions with plain parameters, for whoever reads a commit.
+use actor::StampRead;
 use date::Stamp;
 use hash::Kind;
 use object::Line;
 use object::ObjectId;
-use actor::StampRead;
 use object::person;
 ghost use Prim.Native.Nat.{ℕ};
 ghost use mathlib.Core.Path.{_≡_};

@@ -8,6 +8,7 @@ ghost use Rattle.walk.specs.Opening.{P};
 ghost use lib.ListN.{length};
 ghost use Rattle.opening.specs.Checks.{inputOf, lengthsOf};
 ghost use Rattle.reach.specs.Memory.{lent};
+ghost use Rattle.tracewire.specs.Wire.{LibraryTrace};
 ghost use Rattle.mergewire.specs.Wire.{LibraryMergeBase};
 ghost use Rattle.reportwire.specs.Feed.{LibraryFeed};
 ghost use Rattle.graphwire.specs.Wire.{kindOf, LibraryMeasures, LibraryWrites};
@@ -187,6 +188,25 @@ pub extern "C" fn linenhatch_check_names(store: &[u8], graph: &[u8], numbers: &m
     wire::put(numbers, &w);
     let o = r.outcome;
     fsck::number(o)
+}
+
+// Tracing by turns (document 02, card 12): the result is 0 and the numbers 0 and 0 where the bed can evade, 1 and 0 where the start is on the list, 2 and the
+// number of the first forcing parent, counted from 0, whose id is set down, where the cone forces it; else the result is the number of the refusal, with
+// zeros. The memo may have any length, also 0; after 25 and 2 to 4 it is as it was. Where the start is shorter than an id, or there is no room for the
+// answer, the result is 101: nothing is read, and nothing is altered.
+#[no_mangle]
+pub extern "C" fn linenhatch_trace(
+    store: &[u8],
+    start: &[u8],
+    list: &[u8],
+    d: u32,
+    memo: &mut [u8],
+    id: &mut [u8],
+    numbers: &mut [u64],
+) -> u32
+    ensures { λ n. ⌜ LibraryTrace (now (store .entry)) (now (start .entry)) (now (list .entry)) d (now (memo .entry)) (now (memo .exit)) (now (id .entry)) (now (id .exit)) (now (numbers .entry)) (now (numbers .exit)) n ⌝ }
+{
+    tracewire::trace(store, start, list, d, memo, id, numbers)
 }
 
 // Where two series part (document 02, cards 8 and 11): the result is 0, the first number 1 and the id that of the first best common commit; or

@@ -1,8 +1,8 @@
 // A commit's committer time and zone, from the store alone.
+use actor::StampRead;
 use date::Seconds;
 use date::Zone;
 use hash::Kind;
-use actor::StampRead;
 ghost use mathlib.Core.Path.{_≡_};
 ghost use mathlib.Core.Bool.{true};
 ghost use Prim.Native.Nat.{_≤_};

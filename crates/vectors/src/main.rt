@@ -1,6 +1,7 @@
 // Runs the vectors of standard input, good and damaged stores, headers and graph files, and prints what the readers find.
 // A case is a kind (one byte) and three parts, each a big-endian u32 length and its bytes, and before it
 // stands its own length, at most 65,536. tools/make_vectors.py makes them.
+use actor::StampRead;
 use commit::Cache;
 use commit::Either;
 use commitgraph::Layout;
@@ -15,7 +16,6 @@ use hash::Kind;
 use libc::STDOUT_FILENO;
 use object::Line;
 use object::Reading;
-use actor::StampRead;
 use odb::Located;
 
 fn text(s: &[u8]) {

@@ -15,6 +15,7 @@ usage: linenhatch [-C DIR] [--order newest|oldest|breadth] [-n N] [--count] [--r
        linenhatch feed [--csv] [the options of a list] [REV...]
        linenhatch [-C DIR] [--progress] merge-base REV REV
        linenhatch [-C DIR] [--progress] write-graph [REPO] [-o FILE]
+       linenhatch [-C DIR] [--progress] trace REV [--calibration REV]... --moves N
 
 Lists what the REVs reach (HEAD if none is given), one id on a line. A REV is any name of a commit that git knows; ^A is --hide A, and A..B is
 --hide A B, HEAD where A or B is left out.
@@ -55,6 +56,9 @@ Lists what the REVs reach (HEAD if none is given), one id on a line. A REV is an
                     repository in REPO (the folder that -C gives if none is) reach, to FILE, or to standard output. It is git's own version 1
                     file, with a generation for each commit, as git commit-graph write gives it with commitGraph.generationVersion 1.
                     Nothing is written if a commit cannot be read, a parent is not there, or a time does not fit in 34 bits
+  trace             as the first such word: lists nothing, says whether the cone bench can force a trace back from REV to a calibration within N moves, at
+                    most 12. Cone and bed choose a parent by turns, the cone first. Prints the cone's first forcing parent and its number in the
+                    header, counted from 0; or REV's own id where it is a calibration. Status 1 if the bed can evade
   --progress        shows on standard error how far the work is, also where that is no terminal
   -h, --help, -V, --version
 
@@ -71,6 +75,7 @@ pub enum Task {
     List(Args),
     MergeBase(Pair),
     WriteGraph(Output),
+    Trace(Start),
     Help,
     Version,
 }
@@ -122,12 +127,23 @@ pub struct Output {
     pub file: Option<PathBuf>,
 }
 
+/// Where a trace starts, what it is to reach, and within how many moves.
+#[derive(Debug, PartialEq)]
+pub struct Start {
+    pub dir: PathBuf,
+    pub progress: bool,
+    pub rev: OsString,
+    pub calibrations: Vec<OsString>,
+    pub moves: u32,
+}
+
 /// The command line's words, without the program's name.
 pub fn parse(words: impl IntoIterator<Item = OsString>) -> Result<Task, String> {
     let words: Vec<OsString> = words.into_iter().collect();
     match command(&words) {
         Some("merge-base") => parse_pair(words),
         Some("write-graph") => parse_output(words),
+        Some("trace") => parse_start(words),
         Some("feed") => parse_list(without(words, "feed"), Some(Report::Feed)),
         _ => parse_list(words, None),
     }
@@ -276,6 +292,36 @@ fn parse_output(words: Vec<OsString>) -> Result<Task, String> {
     }
     dir.extend(folders);
     Ok(Task::WriteGraph(Output { dir, progress, file }))
+}
+
+fn parse_start(words: Vec<OsString>) -> Result<Task, String> {
+    let mut words = words.into_iter();
+    let (mut dir, mut progress, mut named, mut revs, mut calibrations, mut moves) = (PathBuf::from("."), false, false, Vec::new(), Vec::new(), None);
+    while let Some(word) = words.next() {
+        match word.to_str() {
+            Some("trace") if !named => named = true,
+            Some("-C") => dir.push(words.next().ok_or("-C needs a folder")?),
+            Some("--calibration") => calibrations.push(name(words.next().ok_or("--calibration needs a name of a commit")?)?),
+            Some("--moves") => {
+                let number = words.next().ok_or("--moves needs a number")?;
+                moves = Some(number.to_str().and_then(|n| n.parse().ok()).ok_or(format!("--moves needs a number, not {}", number.to_string_lossy()))?);
+            }
+            Some("--progress") => progress = true,
+            Some("--help" | "-h") => return Ok(Task::Help),
+            Some("--version" | "-V") => return Ok(Task::Version),
+            Some("--") => {
+                for rev in words.by_ref() {
+                    revs.push(name(rev)?);
+                }
+            }
+            _ if word.as_bytes().starts_with(b"-") => return Err(format!("trace has no option {}", word.to_string_lossy())),
+            _ => revs.push(name(word)?),
+        }
+    }
+    let count = revs.len();
+    let [rev]: [OsString; 1] = revs.try_into().map_err(|_| format!("trace needs one name of a commit, and there {}", are(count)))?;
+    let moves = moves.ok_or("trace needs --moves")?;
+    Ok(Task::Trace(Start { dir, progress, rev, calibrations, moves }))
 }
 
 fn are(count: usize) -> String {

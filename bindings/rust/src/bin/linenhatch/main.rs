@@ -13,8 +13,8 @@ use std::io::{self, BufWriter, IsTerminal, Write};
 use std::path::Path;
 use std::process::ExitCode;
 
-use args::{Args, Output, Pair, Task};
-use linenhatch::{check_names, merge_base, write_graph, Commit, Fault, Lister, ObjectId, Refusal, Walk, MAX_FILE_BYTES, MAX_IDS};
+use args::{Args, Output, Pair, Start, Task};
+use linenhatch::{check_names, merge_base, trace, write_graph, Commit, Fault, Lister, ObjectId, Prospect, Refusal, Walk, MAX_FILE_BYTES, MAX_IDS};
 use progress::Progress;
 use refused::{counted, named, Refused};
 use repository::{Commits, Repository};
@@ -28,6 +28,7 @@ fn main() -> ExitCode {
         Ok(Task::List(args)) => list(&args),
         Ok(Task::MergeBase(pair)) => part(&pair),
         Ok(Task::WriteGraph(output)) => write(&output),
+        Ok(Task::Trace(start)) => trace_back(&start),
         Err(message) => {
             say("error", &format!("{message}\n(linenhatch --help says how it is used)"));
             return ExitCode::from(2);
@@ -195,6 +196,28 @@ fn replace(path: &Path, bytes: &[u8]) -> Result<(), String> {
         let _ = fs::remove_file(&beside);
         format!("{} cannot be written: {error}", path.display())
     })
+}
+
+/// Prints the cone's first forcing parent; or says why there is none.
+fn trace_back(start: &Start) -> Result<(), String> {
+    let repository = Repository::open(start.dir.clone())?;
+    let from = repository.resolve(&start.rev)?;
+    let calibrations = start.calibrations.iter().map(|rev| repository.resolve(rev)).collect::<Result<Vec<_>, _>>()?;
+    let mut progress = Progress::new(start.progress || io::stderr().is_terminal(), "commits read");
+    let commits = repository.read(&[from], &mut progress);
+    progress.make_way();
+    let mut commits = commits?;
+    let absent = std::mem::take(&mut commits.absent);
+    let store = store(commits)?;
+    let mut out = io::stdout();
+    let _ = match trace(&store, from, &calibrations, start.moves) {
+        Ok(Prospect::Forced { number, parent }) => writeln!(out, "{parent} {number}"),
+        Ok(Prospect::AtStart) => writeln!(out, "{from}"),
+        Ok(Prospect::NotForced) => return Err(format!("the bed can keep the trace from {from} off the calibrations for {}", counted(start.moves as usize, "move"))),
+        Err(Refusal::UnreadableReach) => return Err(format!("{}{}", Refusal::UnreadableReach, refused::unread(&store, &absent))),
+        Err(refusal) => return Err(refusal.to_string()),
+    };
+    Ok(())
 }
 
 /// What a check found, with the commit that is meant.

@@ -1,0 +1,4 @@
+pub mod Turns
+pub mod Judging
+pub mod More
+pub mod Strategies
