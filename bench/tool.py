@@ -2,11 +2,12 @@
 peer runs once, one after the other, and writes its list to a file; the lists must be the same. A number is the median of the repetitions, in
 milliseconds on the clock; in brackets processor time, of all processes that took part. Peers:
 
-    linenhatch           reads the commits through `git cat-file --batch`, makes a store, walks: `linenhatch --order newest TIP [--hide REV]`
+    linenhatch           reads the commits through git, makes a store, writes its own commit-graph file of it in memory, tests, walks: `linenhatch TIP [--hide REV]`
     git rev-list         `git rev-list TIP [^REV]`, which reads no more than it needs
     and cat-file         `git rev-list TIP | git cat-file --batch --buffer`: git's list of all that the tip reaches, with every commit's text read, as the tool does
 
-With "graph" the repository's commit-graph file is used (`git commit-graph write --reachable` wrote it), else it is not. Needs the tool
+With "graph" git uses the repository's commit-graph file (`git commit-graph write --reachable` wrote it), else it does not; the tool as it is never
+goes by it. Needs the tool
 (bindings/rust, release), python3 and git:
 
     python3 bench/tool.py $(python3 bench/histories.py bench/target/histories --only real-10000,real-80000)
@@ -46,7 +47,7 @@ def timed(command, out):
 def peers(folder, hiding, graph):
     f, repo = facts(folder), os.path.join(folder, "git")
     git = ["git", "-C", repo, "-c", f"core.commitGraph={'true' if graph else 'false'}"]
-    tool = [TOOL, "-C", repo, "--order", "newest", f["tip"]] + (["--hide", f["hidden"]] if hiding else []) + ([] if graph else ["--no-graph"])
+    tool = [TOOL, "-C", repo, f["tip"]] + (["--hide", f["hidden"]] if hiding else [])
     rev_list = [*git, "rev-list", f["tip"]] + (["^" + f["hidden"]] if hiding else [])
     words = " ".join(git)
     both = ["sh", "-c", f"{words} rev-list {f['tip']} | {words} cat-file --batch --buffer"]

@@ -1,15 +1,16 @@
 """drift.py: hiding where clocks drift. Makes histories of 300 commits in git, 15 percent of the clocks set back by up to 4,000 seconds. Each commit
 is hidden in turn, all that the tip reaches is listed, and each list is judged by plain reachability: right are the commits that the tip reaches
-and the hidden commit does not, each once. Listed by the tool `linenhatch`, tested and with --untested, with no commit-graph file, with one of the
-older half (a stale one) and with one of all commits, and by `git rev-list` with no such file and with one of all commits. A list that the tool
-refuses is counted apart; it may give refusal 15 and no other.
+and the hidden commit does not, each once. Listed by the tool `linenhatch` as it is, which writes a commit-graph file of its own; with --git-graph
+and --no-graph, tested and with --untested, with no commit-graph file, with one of the older half (a stale one) and with one of all commits; and by
+`git rev-list` with no such file and with one of all commits. A list that the tool refuses is counted apart; it may give refusal 15 and no other.
 
     rt staticlib linenhatch && (cd bindings/rust && cargo build --release --offline)
     python3 compare/drift.py
 
-Options: --seeds N (5 histories, of the seeds 1 to N), --commits N (300), --tool FILE. A seed always gives the same history. Ends with status 1 if
-a tested list of ours is wrong, or one with the file of all commits is wrong or refused: there the premises of the theorem hold. With no such file
-they do not, and git is no judge either: the counts say how often each is wrong. Needs python3 and git; a minute or two.
+Options: --seeds N (5 histories, of the seeds 1 to N), --commits N (300), --tool FILE. A seed always gives the same history. Ends with status 1 if a
+list of the tool as it is, is wrong or refused, if a tested one is wrong, or if one with git's file of all commits is wrong or refused: there the
+premises of the theorem hold. Elsewhere they do not, and git is no judge either: the counts say how often each is wrong. Needs python3 and git; some
+minutes.
 """
 import argparse
 import os
@@ -93,8 +94,8 @@ def with_graph(repository, copy, ids):
 
 # ---- the lists
 
-def ours(tool, repository, graph, tested=True):
-    words = [tool, "-C", repository, "--order", "newest"] + ([] if graph else ["--no-graph"]) + ([] if tested else ["--untested"])
+def ours(tool, repository, *options):
+    words = [tool, "-C", repository, *options]
     return lambda tip, hidden: words + ["--hide", hidden, tip]
 
 
@@ -131,8 +132,10 @@ def run(seed, count, tool):
         ids = make(plain, parents, seconds)
         whole = with_graph(plain, os.path.join(room, "whole"), ids)
         stale = with_graph(plain, os.path.join(room, "stale"), ids[:len(ids) // 2])
-        commands = {(name, what): ours(tool, repository, what != "none", name == "linenhatch") for name in ("linenhatch", "linenhatch --untested")
-                    for what, repository in (("none", plain), ("of the older half", stale), ("of all commits", whole))} | {
+        files = {"none": plain, "of the older half": stale, "of all commits": whole}
+        lists = [("", "none"), ("", "of the older half"), ("--git-graph", "of the older half"), ("--git-graph", "of all commits"), ("--no-graph", "none"),
+                 ("--untested --git-graph", "of the older half"), ("--untested --git-graph", "of all commits"), ("--untested --no-graph", "none")]
+        commands = {(f"linenhatch {words}".strip(), what): ours(tool, files[what], *words.split()) for words, what in lists} | {
                     ("git rev-list", "none"): rev_list(plain, False),
                     ("git rev-list", "of all commits"): rev_list(whole, True)}
         return {name: judge(command, ids, reached) for name, command in commands.items()}
@@ -149,18 +152,21 @@ def main():
     print(f"{a.seeds} histories of {a.commits} commits, {round(PART * a.commits)} clocks of each set back by 1 to {MOST_BACK:,} s; each commit "
           "hidden in turn, each list judged by plain reachability")
     runs = [run(seed, a.commits, os.path.abspath(a.tool)) for seed in range(1, a.seeds + 1)]
-    print(f"\n| lister | commit-graph file | wrong of {a.commits}, by seed | {FAULTS[0]} of {a.seeds * a.commits:,} | {' | '.join(FAULTS[1:])} |")
+    print(f"\n| lister | git's commit-graph file | wrong of {a.commits}, by seed | {FAULTS[0]} of {a.seeds * a.commits:,} | {' | '.join(FAULTS[1:])} |")
     print("|---" * (3 + len(FAULTS)) + "|")
     for name in runs[0]:
         sums = [f"{sum(column):,}" for column in zip(*(r[name] for r in runs))]
         print(f"| {' | '.join(name)} | {', '.join(str(r[name][0]) for r in runs)} | {' | '.join(sums)} |")
-    if any(r[name][0] for r in runs for name in r if name[0] == "linenhatch"):
-        print("\nFAILED: a tested list of ours is wrong")
-        return 1
-    if any(r[name, "of all commits"][0] + r[name, "of all commits"][-1] for r in runs for name in ("linenhatch", "linenhatch --untested")):
-        print("\nFAILED: with a commit-graph file of all commits a list of ours is wrong or refused")
-        return 1
-    print("\nno tested list of ours is wrong, and with a commit-graph file of all commits none is refused")
+    def bad(refused, chosen):
+        return any(r[name][0] + (r[name][-1] if refused else 0) for r in runs for name in r if name[0].startswith("linenhatch") and chosen(*name))
+
+    for why, found in (("a list of the tool as it is, is wrong or refused", bad(True, lambda lister, _: lister == "linenhatch")),
+                       ("a tested list of ours is wrong", bad(False, lambda lister, _: "--untested" not in lister)),
+                       ("with git's commit-graph file of all commits a list of ours is wrong or refused", bad(True, lambda _, what: what == "of all commits"))):
+        if found:
+            print(f"\nFAILED: {why}")
+            return 1
+    print("\nno list of the tool as it is, is wrong or refused; no tested list is wrong; with git's commit-graph file of all commits none is refused")
     return 0
 
 

@@ -63,11 +63,11 @@ def run(seed, count, tool):
                 given = ids + [stray]
                 chosen = lambda g: [g.find(bytes.fromhex(stray))]  # noqa: E731
             zeroed(graph_of(repository, given), chosen)
-            for name, command in (("linenhatch", drift.ours(tool, repository, True)), ("git rev-list", drift.rev_list(repository, True))):
+            for name, command in (("linenhatch", drift.ours(tool, repository, "--git-graph")), ("git rev-list", drift.rev_list(repository, True))):
                 counts = drift.judge(command, ids, reached)
                 wrong[name, what, of] = counts[0] + counts[-1]  # the clocks are right, so none may be refused
                 lists += count
-            shown = subprocess.run([tool, "-C", repository, "--order", "newest", "--time", ids[-1]], stdout=subprocess.PIPE, check=True, env=drift.ENV).stdout.decode().splitlines()
+            shown = subprocess.run([tool, "-C", repository, "--git-graph", "--time", ids[-1]], stdout=subprocess.PIPE, check=True, env=drift.ENV).stdout.decode().splitlines()
             wrong["linenhatch, generations shown", what, of] = sum(not x.endswith("/-") for x in shown)
     return wrong, lists
 

@@ -37,7 +37,7 @@ START = 1_700_000_000
 
 def ours(tool, repository, tip, *words):
     """The tool's zones by id, whatever a tested opening says of the history."""
-    out = subprocess.run([tool, "-C", repository, "--untested", "--zone", *words, tip], stdout=subprocess.PIPE, check=True, env=drift.ENV).stdout
+    out = subprocess.run([tool, "-C", repository, "--untested", "--git-graph", "--zone", *words, tip], stdout=subprocess.PIPE, check=True, env=drift.ENV).stdout
     return dict(line.split(" ") for line in out.decode().splitlines())
 
 

@@ -77,6 +77,7 @@ extern "C" {
 #define LINENHATCH_FEED_NEITHER 3 /* with neither, also those that the graph file alone has */
 #define LINENHATCH_CONE_SUM 4     /* the sum of all cone readings, in millimetres */
 #define LINENHATCH_BED_SUM 5      /* the sum of all bed readings */
+
 /* of a trace alone: */
 #define LINENHATCH_FORCED 0        /* 0: not forced; 1: the start is on the list; 2: forced by a parent, which id holds */
 #define LINENHATCH_PARENT_NUMBER 1 /* that parent's number in header order, counted from 0 */
@@ -119,7 +120,6 @@ extern "C" {
 #define LINENHATCH_SHORT_OUTPUT 20u  /* the output is shorter than the file */
 
 /* of a feed report */
-/* of readings in messages */
 #define LINENHATCH_READING_TWICE 21u      /* two lines of a message start with the same reading */
 #define LINENHATCH_READING_UNREADABLE 22u /* a line starts with a reading and goes on otherwise than with its number */
 

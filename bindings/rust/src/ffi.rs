@@ -261,6 +261,7 @@ unsafe extern "C" {
         difference: *mut i64,
         difference_len: usize,
     ) -> u32;
+
     fn linenhatch_trace(
         store: *const u8,
         store_len: usize,

@@ -53,13 +53,13 @@ pub use id::{ObjectId, ParseIdError, ID_BYTES};
 #[cfg(feature = "walk")]
 pub use merge_base::merge_base;
 #[cfg(feature = "walk")]
-pub use trace::{trace, Prospect, MAX_MOVES};
-#[cfg(feature = "walk")]
 pub use names::{check_names, Fault};
 pub use order::Order;
 pub use refusal::{NoRoom, Refusal};
 #[cfg(feature = "walk")]
 pub use reports::FeedReport;
 pub use store::{header, parents, store_from_commits, StoreBuilder, TooLarge, MAX_FILE_BYTES, MAX_IDS};
+#[cfg(feature = "walk")]
+pub use trace::{trace, Prospect, MAX_MOVES};
 #[cfg(feature = "walk")]
 pub use walk::{Commit, Lister, Numbers, Walk};

@@ -8,7 +8,7 @@ use std::ffi::OsString;
 use std::os::unix::ffi::OsStringExt;
 use std::path::Path;
 
-use args::{parse, Args, Report, Task};
+use args::{parse, Args, Format, Graph, Report, Task};
 use linenhatch::Order;
 
 fn task(line: &str) -> Result<Task, String> {
@@ -34,9 +34,10 @@ fn nothing_given() {
     let args = list("");
     assert_eq!(args.dir, Path::new("."));
     assert_eq!(args.order, Order::Newest);
-    assert_eq!((args.since, args.max_count), (None, None));
+    assert_eq!((args.since, args.until, args.cutoff, args.max_count), (None, None, None, None));
     assert!(!args.count && !args.reverse);
-    assert!(args.graph && !args.untested && !args.first_parent && !args.parents && !args.time && !args.zone && !args.progress);
+    assert_eq!((args.graph, args.format), (Graph::Own, Format::Ids));
+    assert!(!args.untested && !args.first_parent && !args.time && !args.zone && !args.progress && args.refs.is_empty());
     assert!(args.hide.is_empty() && args.exclude.is_empty());
     assert_eq!(args.revs, ["HEAD"]);
 }
@@ -44,12 +45,14 @@ fn nothing_given() {
 #[test]
 fn everything_given() {
     let args = list(
-        "-C some/where --order oldest --since -5 --first-parent --hide a --hide=b --exclude c main --no-graph --untested --parents --time --zone --progress v1^0 -- x",
+        "-C some/where --order oldest --cutoff -5 --since yesterday --until=now --first-parent --hide a --hide=b --exclude c main --no-graph --untested --parents --time --zone --progress v1^0 -- x",
     );
     assert_eq!(args.dir, Path::new("./some/where"));
     assert_eq!(args.order, Order::Oldest);
-    assert_eq!(args.since, Some(-5));
-    assert!(!args.graph && args.untested && args.first_parent && args.parents && args.time && args.zone && args.progress);
+    assert_eq!(args.cutoff, Some(-5));
+    assert_eq!((args.since.unwrap(), args.until.unwrap()), ("yesterday".into(), "now".into()));
+    assert_eq!((args.graph, args.format), (Graph::None, Format::Parents));
+    assert!(args.untested && args.first_parent && args.time && args.zone && args.progress);
     assert_eq!(args.hide, ["a", "b"]);
     assert_eq!(args.exclude, ["c"]);
     assert_eq!(args.revs, ["main", "v1^0", "x"]);
@@ -68,10 +71,54 @@ fn a_value_may_have_an_equals_sign() {
 }
 
 #[test]
-fn since_takes_an_order_by_time() {
-    assert_eq!(list("--since=7").order, Order::Newest);
-    assert_eq!(list("--since=7 --order=oldest").order, Order::Oldest);
-    assert!(refused("--since 7 --order breadth").contains("order by time"));
+fn a_cutoff_takes_an_order_by_time() {
+    assert_eq!(list("--cutoff=7").order, Order::Newest);
+    assert_eq!(list("--cutoff=7 --order=oldest").order, Order::Oldest);
+    assert!(refused("--cutoff 7 --order breadth").contains("order by time"));
+    assert!(list("--since 7 --order breadth").since.is_some());
+}
+
+/// The word `list`, and a branch of that name.
+#[test]
+fn the_word_list() {
+    assert_eq!(list("list"), list(""));
+    assert_eq!(list("-C list --progress list -n 2 a..b"), list("-C list --progress -n 2 a..b"));
+    assert_eq!(list("list list").revs, ["list"]);
+    assert_eq!(list("-- list").revs, ["list"]);
+    assert_eq!(list("--count list").revs, ["list"]);
+}
+
+#[test]
+fn which_graph_file() {
+    assert_eq!(list("--git-graph").graph, Graph::Git);
+    assert_eq!(list("--git-graph --no-graph").graph, Graph::None);
+    assert_eq!(list("--no-graph --git-graph").graph, Graph::Git);
+}
+
+#[test]
+fn references() {
+    let args = list("--all --tags");
+    assert_eq!((args.refs, args.revs.len()), (vec!["--all", "--tags"], 0));
+    let args = list("--branches ^a b");
+    assert_eq!((args.refs, args.revs, args.hide), (vec!["--branches"], vec!["b".into()], vec!["a".into()]));
+    assert!(refused("--all=x").contains("--all=x"));
+}
+
+#[test]
+fn dates() {
+    assert_eq!(list("--after 2024-09-01 --before=x").since, list("--since=2024-09-01 --until x").since);
+    assert_eq!(list("--before=x").until, Some("x".into()));
+    assert!(refused("--until").contains("--until needs"));
+}
+
+#[test]
+fn formats() {
+    for (word, format) in [("ids", Format::Ids), ("parents", Format::Parents), ("csv", Format::Csv), ("json", Format::Json)] {
+        assert_eq!(list(&format!("--format {word}")).format, format);
+    }
+    assert!(refused("--format xml").contains("'xml' is no format"));
+    assert!(refused("--format csv --zone").contains("csv and json have both"));
+    assert!(refused("--format json --time").contains("csv and json have both"));
 }
 
 #[test]
@@ -82,6 +129,8 @@ fn how_many_and_which_way() {
     assert_eq!(list("--order breadth").order, Order::Breadth);
     assert!(refused("-n").contains("-n needs"));
     assert!(refused("-n few").contains("few"));
+    assert_eq!((list("-12").max_count, list("-n7").max_count), (Some(12), Some(7)));
+    assert!(refused("-n7x").contains("-n7x") && refused("-7x").contains("-7x"));
     assert!(refused("-n -1").contains("-1"));
     assert!(refused("--count=3").contains("--count=3"));
 }
@@ -100,8 +149,8 @@ fn what_git_leaves_out_so() {
 
 #[test]
 fn help_and_version() {
-    assert_eq!(task("--help"), Ok(Task::Help));
-    assert_eq!(task("x -h --nonsense"), Ok(Task::Help));
+    assert_eq!(task("--help"), Ok(Task::Help(args::HELP)));
+    assert_eq!(task("list --all -h --nonsense"), Ok(Task::Help(args::HELP)));
     assert_eq!(task("--version"), Ok(Task::Version));
     assert_eq!(task("-V"), Ok(Task::Version));
     for option in [
@@ -124,8 +173,23 @@ fn help_and_version() {
         "--time",
         "--zone",
         "--progress",
+        "--all",
+        "--branches",
+        "--tags",
+        "--until",
+        "--after",
+        "--before",
+        "--cutoff",
+        "--format",
+        "csv",
+        "json",
+        "--git-graph",
     ] {
         assert!(args::HELP.contains(option), "{option}");
+    }
+    for help in [args::HELP, args::FEED_HELP, args::MERGE_BASE_HELP, args::TRACE_HELP, args::WRITE_GRAPH_HELP] {
+        assert!(["\nusage: linenhatch", "\nexample: ", "\nExit status: 0 "].iter().all(|part| help.contains(part)), "{help}");
+        assert!(help.lines().all(|line| line.len() <= 150), "{help}");
     }
 }
 
@@ -133,9 +197,9 @@ fn help_and_version() {
 fn wrong_words() {
     assert!(refused("--order").contains("--order needs"));
     assert!(refused("--order sideways").contains("sideways"));
-    assert!(refused("--since yesterday").contains("yesterday"));
+    assert!(refused("--cutoff yesterday").contains("yesterday"));
     assert!(refused("--since").contains("--since needs"));
-    assert!(refused("--all").contains("--all"));
+    assert!(refused("--remotes").contains("--remotes"));
     assert!(refused("-x").contains("-x"));
     assert!(refused("--parents=yes").contains("--parents=yes"));
     assert!(refused("--untested=no").contains("--untested=no"));
@@ -186,11 +250,10 @@ fn where_two_part() {
     ] {
         assert!(refused(line).contains(why), "{line}: {}", refused(line));
     }
-    assert_eq!(task("merge-base -h"), Ok(Task::Help));
+    assert_eq!(task("merge-base -h"), Ok(Task::Help(args::MERGE_BASE_HELP)));
     assert_eq!(task("merge-base --version"), Ok(Task::Version));
 }
 
-/// A branch of that name is still listed, where the word is not the first.
 #[test]
 fn a_trace() {
     let Ok(Task::Trace(given)) = task("-C x trace a --calibration b --moves 5 --calibration c") else { panic!("no trace") };
@@ -208,10 +271,11 @@ fn a_trace() {
         let message = task(words).unwrap_err();
         assert!(message.contains(said), "{words}: {message}");
     }
-    assert_eq!(task("trace --help"), Ok(Task::Help));
+    assert_eq!(task("trace --help"), Ok(Task::Help(args::TRACE_HELP)));
     assert_eq!(list("-- trace").revs, ["trace"]);
 }
 
+/// A branch of that name is still listed, where the word is not the first.
 #[test]
 fn a_branch_of_that_name() {
     assert_eq!(list("-- merge-base").revs, ["merge-base"]);
@@ -240,7 +304,7 @@ fn a_graph_file_to_write() {
     ] {
         assert!(refused(line).contains(said), "{line}");
     }
-    assert_eq!(task("write-graph -h"), Ok(Task::Help));
+    assert_eq!(task("write-graph -h"), Ok(Task::Help(args::WRITE_GRAPH_HELP)));
     assert_eq!(task("write-graph --version"), Ok(Task::Version));
     assert_eq!(list("-- write-graph").revs, ["write-graph"]);
     assert_eq!(list("--count write-graph").revs, ["write-graph"]);
@@ -254,10 +318,12 @@ fn a_report() {
     assert_eq!(list("feed").revs, ["HEAD"]);
     assert_eq!(list("feed feed").revs, ["feed"]);
     assert_eq!((list("-- feed").report, list("main feed").report), (None, None));
-    for option in ["-n 3", "--count", "--reverse", "--parents", "--time", "--zone"] {
+    assert_eq!(list("feed --all --git-graph --cutoff 7").cutoff, Some(7));
+    for option in ["-n 3", "--count", "--reverse", "--parents", "--time", "--zone", "--since=now", "--until now", "--format csv"] {
         assert!(refused(&format!("feed {option}")).contains("a report has no option"), "{option}");
     }
+    assert!(refused("feed -3").contains("no option -3"));
     assert!(refused("feed --check-names").contains("no option --check-names"));
     assert!(refused("--csv").contains("no option --csv"));
-    assert_eq!(task("feed -h"), Ok(Task::Help));
+    assert_eq!(task("feed -h"), Ok(Task::Help(args::FEED_HELP)));
 }

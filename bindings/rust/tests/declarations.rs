@@ -103,8 +103,17 @@ fn the_same_refusals() {
 /// One word for it: generation, in names and in comments. Document 01 says level (docs/GLOSSARY.md).
 #[test]
 fn one_word_for_the_generation() {
-    for text in [C, RUST, include_str!("../../c/example.c"), include_str!("../src/walk.rs"), include_str!("../src/bin/linenhatch/args.rs")]
-    {
+    for text in [
+        C,
+        RUST,
+        include_str!("../../c/example.c"),
+        include_str!("../src/walk.rs"),
+        include_str!("../src/bin/linenhatch/args.rs"),
+        include_str!("../src/bin/linenhatch/help/list.txt"),
+        include_str!("../src/bin/linenhatch/help/write-graph.txt"),
+        include_str!("../src/bin/linenhatch/listing.rs"),
+        include_str!("../src/bin/linenhatch/table.rs"),
+    ] {
         assert!(!text.to_lowercase().contains("level"));
     }
 }

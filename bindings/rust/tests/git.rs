@@ -9,150 +9,14 @@ fn skipped() {
 }
 
 #[cfg(feature = "walk")]
+mod repositories;
+
+#[cfg(feature = "walk")]
 mod tool {
-    use std::collections::BTreeSet;
     use std::fs;
     use std::io::Write;
-    use std::path::{Path, PathBuf};
-    use std::process::{Command, Output, Stdio};
 
-    const TREE: &str = "4b825dc642cb6eb9a060e54bf8d69288fbee4904";
-
-    /// A repository in a folder of its own, which is removed at the end.
-    struct Repository {
-        dir: PathBuf,
-    }
-
-    impl Drop for Repository {
-        fn drop(&mut self) {
-            let _ = fs::remove_dir_all(&self.dir);
-        }
-    }
-
-    fn has_git() -> bool {
-        let found = Command::new("git").arg("--version").output().is_ok_and(|output| output.status.success());
-        if !found {
-            eprintln!("skipped: git is not there");
-        }
-        found
-    }
-
-    fn folder(name: &str) -> PathBuf {
-        let dir = Path::new(env!("CARGO_TARGET_TMPDIR")).join(format!("{name}-{}", std::process::id()));
-        let _ = fs::remove_dir_all(&dir);
-        dir
-    }
-
-    fn run(mut command: Command, input: &[u8]) -> Output {
-        let mut child = command.stdin(Stdio::piped()).stdout(Stdio::piped()).stderr(Stdio::piped()).spawn().unwrap();
-        child.stdin.take().unwrap().write_all(input).unwrap();
-        child.wait_with_output().unwrap()
-    }
-
-    fn lines(text: &[u8]) -> Vec<String> {
-        String::from_utf8(text.to_vec()).unwrap().lines().map(String::from).collect()
-    }
-
-    fn set(lines: &[String]) -> BTreeSet<&String> {
-        lines.iter().collect()
-    }
-
-    impl Repository {
-        fn new(name: &str) -> Repository {
-            let repository = Repository { dir: folder(name) };
-            fs::create_dir_all(&repository.dir).unwrap();
-            repository.git("init -q -b main .");
-            repository.git("hash-object -w -t tree --stdin");
-            repository
-        }
-
-        fn command(&self) -> Command {
-            let mut git = Command::new("git");
-            git.arg("-C").arg(&self.dir).env("GIT_CONFIG_GLOBAL", "/dev/null").env("GIT_CONFIG_NOSYSTEM", "1");
-            for who in ["AUTHOR", "COMMITTER"] {
-                git.env(format!("GIT_{who}_NAME"), "A").env(format!("GIT_{who}_EMAIL"), "a");
-            }
-            git
-        }
-
-        fn git_with(&self, words: &str, input: &[u8]) -> Vec<String> {
-            let mut git = self.command();
-            git.args(words.split_whitespace());
-            let output = run(git, input);
-            assert!(output.status.success(), "git {words}: {}", String::from_utf8_lossy(&output.stderr));
-            lines(&output.stdout)
-        }
-
-        fn git(&self, words: &str) -> Vec<String> {
-            self.git_with(words, b"")
-        }
-
-        /// Writes a commit with these parents and further header lines. The id.
-        fn commit_with(&self, seconds: i64, parents: &[&str], more: &str) -> String {
-            let parents: String = parents.iter().map(|parent| format!("parent {parent}\n")).collect();
-            let body = format!(
-                "tree {TREE}\n{parents}author A B <a@b> {seconds} +0100\ncommitter C D <c@d> {seconds} +0100\n{more}\nrun at {seconds}\n"
-            );
-            self.git_with("hash-object -w -t commit --stdin", body.as_bytes()).remove(0)
-        }
-
-        fn commit(&self, seconds: i64, parents: &[&str]) -> String {
-            self.commit_with(seconds, parents, "")
-        }
-
-        fn point(&self, name: &str, id: &str) {
-            self.git(&format!("update-ref refs/heads/{name} {id}"));
-        }
-
-        fn tool(&self, words: &str) -> Output {
-            let mut tool = Command::new(env!("CARGO_BIN_EXE_linenhatch"));
-            tool.arg("-C").arg(&self.dir).args(words.split_whitespace());
-            tool.env("GIT_CONFIG_GLOBAL", "/dev/null").env("GIT_CONFIG_NOSYSTEM", "1");
-            run(tool, b"")
-        }
-
-        /// The tool's list, which is whole and comes without a word on standard error.
-        fn list(&self, words: &str) -> Vec<String> {
-            let output = self.tool(words);
-            assert_eq!((String::from_utf8_lossy(&output.stderr).as_ref(), output.status.code()), ("", Some(0)), "linenhatch {words}");
-            lines(&output.stdout)
-        }
-
-        /// The tool's list and what it says on standard error, with status 1.
-        fn fails(&self, words: &str) -> (Vec<String>, String) {
-            let output = self.tool(words);
-            assert_eq!(output.status.code(), Some(1), "linenhatch {words}");
-            (lines(&output.stdout), String::from_utf8(output.stderr).unwrap())
-        }
-    }
-
-    /// A main line of 30 commits with side branches, merges of two and of four, and two roots; the times differ and rise.
-    fn history(name: &str) -> Repository {
-        let repository = Repository::new(name);
-        let second = |n: i64| 1_700_000_000 + 60 * n;
-        let other = repository.commit(second(0), &[]);
-        let mut main = vec![repository.commit(second(1), &[])];
-        for n in 1..15 {
-            main.push(repository.commit(second(10 * n), &[&main[n as usize - 1]]));
-        }
-        let side: Vec<String> = (0..3).map(|n| repository.commit(second(141 + n), &[&main[3 + 2 * n as usize]])).collect();
-        let two = repository.commit_with(
-            second(150),
-            &[&main[14], &side[0]],
-            "gpgsig -----BEGIN PGP SIGNATURE-----\n \n abc=\n -----END PGP SIGNATURE-----\n",
-        );
-        let four = repository.commit_with(second(160), &[&two, &side[1], &side[2], &other], "encoding ISO-8859-1\n");
-        main.push(four);
-        for n in 17..31 {
-            let last = main.last().unwrap().clone();
-            main.push(repository.commit(second(10 * n), &[&last]));
-        }
-        repository.point("main", main.last().unwrap());
-        repository.point("old", &main[10]);
-        repository.point("side", &side[2]);
-        repository.point("merge", &main[15]);
-        repository
-    }
+    use super::repositories::{folder, has_git, history, lines, run, set, Repository, TREE};
 
     /// A body under another commit's id: git hands it out as it stands, and the check names the commit.
     #[test]
@@ -207,8 +71,8 @@ mod tool {
         repository.point("left", &repository.commit(1_800_000_100, &[&one, &other]));
         repository.point("right", &repository.commit(1_800_000_100, &[&other, &one]));
         assert_eq!(repository.git("merge-base --all left right").len(), 2);
-        assert_eq!(repository.list("merge-base left right"), [other.clone()]);
-        assert_eq!(repository.list("merge-base right left"), [other.clone()]);
+        assert_eq!(repository.list("merge-base left right"), [other.as_str()]);
+        assert_eq!(repository.list("merge-base right left"), [other.as_str()]);
 
         fs::remove_file(repository.dir.join(".git/objects").join(&one[..2]).join(&one[2..])).unwrap();
         let (list, why) = repository.fails("merge-base left right");
@@ -220,8 +84,36 @@ mod tool {
         );
     }
 
-    fn compare(repository: &Repository, graph: bool) {
-        let no = if graph { "" } else { "--no-graph" };
+    /// The cone forces its way where every parent that the bed may choose is a calibration.
+    #[test]
+    fn traces_back() {
+        if !has_git() {
+            return;
+        }
+        let repository = Repository::new("traces");
+        let [one, two, other] = [1, 2, 3].map(|seconds| repository.commit(1000 + seconds, &[]));
+        let forced = repository.commit(1100, &[&one, &two]);
+        let free = repository.commit(1200, &[&one, &other]);
+        let tip = repository.commit(1300, &[&free, &forced]);
+        repository.point("main", &tip);
+        let trace = |words: &str| format!("trace main --calibration {one} --calibration {two} {words}");
+        assert_eq!(repository.list(&trace("--moves 2")), [format!("{forced} 1")]);
+        assert_eq!(repository.list(&format!("trace {one} --calibration {one} --moves 0")), [one.as_str()]);
+        for (words, why) in [
+            (trace("--moves 1"), format!("the bed can keep the trace from {tip} off the calibrations for 1 move")),
+            (format!("trace main --calibration {one} --moves 2"), "for 2 moves".into()),
+            (trace("--moves 13"), "(refusal 25, ".into()),
+        ] {
+            let (list, said) = repository.fails(&words);
+            assert!(list.is_empty() && said.contains(&why), "{words}: {said}");
+        }
+        fs::remove_file(repository.dir.join(".git/objects").join(&other[..2]).join(&other[2..])).unwrap();
+        let (list, said) = repository.fails(&trace("--moves 2"));
+        assert!(list.is_empty() && said.contains("refusal 13") && said.contains(&other), "{said}");
+    }
+
+    /// The lists by one kind of commit-graph file: the tool's own (no word), git's, or none.
+    fn compare(repository: &Repository, no: &str) {
         for (words, same) in [
             ("main", "main"),
             ("", "main"),
@@ -262,15 +154,16 @@ mod tool {
         let since = repository.git("rev-list --max-age=1700006000 main");
         assert!(!since.is_empty());
         assert_eq!(repository.list(&format!("{no} --since 1700006000 main")), since);
+        assert_eq!(repository.list(&format!("{no} --cutoff 1700006000 main")), since);
         let times: Vec<String> = repository.list(&format!("{no} --order newest --time main"));
         for (line, right) in times.iter().zip(repository.git("rev-list --timestamp main")) {
             let (seconds, id) = right.split_once(' ').unwrap();
             assert!(line.starts_with(&format!("{id} {seconds}/")), "{line}");
-            assert_eq!(line.ends_with("/-"), !graph, "{line}");
+            assert_eq!(line.ends_with("/-"), no == "--no-graph", "{line}");
         }
-        assert!(repository.list(&format!("{no} --order breadth --time main")).iter().all(|line| line.contains(" -/")));
+        assert!(repository.list(&format!("{no} --order breadth --time main")).iter().all(|line| line.contains(" -/") != no.is_empty()));
         let zones = repository.list(&format!("{no} --order newest --zone --time main"));
-        assert!(zones.iter().all(|line| line.ends_with(if graph { " -" } else { " +0100" })), "{zones:?}");
+        assert!(zones.iter().all(|line| line.ends_with(if no == "--git-graph" { " -" } else { " +0100" })), "{zones:?}");
         let without = repository.list(&format!("{no} --exclude merge^1 main"));
         assert!(!without.contains(&repository.git("rev-parse merge^1")[0]));
         assert!(without.contains(&repository.git("rev-parse side")[0]));
@@ -282,18 +175,20 @@ mod tool {
             return;
         }
         let repository = history("lists");
-        compare(&repository, false);
+        compare(&repository, "");
+        compare(&repository, "--no-graph");
         repository.git("commit-graph write --reachable --changed-paths");
-        compare(&repository, true);
-        compare(&repository, false);
+        compare(&repository, "--git-graph");
+        compare(&repository, "");
         // A stale file: commits that it does not have.
         let tip = repository.commit(
             1_800_000_000,
             &["main", "side"].map(|name| repository.git(&format!("rev-parse {name}")).remove(0)).each_ref().map(|id| id.as_str()),
         );
         repository.point("main", &tip);
-        assert_eq!(repository.list("--order newest main"), repository.git("rev-list main"));
-        let times = repository.list("--order newest --time main");
+        assert_eq!(repository.list("--git-graph main"), repository.git("rev-list main"));
+        assert!(repository.list("--time main").iter().all(|line| !line.ends_with("/-")));
+        let times = repository.list("--git-graph --time main");
         assert!(times[0].ends_with("/-") && !times[1].ends_with("/-"));
     }
 
@@ -305,25 +200,26 @@ mod tool {
         let repository = history("graphs");
         let right = repository.git("rev-list main");
         repository.git("commit-graph write --reachable --split");
-        let output = repository.tool("--order newest main");
+        let output = repository.tool("--git-graph main");
         assert_eq!(output.status.code(), Some(0));
         assert_eq!(lines(&output.stdout), right);
         assert!(String::from_utf8_lossy(&output.stderr).contains("chain of several layers"));
-        assert_eq!(repository.list("--no-graph --order newest main"), right);
+        assert_eq!(repository.list("--no-graph main"), right);
+        assert_eq!(repository.list("main"), right);
 
         let file = repository.dir.join(".git/objects/info/commit-graph");
         fs::write(&file, vec![0; 16_777_217]).unwrap();
-        let output = repository.tool("--order newest main");
+        let output = repository.tool("--git-graph main");
         assert_eq!(lines(&output.stdout), right);
         assert!(String::from_utf8_lossy(&output.stderr).contains("16777217 bytes"));
 
         for (bytes, word) in [(&b"another file"[..], "(refusal 5, unknown graph)"), (b"CGPH\x01\x01\x04\x00", "(refusal 6, corrupt graph)")]
         {
             fs::write(&file, bytes).unwrap();
-            let (list, said) = repository.fails("--order newest main");
+            let (list, said) = repository.fails("--git-graph main");
             assert!(list.is_empty());
-            assert!(said.contains(word) && said.contains("--no-graph"), "{said}");
-            assert_eq!(repository.list("--no-graph --order newest main"), right);
+            assert!(said.contains(word) && said.contains("without --git-graph"), "{said}");
+            assert_eq!(repository.list("main"), right);
         }
     }
 
@@ -351,17 +247,22 @@ mod tool {
         let m = repository.commit(1003, &[&s]);
         let h = repository.commit(1009, &[&m]);
         let a = repository.commit(1010, &[&c, &m]);
-        let (list, said) = repository.fails(&format!("{a} --hide {h}"));
+        assert_eq!(repository.list(&format!("{a} --hide {h}")), [a.as_str()]);
+        let (list, said) = repository.fails(&format!("--no-graph {a} --hide {h}"));
         assert!(list.is_empty());
-        assert!(said.contains("(refusal 15, pair not falling)") && said.contains("git commit-graph write --reachable"), "{said}");
+        assert!(
+            said.contains(&format!("(refusal 15, pair not falling): {s}\n")) && said.contains("Without --git-graph and --no-graph"),
+            "{said}"
+        );
         assert!(said.contains("--untested"), "{said}");
-        assert_eq!(repository.list(&format!("--untested {a} --hide {h}")), [a.clone(), c]);
+        assert_eq!(repository.list(&format!("--untested --no-graph {a} --hide {h}")), [a.clone(), c]);
         repository.point("a", &a);
         repository.point("h", &h);
         repository.git("commit-graph write --reachable");
-        assert_eq!(repository.list("a --hide h"), [a]);
-        assert_eq!(repository.list("a --hide h"), repository.git("rev-list a ^h"));
-        assert_eq!(repository.list("--untested a --hide h"), repository.git("rev-list a ^h"));
+        for words in ["", "--untested", "--git-graph", "--untested --git-graph"] {
+            assert_eq!(repository.list(&format!("{words} a --hide h")), [a.as_str()], "{words}");
+        }
+        assert_eq!(repository.git("rev-list a ^h"), [a]);
     }
 
     /// A commit-graph file that has another time of one commit than the commit itself.
@@ -373,7 +274,7 @@ mod tool {
         let repository = history("odds");
         let right = repository.git("rev-list main");
         repository.git("commit-graph write --reachable");
-        assert_eq!(repository.list("main"), right);
+        assert_eq!(repository.list("--git-graph main"), right);
         let file = repository.dir.join(".git/objects/info/commit-graph");
         let mut bytes = fs::read(&file).unwrap();
         let row = bytes[8..].chunks(12).find(|row| row[..4] == b"CDAT"[..]).unwrap();
@@ -382,15 +283,17 @@ mod tool {
         fs::remove_file(&file).unwrap();
         fs::write(&file, &bytes).unwrap();
         let all = repository.git("for-each-ref --format=%(refname:short)").join(" ");
-        let (list, said) = repository.fails(&all);
+        let (list, said) = repository.fails(&format!("--git-graph {all}"));
         assert!(list.is_empty());
-        assert!(said.contains("(refusal 14, graph at odds)") && said.contains("git commit-graph write --reachable"), "{said}");
-        assert!(said.contains("--no-graph"), "{said}");
+        let first = repository.git("rev-list --all").into_iter().min().unwrap();
+        assert!(said.contains(&format!("(refusal 14, graph at odds): {first}\n")), "{said}");
+        assert!(said.contains("git commit-graph write --reachable") && said.contains("without --git-graph"), "{said}");
+        assert_eq!(repository.list("main"), right);
         assert_eq!(repository.list("--no-graph main"), right);
-        assert_eq!(set(&repository.list("--untested --order breadth main")), set(&right));
+        assert_eq!(set(&repository.list("--untested --git-graph --order breadth main")), set(&right));
         fs::remove_file(&file).unwrap();
         repository.git("commit-graph write --reachable");
-        assert_eq!(repository.list("main"), right);
+        assert_eq!(repository.list("--git-graph main"), right);
     }
 
     #[test]
@@ -405,7 +308,7 @@ mod tool {
         repository.point("wider", &repository.commit(6000, &roots));
         assert_eq!(repository.list("--order newest --parents wide"), repository.git("rev-list --parents wide"));
         repository.git("commit-graph write --reachable");
-        assert_eq!(repository.list("--order newest --parents wide"), repository.git("rev-list --parents wide"));
+        assert_eq!(repository.list("--git-graph --parents wide"), repository.git("rev-list --parents wide"));
         let wider = repository.git("rev-parse wider").remove(0);
         let (list, said) = repository.fails("wider");
         assert!(list.is_empty());
@@ -424,30 +327,36 @@ mod tool {
         let repository = history("whole");
         let shallow = Repository { dir: folder("shallow") };
         repository.git(&format!("clone -q --depth 3 file://{} {}", repository.dir.display(), shallow.dir.display()));
-        for words in ["main", "-n 2 main", "main --hide main~2"] {
-            let (list, said) = shallow.fails(words);
-            assert!(list.is_empty());
+        let note = |said: &[u8]| {
+            let said = String::from_utf8(said.to_vec()).unwrap();
+            let boundary = fs::read_to_string(shallow.dir.join(".git/shallow")).unwrap();
+            assert_eq!(said.lines().count(), 1, "{said}");
             assert!(
-                said.contains("this is a shallow clone, and nothing is listed") && said.contains("(refusal 13, unreadable reach)"),
+                said.contains(&format!("cut off at 1 commit ({})", boundary.trim())) && said.contains("git fetch --unshallow"),
                 "{said}"
             );
-            assert!(
-                said.contains("not there: 1 commit\n") && said.contains("git fetch --unshallow") && said.contains("--untested"),
-                "{said}"
-            );
+        };
+        for (words, right) in [
+            ("main", "main"),
+            ("-n 2 main", "-n 2 main"),
+            ("main --hide main~2", "main ^main~2"),
+            ("--parents main", "--parents main"),
+            ("--no-graph main", "main"),
+            ("--untested --git-graph main", "main"),
+        ] {
+            let output = shallow.tool(words);
+            assert_eq!(output.status.code(), Some(0), "{words}");
+            assert_eq!(lines(&output.stdout), shallow.git(&format!("rev-list {right}")), "{words}");
+            note(&output.stderr);
         }
-        let (list, said) = shallow.fails("--untested main");
-        assert_eq!(list, shallow.git("rev-list main"));
-        assert_eq!(said.lines().count(), 1, "{said}");
-        assert!(said.contains("this is a shallow clone, and the list is not whole: 1 commit past its boundary"), "{said}");
-        assert!(said.contains("(refusal 9, commit not found)") && said.contains("git fetch --unshallow"), "{said}");
-        let (list, said) = shallow.fails("--untested main --hide main~2");
-        assert!(list.is_empty());
-        assert_eq!(said.lines().count(), 1, "{said}");
-        assert!(said.contains("this is a shallow clone, and nothing is listed"), "{said}");
-        // What is asked for comes before the boundary: the list is right, and no refusal was met.
-        assert_eq!(lines(&shallow.tool("--untested -n 2 main").stdout), shallow.git("rev-list -n 2 main"));
-        assert_eq!(shallow.tool("--untested -n 2 main").status.code(), Some(0));
+        assert_eq!(shallow.git("rev-list main").len(), 3);
+        assert!(lines(&shallow.tool("--time main").stdout)[2].ends_with("/1"));
+        // A name is checked over the whole body.
+        assert_eq!(shallow.list("--check-names main"), ["3 commits under the right name"]);
+        let (list, said) = shallow.fails("merge-base main main~1");
+        assert!(list.is_empty() && said.contains("refusal 13") && said.contains("shallow clone"), "{said}");
+        let (_, said) = shallow.fails("write-graph");
+        assert!(said.contains("refusal 18") && said.contains("shallow clone"), "{said}");
 
         // Not shallow, and a commit is lost all the same.
         let lost = Repository::new("lost");
@@ -502,7 +411,7 @@ mod tool {
         if !has_git() {
             return;
         }
-        let repository = history("names");
+        let repository = history("wrong");
         let (_, said) = repository.fails("nonesuch");
         assert!(said.contains("'nonesuch' is the name of no commit here"), "{said}");
         let (_, said) = repository.fails("--hide main^{tree} main");

@@ -6,78 +6,48 @@ use std::path::PathBuf;
 
 use linenhatch::Order;
 
-pub const HELP: &str = "\
-linenhatch: lists the commits of a git repository, with a walk that is proved to list each one that it should, once
-
-usage: linenhatch [-C DIR] [--order newest|oldest|breadth] [-n N] [--count] [--reverse] [--since SECONDS] [--first-parent]
-                  [--hide REV]... [--exclude REV]... [--no-graph] [--untested] [--parents] [--time] [--zone] [--progress] [REV...]
-       linenhatch --check-names [-C DIR] [--no-graph] [--progress] [REV...]
-       linenhatch feed [--csv] [the options of a list] [REV...]
-       linenhatch [-C DIR] [--progress] merge-base REV REV
-       linenhatch [-C DIR] [--progress] write-graph [REPO] [-o FILE]
-       linenhatch [-C DIR] [--progress] trace REV [--calibration REV]... --moves N
-
-Lists what the REVs reach (HEAD if none is given), one id on a line. A REV is any name of a commit that git knows; ^A is --hide A, and A..B is
---hide A B, HEAD where A or B is left out.
-
-  -C DIR            the repository is in DIR
-  --order ORDER     newest (the default), oldest: of the commits that wait, the one with the greatest or least committer time. A commit waits
-                    once a child of it was listed, so oldest is not newest turned around: that is --reverse
-                    breadth: the REVs, then their parents, then those parents' parents
-  -n N, --max-count N   at most N commits, the first of the order
-  --count           prints how many commits there are in place of the list
-  --reverse         prints the list from its end
-  --since SECONDS   leaves out the commits before these seconds since 1970, and what is reached through them alone; with an order by time
-  --first-parent    follows only the first parent of each commit; --since then counts for the REVs alone
-  --hide REV        leaves out REV and all that it reaches
-  --exclude REV     leaves out REV and does not go on from it; what is reached another way is listed
-  --no-graph        does not use git's commit-graph file (objects/info/commit-graph)
-  --untested        lists without testing first. Else all that the REVs and hidden names reach is tested, and nothing is listed if a commit is not
-                    there or cannot be read, if git's commit-graph file says other things of a commit than the commit itself, or if a commit
-                    is not newer than its parents and no commit-graph file with generations has it. If so with --untested: the list ends
-                    where commits are missing (status 1), the file is believed, and some of what is hidden may be listed, of which nothing is said
-  --parents         prints the parents after the id
-  --time            prints SECONDS/GENERATION after the id, - where there is none: seconds are there in an order by time without
-                    --first-parent, a generation for a commit that came from a commit-graph file with
-                    generations (in which none is 0)
-  --zone            prints the committer's time zone after the id, as +hhmm or -hhmm, - where there is none: a commit that came from the
-                    commit-graph file has none, which holds no zones (--no-graph), nor one whose committer line has none that can be read
-  --check-names     lists nothing: checks that each commit which the REVs reach is under the id that git makes of its body, and that git's
-                    commit-graph file ends in the digest of the rest. Says which commit is at fault. The commits must fit in one store, whole
-  feed              as the first word that is no -C or --progress: lists nothing, reports what the messages of the commits that would be listed say of
-                    feeds, in millimetres, by lines such as Cone-feed: 1200 and Bed-feed: 1250: how many have both, one or neither, the sums, the
-                    means, and cone less bed over those with both. Says which commit is at fault if a line cannot be read or stands twice.
-                    It has none of -n, --count, --reverse, --parents, --time, --zone. The commits must fit in one store, whole
-  --csv             prints a report as two or more lines of fields parted by commas, the first with their names
-  merge-base        as the first word that is no -C or --progress: lists nothing, prints where two REVs part. That is the best commit which both
-                    reach; of several the newest by committer time, among equals the smallest id, so it is the same for everyone and with
-                    the two exchanged. Status 1 if both reach none. A branch of this name is listed with -- merge-base
-  write-graph       as the first such word: lists nothing, writes the commit-graph file of all commits that the branches, tags and HEAD of the
-                    repository in REPO (the folder that -C gives if none is) reach, to FILE, or to standard output. It is git's own version 1
-                    file, with a generation for each commit, as git commit-graph write gives it with commitGraph.generationVersion 1.
-                    Nothing is written if a commit cannot be read, a parent is not there, or a time does not fit in 34 bits
-  trace             as the first such word: lists nothing, says whether the cone bench can force a trace back from REV to a calibration within N moves, at
-                    most 12. Cone and bed choose a parent by turns, the cone first. Prints the cone's first forcing parent and its number in the
-                    header, counted from 0; or REV's own id where it is a calibration. Status 1 if the bed can evade
-  --progress        shows on standard error how far the work is, also where that is no terminal
-  -h, --help, -V, --version
-
-All that the names reach is read from the repository first and put into a commit store, whole if it fits: a store may have 16,777,216
-bytes. If it does not fit, each commit is cut after its committer line, which is all that a walk reads of it; that is some 60,000 commits.
-Replacements and grafts are not followed. A commit-graph file in several layers, or of over 16,777,216 bytes, is not used.
-
-Exit status: 0 if all was listed, or no name is false; 1 if it was not, and standard error says why and names the commits; 2 if the command line is wrong.
-";
+pub const HELP: &str = include_str!("help/list.txt");
+pub const FEED_HELP: &str = include_str!("help/feed.txt");
+pub const MERGE_BASE_HELP: &str = include_str!("help/merge-base.txt");
+pub const TRACE_HELP: &str = include_str!("help/trace.txt");
+pub const WRITE_GRAPH_HELP: &str = include_str!("help/write-graph.txt");
 
 /// What is to be done.
 #[derive(Debug, PartialEq)]
 pub enum Task {
     List(Args),
     MergeBase(Pair),
-    WriteGraph(Output),
     Trace(Start),
-    Help,
+    WriteGraph(Output),
+    /// The text to print.
+    Help(&'static str),
     Version,
+}
+
+/// Which commit-graph file a list goes by.
+#[derive(Clone, Copy, Debug, PartialEq)]
+pub enum Graph {
+    /// Written of the commits that were read, in memory.
+    Own,
+    /// The file in the repository.
+    Git,
+    None,
+}
+
+/// What a line of a list has.
+#[derive(Clone, Copy, Debug, PartialEq)]
+pub enum Format {
+    Ids,
+    Parents,
+    Csv,
+    Json,
+}
+
+impl Format {
+    /// Whether it has dates and subjects.
+    pub fn is_table(self) -> bool {
+        matches!(self, Format::Csv | Format::Json)
+    }
 }
 
 /// A list's settings.
@@ -88,17 +58,22 @@ pub struct Args {
     pub max_count: Option<u64>,
     pub count: bool,
     pub reverse: bool,
-    pub since: Option<i64>,
+    /// Dates, as git takes them.
+    pub since: Option<OsString>,
+    pub until: Option<OsString>,
+    pub cutoff: Option<i64>,
     pub first_parent: bool,
     pub hide: Vec<OsString>,
     pub exclude: Vec<OsString>,
-    pub graph: bool,
+    pub graph: Graph,
     pub untested: bool,
-    pub parents: bool,
+    pub format: Format,
     pub time: bool,
     pub zone: bool,
     pub progress: bool,
     pub check_names: bool,
+    /// `--all`, `--branches` and `--tags`, as they were given.
+    pub refs: Vec<&'static str>,
     pub report: Option<Report>,
     pub csv: bool,
     pub revs: Vec<OsString>,
@@ -110,21 +85,20 @@ pub enum Report {
     Feed,
 }
 
+impl Report {
+    fn help(self) -> &'static str {
+        match self {
+            Report::Feed => FEED_HELP,
+        }
+    }
+}
+
 /// Two names, of which is asked where they part.
 #[derive(Debug, PartialEq)]
 pub struct Pair {
     pub dir: PathBuf,
     pub progress: bool,
     pub revs: [OsString; 2],
-}
-
-/// Where a commit-graph file goes, and whose it is.
-#[derive(Debug, PartialEq)]
-pub struct Output {
-    pub dir: PathBuf,
-    pub progress: bool,
-    /// Standard output if none is given.
-    pub file: Option<PathBuf>,
 }
 
 /// Where a trace starts, what it is to reach, and within how many moves.
@@ -137,50 +111,73 @@ pub struct Start {
     pub moves: u32,
 }
 
+/// Where a commit-graph file goes, and whose it is.
+#[derive(Debug, PartialEq)]
+pub struct Output {
+    pub dir: PathBuf,
+    pub progress: bool,
+    /// Standard output if none is given.
+    pub file: Option<PathBuf>,
+}
+
 /// The command line's words, without the program's name.
 pub fn parse(words: impl IntoIterator<Item = OsString>) -> Result<Task, String> {
     let words: Vec<OsString> = words.into_iter().collect();
     match command(&words) {
         Some("merge-base") => parse_pair(words),
-        Some("write-graph") => parse_output(words),
         Some("trace") => parse_start(words),
+        Some("write-graph") => parse_output(words),
+        Some("list") => parse_list(without(words, "list"), None),
         Some("feed") => parse_list(without(words, "feed"), Some(Report::Feed)),
         _ => parse_list(words, None),
     }
 }
 
-/// The words without the first that is the command.
+/// Options that choose among a list's lines, or say how they look.
+const OF_LISTS: [&str; 12] =
+    ["-n", "--max-count", "--count", "--reverse", "--since", "--after", "--until", "--before", "--format", "--parents", "--time", "--zone"];
+
+/// The words without the command's own.
 fn without(mut words: Vec<OsString>, command: &str) -> Vec<OsString> {
-    if let Some(at) = words.iter().position(|word| word == command) {
-        words.remove(at);
+    let mut at = 0;
+    while words[at] != command {
+        at += if words[at] == "-C" { 2 } else { 1 };
     }
+    words.remove(at);
     words
 }
 
-fn parse_list(words: Vec<OsString>, report: Option<Report>) -> Result<Task, String> {
-    let mut words = words.into_iter();
-    let mut order = None;
-    let mut args = Args {
+/// The settings of a list or a report where nothing is said.
+fn plain(report: Option<Report>) -> Args {
+    Args {
         dir: PathBuf::from("."),
         order: Order::Newest,
         max_count: None,
         count: false,
         reverse: false,
         since: None,
+        until: None,
+        cutoff: None,
         first_parent: false,
         hide: Vec::new(),
         exclude: Vec::new(),
-        graph: true,
+        graph: Graph::Own,
         untested: false,
-        parents: false,
+        format: Format::Ids,
         time: false,
         zone: false,
         progress: false,
         check_names: false,
+        refs: Vec::new(),
         report,
         csv: false,
         revs: Vec::new(),
-    };
+    }
+}
+
+fn parse_list(words: Vec<OsString>, report: Option<Report>) -> Result<Task, String> {
+    let mut words = words.into_iter();
+    let mut args = plain(report);
     while let Some(word) = words.next() {
         if word == "--" {
             for rev in words.by_ref() {
@@ -193,45 +190,41 @@ fn parse_list(words: Vec<OsString>, report: Option<Report>) -> Result<Task, Stri
             continue;
         }
         let (option, given) = split(&word);
-        let mut value = |what: &str| match given.clone().or_else(|| words.next()) {
-            Some(value) => Ok(value),
-            None => Err(format!("{option} needs {what}")),
-        };
         match option.as_str() {
-            "-C" => args.dir.push(value("a folder")?),
-            "--order" => order = Some(order_of(&value("newest, oldest or breadth")?)?),
-            "-n" | "--max-count" | "--count" | "--reverse" | "--parents" | "--time" | "--zone" if report.is_some() => {
-                return Err(format!("a report has no option {option}"));
-            }
-            "-n" | "--max-count" => args.max_count = Some(count_of(&value("a number of commits")?)?),
-            "--since" => args.since = Some(seconds_of(&value("a number of seconds")?)?),
-            "--hide" => args.hide.push(name(value("a commit")?)?),
-            "--exclude" => args.exclude.push(name(value("a commit")?)?),
-            _ if given.is_some() => return Err(unknown(&word)),
-            "--count" => args.count = true,
-            "--reverse" => args.reverse = true,
-            "--first-parent" => args.first_parent = true,
-            "--no-graph" => args.graph = false,
-            "--untested" => args.untested = true,
-            "--parents" => args.parents = true,
-            "--time" => args.time = true,
-            "--zone" => args.zone = true,
-            "--progress" => args.progress = true,
-            "--csv" if report.is_some() => args.csv = true,
-            "--check-names" if report.is_none() => args.check_names = true,
-            "--help" | "-h" => return Ok(Task::Help),
+            "--help" | "-h" => return Ok(Task::Help(report.map_or(HELP, Report::help))),
             "--version" | "-V" => return Ok(Task::Version),
-            _ => return Err(unknown(&word)),
+            of_lists if report.is_some() && OF_LISTS.contains(&of_lists) => return Err(format!("a report has no option {option}")),
+            _ => {}
+        }
+        if let Some(what) = needs(&option) {
+            let value = given.or_else(|| words.next()).ok_or_else(|| format!("{option} needs {what}"))?;
+            args.set(&option, value)?;
+        } else if given.is_some() || !args.turn_on(&option) {
+            let count = joined_count(&word).filter(|_| report.is_none());
+            args.max_count = Some(count_of(count.ok_or_else(|| unknown(&word))?)?);
         }
     }
-    args.order = match (order, args.since) {
-        (Some(Order::Breadth), Some(_)) => return Err("--since needs an order by time: --order newest or --order oldest".into()),
-        (order, _) => order.unwrap_or(Order::Newest),
-    };
-    if args.revs.is_empty() {
-        args.revs.push("HEAD".into());
+    args.checked().map(Task::List)
+}
+
+/// What an option has to be followed by, if it takes a value.
+fn needs(option: &str) -> Option<&'static str> {
+    match option {
+        "-C" => Some("a folder"),
+        "--order" => Some("newest, oldest or breadth"),
+        "--format" => Some("ids, parents, csv or json"),
+        "-n" | "--max-count" => Some("a number of commits"),
+        "--since" | "--after" | "--until" | "--before" => Some("a date"),
+        "--cutoff" => Some("a number of seconds"),
+        "--hide" | "--exclude" => Some("a commit"),
+        _ => None,
     }
-    Ok(Task::List(args))
+}
+
+/// The number of `-5` and of `-n5`.
+fn joined_count(word: &OsStr) -> Option<&OsStr> {
+    let digits = word.as_bytes().strip_prefix(b"-n").or_else(|| word.as_bytes().strip_prefix(b"-"))?;
+    (!digits.is_empty() && digits.iter().all(u8::is_ascii_digit)).then(|| OsStr::from_bytes(digits))
 }
 
 /// The first word that is no -C or --progress, which may be a command.
@@ -255,7 +248,7 @@ fn parse_pair(words: Vec<OsString>) -> Result<Task, String> {
             Some("merge-base") if !named => named = true,
             Some("-C") => dir.push(words.next().ok_or("-C needs a folder")?),
             Some("--progress") => progress = true,
-            Some("--help" | "-h") => return Ok(Task::Help),
+            Some("--help" | "-h") => return Ok(Task::Help(MERGE_BASE_HELP)),
             Some("--version" | "-V") => return Ok(Task::Version),
             Some("--") => {
                 for rev in words.by_ref() {
@@ -271,43 +264,18 @@ fn parse_pair(words: Vec<OsString>) -> Result<Task, String> {
     Ok(Task::MergeBase(Pair { dir, progress, revs }))
 }
 
-fn parse_output(words: Vec<OsString>) -> Result<Task, String> {
-    let mut words = words.into_iter();
-    let (mut dir, mut progress, mut file, mut named, mut folders) = (PathBuf::from("."), false, None, false, Vec::new());
-    while let Some(word) = words.next() {
-        match word.to_str() {
-            Some("write-graph") if !named => named = true,
-            Some("-C") => dir.push(words.next().ok_or("-C needs a folder")?),
-            Some("-o") => file = Some(PathBuf::from(words.next().ok_or("-o needs a file")?)),
-            Some("--progress") => progress = true,
-            Some("--help" | "-h") => return Ok(Task::Help),
-            Some("--version" | "-V") => return Ok(Task::Version),
-            Some("--") => folders.extend(words.by_ref()),
-            _ if word.as_bytes().starts_with(b"-") => return Err(format!("write-graph has no option {}", word.to_string_lossy())),
-            _ => folders.push(word),
-        }
-    }
-    if folders.len() > 1 {
-        return Err(format!("write-graph takes one repository, and there {}", are(folders.len())));
-    }
-    dir.extend(folders);
-    Ok(Task::WriteGraph(Output { dir, progress, file }))
-}
-
 fn parse_start(words: Vec<OsString>) -> Result<Task, String> {
     let mut words = words.into_iter();
-    let (mut dir, mut progress, mut named, mut revs, mut calibrations, mut moves) = (PathBuf::from("."), false, false, Vec::new(), Vec::new(), None);
+    let (mut dir, mut progress, mut named, mut revs, mut calibrations, mut moves) =
+        (PathBuf::from("."), false, false, Vec::new(), Vec::new(), None);
     while let Some(word) = words.next() {
         match word.to_str() {
             Some("trace") if !named => named = true,
             Some("-C") => dir.push(words.next().ok_or("-C needs a folder")?),
             Some("--calibration") => calibrations.push(name(words.next().ok_or("--calibration needs a name of a commit")?)?),
-            Some("--moves") => {
-                let number = words.next().ok_or("--moves needs a number")?;
-                moves = Some(number.to_str().and_then(|n| n.parse().ok()).ok_or(format!("--moves needs a number, not {}", number.to_string_lossy()))?);
-            }
+            Some("--moves") => moves = Some(moves_of(&words.next().ok_or("--moves needs a number")?)?),
             Some("--progress") => progress = true,
-            Some("--help" | "-h") => return Ok(Task::Help),
+            Some("--help" | "-h") => return Ok(Task::Help(TRACE_HELP)),
             Some("--version" | "-V") => return Ok(Task::Version),
             Some("--") => {
                 for rev in words.by_ref() {
@@ -324,6 +292,34 @@ fn parse_start(words: Vec<OsString>) -> Result<Task, String> {
     Ok(Task::Trace(Start { dir, progress, rev, calibrations, moves }))
 }
 
+fn moves_of(word: &OsStr) -> Result<u32, String> {
+    let number = word.to_str().and_then(|text| text.parse().ok());
+    number.ok_or_else(|| format!("--moves needs a number, not {}", word.to_string_lossy()))
+}
+
+fn parse_output(words: Vec<OsString>) -> Result<Task, String> {
+    let mut words = words.into_iter();
+    let (mut dir, mut progress, mut file, mut named, mut folders) = (PathBuf::from("."), false, None, false, Vec::new());
+    while let Some(word) = words.next() {
+        match word.to_str() {
+            Some("write-graph") if !named => named = true,
+            Some("-C") => dir.push(words.next().ok_or("-C needs a folder")?),
+            Some("-o") => file = Some(PathBuf::from(words.next().ok_or("-o needs a file")?)),
+            Some("--progress") => progress = true,
+            Some("--help" | "-h") => return Ok(Task::Help(WRITE_GRAPH_HELP)),
+            Some("--version" | "-V") => return Ok(Task::Version),
+            Some("--") => folders.extend(words.by_ref()),
+            _ if word.as_bytes().starts_with(b"-") => return Err(format!("write-graph has no option {}", word.to_string_lossy())),
+            _ => folders.push(word),
+        }
+    }
+    if folders.len() > 1 {
+        return Err(format!("write-graph takes one repository, and there {}", are(folders.len())));
+    }
+    dir.extend(folders);
+    Ok(Task::WriteGraph(Output { dir, progress, file }))
+}
+
 fn are(count: usize) -> String {
     match count {
         0 => "are none".into(),
@@ -333,6 +329,59 @@ fn are(count: usize) -> String {
 }
 
 impl Args {
+    /// Takes the value of an option that needs one.
+    fn set(&mut self, option: &str, value: OsString) -> Result<(), String> {
+        match option {
+            "-C" => self.dir.push(value),
+            "--order" => self.order = order_of(&value)?,
+            "--format" => self.format = format_of(&value)?,
+            "-n" | "--max-count" => self.max_count = Some(count_of(&value)?),
+            "--since" | "--after" => self.since = Some(value),
+            "--until" | "--before" => self.until = Some(value),
+            "--cutoff" => self.cutoff = Some(seconds_of(&value)?),
+            "--hide" => self.hide.push(name(value)?),
+            _ => self.exclude.push(name(value)?),
+        }
+        Ok(())
+    }
+
+    /// Turns an option on that takes no value; says whether there is such a one.
+    fn turn_on(&mut self, option: &str) -> bool {
+        match option {
+            "--all" => self.refs.push("--all"),
+            "--branches" => self.refs.push("--branches"),
+            "--tags" => self.refs.push("--tags"),
+            "--count" => self.count = true,
+            "--reverse" => self.reverse = true,
+            "--first-parent" => self.first_parent = true,
+            "--git-graph" => self.graph = Graph::Git,
+            "--no-graph" => self.graph = Graph::None,
+            "--untested" => self.untested = true,
+            "--parents" => self.format = Format::Parents,
+            "--time" => self.time = true,
+            "--zone" => self.zone = true,
+            "--progress" => self.progress = true,
+            "--csv" if self.report.is_some() => self.csv = true,
+            "--check-names" if self.report.is_none() => self.check_names = true,
+            _ => return false,
+        }
+        true
+    }
+
+    /// The settings, if they go together.
+    fn checked(mut self) -> Result<Args, String> {
+        if self.order == Order::Breadth && self.cutoff.is_some() {
+            return Err("--cutoff needs an order by time: --order newest or --order oldest".into());
+        }
+        if self.format.is_table() && (self.time || self.zone) {
+            return Err("--time and --zone are for --format ids and parents; csv and json have both".into());
+        }
+        if self.revs.is_empty() && self.refs.is_empty() {
+            self.revs.push("HEAD".into());
+        }
+        Ok(self)
+    }
+
     /// A name to list from, or to hide: `A`, `^A`, `A..B`.
     fn add(&mut self, rev: OsString) -> Result<(), String> {
         let bytes = rev.as_bytes();
@@ -384,6 +433,16 @@ fn order_of(word: &OsStr) -> Result<Order, String> {
         Some("newest") => Ok(Order::Newest),
         Some("oldest") => Ok(Order::Oldest),
         _ => Err(format!("'{}' is no order: newest, oldest or breadth", word.to_string_lossy())),
+    }
+}
+
+fn format_of(word: &OsStr) -> Result<Format, String> {
+    match word.to_str() {
+        Some("ids") => Ok(Format::Ids),
+        Some("parents") => Ok(Format::Parents),
+        Some("csv") => Ok(Format::Csv),
+        Some("json") => Ok(Format::Json),
+        _ => Err(format!("'{}' is no format: ids, parents, csv or json", word.to_string_lossy())),
     }
 }
 

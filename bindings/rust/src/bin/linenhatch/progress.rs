@@ -26,7 +26,7 @@ impl Progress {
         if self.shown && self.count & 63 == 0 && Instant::now() >= self.due {
             self.written = true;
             self.due = Instant::now() + PAUSE;
-            eprint!("\r{}: {}", self.what, self.count);
+            let _ = write!(io::stderr(), "\r{}: {}", self.what, self.count);
             let _ = io::stderr().flush();
         }
     }
@@ -35,7 +35,7 @@ impl Progress {
     pub fn make_way(&mut self) {
         if self.written {
             self.written = false;
-            eprintln!("\r{}: {}", self.what, self.count);
+            let _ = writeln!(io::stderr(), "\r{}: {}", self.what, self.count);
         }
     }
 }

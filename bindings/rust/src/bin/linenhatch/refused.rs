@@ -20,18 +20,11 @@ impl Refused {
     }
 
     /// Why the list is not whole, in a sentence for each kind of refusal, with the commits that are meant.
-    pub fn message(&self, store: &[u8], absent: &[ObjectId], shallow: bool) -> String {
+    pub fn message(&self, store: &[u8], absent: &[ObjectId]) -> String {
         let lead = match self.hiding {
             true => "nothing is listed, since hiding has to read all that the names reach",
             false => "the list is not whole",
         };
-        if shallow && self.refusals.iter().all(|&refusal| refusal == Refusal::CommitNotFound) {
-            let behind = counted(absent.len(), "commit");
-            let are = if absent.len() == 1 { "is" } else { "are" };
-            return format!(
-                "this is a shallow clone, and {lead}: {behind} past its boundary {are} not there (refusal 9, commit not found); `git fetch --unshallow` brings them"
-            );
-        }
         let mut message = format!("{lead}: {}", counted(self.refusals.len(), "refusal"));
         for refusal in Refusal::ALL {
             let count = self.refusals.iter().filter(|&&other| other == refusal).count();
@@ -56,15 +49,8 @@ pub fn unread(store: &[u8], absent: &[ObjectId]) -> String {
 }
 
 /// Why a tested walk was not opened with 13: which commits are not there, which cannot be read, and what to do.
-pub fn unreadable_reach(store: &[u8], absent: &[ObjectId], shallow: bool) -> String {
+pub fn unreadable_reach(store: &[u8], absent: &[ObjectId]) -> String {
     let lead = format!("nothing is listed: {}", Refusal::UnreadableReach);
-    if shallow {
-        let behind = counted(absent.len(), "commit");
-        return format!(
-            "this is a shallow clone, and {lead}\n  past its boundary, not there: {behind}\n\
-             `git fetch --unshallow` brings them, and --untested lists up to the boundary."
-        );
-    }
     format!("{lead}{}\n`git fsck` says more of them; --untested lists what can be read.", unread(store, absent))
 }
 
@@ -156,15 +142,13 @@ mod tests {
     fn what_is_said_of_an_unreadable_reach() {
         let id = |n| ObjectId([n; 20]);
         let store = store_from_commits([(id(3), GOOD.to_string()), (id(2), GOOD.replace("committer ", "keeper "))]).unwrap();
-        let said = unreadable_reach(&store, &[id(7)], false);
+        let said = unreadable_reach(&store, &[id(7)]);
         assert!(said.starts_with("nothing is listed: ") && said.contains(" (refusal 13, unreadable reach)\n"), "{said}");
         assert!(
             said.contains(&format!("\n  not in the repository: 1 commit ({})\n  not to be read: 1 commit ({})\n", id(7), id(2))),
             "{said}"
         );
         assert!(said.contains("git fsck") && said.contains("--untested") && !said.contains("256 parents:"), "{said}");
-        let said = unreadable_reach(&store, &[id(7), id(8)], true);
-        assert!(said.contains("shallow clone") && said.contains("2 commits") && said.contains("--unshallow"), "{said}");
     }
 
     #[test]
@@ -186,18 +170,16 @@ mod tests {
         let id = |n| ObjectId([n; 20]);
         let store = store_from_commits([(id(3), GOOD)]).unwrap();
         let lost = |count| Refused { refusals: vec![Refusal::CommitNotFound; count], hiding: false };
-        let one = lost(1).message(&store, &[id(7)], false);
+        let one = lost(1).message(&store, &[id(7)]);
         assert!(
             one.starts_with("the list is not whole: 1 refusal\n") && one.ends_with(&format!("(refusal 9, commit not found): {}", id(7))),
             "{one}"
         );
-        let some = lost(1).message(&store, &[id(7), id(8)], false);
+        let some = lost(1).message(&store, &[id(7), id(8)]);
         assert!(some.ends_with(&format!(", 1 of: {}, {}", id(7), id(8))), "{some}");
         let many: Vec<ObjectId> = (0..12).map(id).collect();
-        assert!(lost(12).message(&store, &many, false).ends_with(&format!("{}, 2 more", id(9))));
-        let shallow = lost(12).message(&store, &many, true);
-        assert!(!shallow.contains('\n') && shallow.contains("12 commits past its boundary"), "{shallow}");
-        let hiding = Refused { refusals: vec![Refusal::CommitNotFound], hiding: true }.message(&store, &[id(7)], true);
+        assert!(lost(12).message(&store, &many).ends_with(&format!("{}, 2 more", id(9))));
+        let hiding = Refused { refusals: vec![Refusal::CommitNotFound], hiding: true }.message(&store, &[id(7)]);
         assert!(hiding.contains("nothing is listed"), "{hiding}");
     }
 }

@@ -1,21 +1,38 @@
 //! Reports over a whole walk, as text and as fields parted by commas.
 
+use std::io::{self, Write};
+
 use linenhatch::{store_from_commits, FeedReport, Lister, ObjectId, Refusal};
 
 use crate::args::{Args, Report};
+use crate::history::{self, History};
+use crate::listing::written;
 use crate::refused::entries;
 use crate::repository::Commits;
 
+/// Prints a report over all commits that would be listed, exact as a list is; or says why there is none.
+pub fn report(args: &Args) -> Result<(), String> {
+    let history = History::read(args, |commits| store(args, commits))?;
+    // A report opens a walk of its own over the same files, so what holds after this test holds of it.
+    history.open(args)?;
+    let lister = history.lister(args);
+    let text = text(args, &lister).map_err(|refusal| match refusal {
+        Refusal::ReadingTwice | Refusal::ReadingUnreadable => at_fault(refusal, &lister, &history.store),
+        _ => history.not_opened(refusal, args.graph),
+    })?;
+    written(io::stdout().write_all(text.as_bytes()), "report")
+}
+
 /// The commit store that a report needs: a feed report reads messages, so the commits have to fit whole.
-pub fn store(args: &Args, commits: Commits) -> Result<Vec<u8>, String> {
+fn store(args: &Args, commits: Commits) -> Result<Vec<u8>, String> {
     match args.report {
         Some(Report::Feed) => commits.whole.finish().map_err(|too_large| format!("the messages cannot be read at once: {too_large}")),
-        None => crate::store(commits),
+        None => history::store(commits),
     }
 }
 
 /// What is printed.
-pub fn text(args: &Args, lister: &Lister<'_>) -> Result<String, Refusal> {
+fn text(args: &Args, lister: &Lister<'_>) -> Result<String, Refusal> {
     match args.report {
         Some(Report::Feed) => lister.feed_report().map(|report| if args.csv { feed_fields(&report) } else { feed_lines(&report) }),
         None => Ok(String::new()),
@@ -55,7 +72,7 @@ fn decimal(mean: f64) -> String {
 }
 
 /// The refusal of a message, with the commit that is meant: the first of the walk whose message alone is so refused.
-pub fn at_fault(refusal: Refusal, lister: &Lister<'_>, store: &[u8]) -> String {
+fn at_fault(refusal: Refusal, lister: &Lister<'_>, store: &[u8]) -> String {
     let alone = |id: ObjectId| {
         let body = entries(store).find(|(name, _)| *name == id).map(|(_, body)| body)?;
         let message = body.windows(2).position(|two| two == b"\n\n").map_or(&[][..], |at| &body[at..]);

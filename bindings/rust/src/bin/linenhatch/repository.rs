@@ -1,7 +1,7 @@
 //! What the tool takes from a git repository, through git itself.
 
-use std::collections::HashSet;
-use std::ffi::OsStr;
+use std::collections::{HashMap, HashSet};
+use std::ffi::{OsStr, OsString};
 use std::fs;
 use std::io::{self, BufRead, BufReader, BufWriter, Read, Write};
 use std::os::unix::ffi::OsStrExt;
@@ -12,10 +12,20 @@ use std::thread;
 
 use linenhatch::{header, parents, ObjectId, StoreBuilder, MAX_FILE_BYTES};
 
+use crate::message::{subject, without_parents};
 use crate::progress::Progress;
 
 pub struct Repository {
     dir: PathBuf,
+    shallow: bool,
+}
+
+/// What is asked of a reading beside the commits themselves.
+#[derive(Default)]
+pub struct Wanted {
+    /// Commits that count as having no parents, since history was cut off there.
+    pub boundary: HashSet<ObjectId>,
+    pub subjects: bool,
 }
 
 /// The commits that some names reach, as a store of whole bodies and as one of headers.
@@ -25,15 +35,70 @@ pub struct Commits {
     pub headers: StoreBuilder,
     /// Ids that a commit names as parents and the repository has no commit for.
     pub absent: Vec<ObjectId>,
+    /// Commits that stand in the stores without their parent lines.
+    pub cut: Vec<ObjectId>,
+    pub subjects: HashMap<ObjectId, String>,
+}
+
+/// Commits as they come from git.
+struct Reading<'a> {
+    wanted: &'a Wanted,
+    commits: Commits,
+    /// Ids that git has answered for.
+    answered: HashSet<ObjectId>,
+    /// Ids that are to be there: the first ones, and those that a commit names as parents.
+    named: Vec<ObjectId>,
+}
+
+impl Reading<'_> {
+    fn take(&mut self, object: Object, body: &[u8], progress: &mut Progress) {
+        let id = match object {
+            Object::Other(id) => {
+                if self.answered.insert(id) {
+                    self.commits.absent.push(id);
+                }
+                return;
+            }
+            Object::Commit(id) => id,
+        };
+        if !self.answered.insert(id) {
+            return;
+        }
+        progress.step();
+        if self.wanted.subjects {
+            self.commits.subjects.insert(id, subject(body));
+        }
+        if self.wanted.boundary.contains(&id) && parents(body).next().is_some() {
+            self.commits.cut.push(id);
+            return self.store(id, &without_parents(body));
+        }
+        self.named.extend(parents(body));
+        self.store(id, body);
+    }
+
+    fn store(&mut self, id: ObjectId, body: &[u8]) {
+        self.commits.whole.add(id, body);
+        self.commits.headers.add(id, header(body));
+    }
 }
 
 impl Repository {
     /// The repository in a folder. Its ids must have 20 bytes.
     pub fn open(dir: PathBuf) -> Result<Repository, String> {
-        let repository = Repository { dir };
-        repository.text(&["rev-parse", "--git-dir"])?;
-        if repository.text(&["rev-parse", "--show-object-format"])? == b"sha256" {
-            return Err("this repository has SHA-256 ids of 32 bytes; the walk is over SHA-1 ids of 20 bytes alone".into());
+        let mut repository = Repository { dir, shallow: false };
+        let asked = repository.text(&["rev-parse", "--git-dir", "--show-object-format", "--is-shallow-repository"]);
+        let text = asked.map_err(|said| match said.strip_prefix("fatal: not a git repository") {
+            Some(_) => format!("{}; -C DIR says where one is", &said["fatal: ".len()..]),
+            None => said,
+        })?;
+        let mut lines = text.rsplit(|&byte| byte == b'\n');
+        repository.shallow = lines.next() == Some(b"true");
+        if lines.next() == Some(b"sha256") {
+            return Err(
+                "this repository has SHA-256 ids of 32 bytes, which are not yet supported: the list is over SHA-1 ids of 20 bytes alone \
+                        (`git rev-list` lists it)"
+                    .into(),
+            );
         }
         Ok(repository)
     }
@@ -57,34 +122,82 @@ impl Repository {
         Ok(text)
     }
 
-    /// The commit that a name stands for.
-    pub fn resolve(&self, name: &OsStr) -> Result<ObjectId, String> {
-        let mut commit = name.to_os_string();
-        commit.push("^{commit}");
-        let words = [OsStr::new("rev-parse"), OsStr::new("--verify"), OsStr::new("--quiet"), &commit];
-        let text = self.text(&words).unwrap_or_default();
-        ObjectId::from_hex(&text).ok_or_else(|| match name == "HEAD" && self.is_empty() {
-            true => "this repository has no commits yet".into(),
+    /// The commits that names stand for.
+    pub fn resolve(&self, names: &[OsString]) -> Result<Vec<ObjectId>, String> {
+        if names.is_empty() {
+            return Ok(Vec::new());
+        }
+        let unknown = |name: &OsString| match name == "HEAD" {
+            true if self.is_empty() => "this repository has no commits yet".into(),
+            true => "HEAD leads to no commit: give the name of a branch, or --all".into(),
             false => format!("'{}' is the name of no commit here", name.to_string_lossy()),
-        })
+        };
+        // Each line is a name, so a name with a newline would be two.
+        if let Some(name) = names.iter().find(|name| name.as_bytes().contains(&b'\n')) {
+            return Err(unknown(name));
+        }
+        // What follows `:/` is all text to look for, and what is found is a commit.
+        let end = |name: &[u8]| if name.starts_with(b":/") { &b"\n"[..] } else { b"^{commit}\n" };
+        let asked: Vec<u8> = names.iter().flat_map(|name| [name.as_bytes(), end(name.as_bytes())].concat()).collect();
+        let text = self.told(&["cat-file", "--batch-check=%(objectname) %(objecttype)"], &asked)?;
+        let mut answers = text.split(|&byte| byte == b'\n');
+        let id = |answer: &[u8]| answer.strip_suffix(b" commit").and_then(ObjectId::from_hex);
+        names.iter().map(|name| answers.next().and_then(id).ok_or_else(|| unknown(name))).collect()
     }
 
-    /// The commits that the repository's branches, tags and HEAD lead to.
-    pub fn tips(&self) -> Result<Vec<ObjectId>, String> {
-        let text = self.text(&["rev-list", "--no-walk=unsorted", "--all"])?;
+    /// What git prints when it is told something.
+    fn told(&self, words: &[&str], input: &[u8]) -> Result<Vec<u8>, String> {
+        let mut git = self.git();
+        git.args(words).stdin(Stdio::piped()).stdout(Stdio::piped()).stderr(Stdio::null());
+        let mut git = git.spawn().map_err(not_started)?;
+        let mut stdin = git.stdin.take().expect("piped");
+        let output = thread::scope(|scope| {
+            // If git takes no more, its answer ends early, and that shows.
+            scope.spawn(move || drop(stdin.write_all(input)));
+            git.wait_with_output()
+        });
+        Ok(output.map_err(|error| format!("git cannot be read: {error}"))?.stdout)
+    }
+
+    /// The seconds that git reads a date as.
+    pub fn seconds(&self, date: &OsStr) -> Result<i64, String> {
+        let mut since = OsString::from("--since=");
+        since.push(date);
+        // `rev-parse` takes what is no date for now; `config` refuses it.
+        let words = ["config", "--type=expiry-date", "--get", "--default"].map(OsStr::new);
+        let is_number = !date.is_empty() && date.as_bytes().iter().all(u8::is_ascii_digit);
+        let known = is_number || self.text(&[&words[..], &[date, OsStr::new("linenhatch.date")]].concat()).is_ok();
+        let text = if known { self.text(&[OsStr::new("rev-parse"), &since])? } else { Vec::new() };
+        let seconds = text.strip_prefix(b"--max-age=").and_then(|digits| std::str::from_utf8(digits).ok()?.parse().ok());
+        seconds.ok_or_else(|| format!("'{}' is no date that git can read; 2024-09-01 and '2 weeks ago' are", date.to_string_lossy()))
+    }
+
+    /// The commits that references lead to: those of `--all` (with HEAD), `--branches` or `--tags`.
+    pub fn tips(&self, refs: &[&str]) -> Result<Vec<ObjectId>, String> {
+        let text = self.text(&[&["rev-list", "--no-walk=unsorted"], refs].concat())?;
         let lines = text.split(|&byte| byte == b'\n').filter(|line| !line.is_empty());
         let bad = |line: &[u8]| format!("git rev-list printed '{}'", String::from_utf8_lossy(line));
         lines.map(|line| ObjectId::from_hex(line).ok_or_else(|| bad(line))).collect()
     }
 
     /// Whether no name of the repository leads to a commit.
-    fn is_empty(&self) -> bool {
+    pub fn is_empty(&self) -> bool {
         self.text(&["rev-list", "--max-count=1", "--all"]).is_ok_and(|text| text.is_empty())
     }
 
     /// Whether history was cut off when the repository was cloned.
     pub fn is_shallow(&self) -> bool {
-        self.text(&["rev-parse", "--is-shallow-repository"]).is_ok_and(|text| text == b"true")
+        self.shallow
+    }
+
+    /// The commits at which it was cut off.
+    pub fn boundary(&self) -> Result<HashSet<ObjectId>, String> {
+        if !self.shallow {
+            return Ok(HashSet::new());
+        }
+        let file = self.path("shallow")?;
+        let text = fs::read(&file).map_err(|error| format!("{}: {error}", file.display()))?;
+        Ok(text.split(|&byte| byte == b'\n').filter_map(ObjectId::from_hex).collect())
     }
 
     /// The commit-graph file, no bytes if there is none; or why it is not used.
@@ -107,42 +220,76 @@ impl Repository {
     }
 
     /// Every commit that these reach over the parent lines of their bodies.
-    pub fn read(&self, from: &[ObjectId], progress: &mut Progress) -> Result<Commits, String> {
+    pub fn read(&self, from: &[ObjectId], wanted: &Wanted, progress: &mut Progress) -> Result<Commits, String> {
+        let mut reading = Reading { wanted, commits: Commits::default(), answered: HashSet::new(), named: from.to_vec() };
+        if from.is_empty() {
+            return Ok(reading.commits);
+        }
+        self.read_listed(from, &mut reading, progress).map_err(|error| format!("git cat-file: {error}"))?;
+        reading.named.retain(|id| !reading.answered.contains(id));
+        if !reading.named.is_empty() {
+            self.read_named(&mut reading, progress).map_err(|error| format!("git cat-file: {error}"))?;
+        }
+        Ok(reading.commits)
+    }
+
+    /// Reads what git itself lists, in one go. Git may go by its commit-graph file for that, so nothing rests on the list being whole.
+    fn read_listed(&self, from: &[ObjectId], reading: &mut Reading<'_>, progress: &mut Progress) -> io::Result<()> {
+        let mut list = self.git();
+        list.args(["rev-list", "--stdin"]).stdin(Stdio::piped()).stdout(Stdio::piped()).stderr(Stdio::null());
+        let mut list = list.spawn()?;
+        let ids: String = from.iter().map(|id| format!("{id}\n")).collect();
+        // If git takes no more, it lists less.
+        let _ = list.stdin.take().expect("piped").write_all(ids.as_bytes());
+        // In one statement, so that no end of the pipe between the two stays open here.
+        let listed = list.stdout.take().expect("piped");
+        let mut git = self.git().args(["cat-file", "--batch", "--buffer"]).stdin(listed).stdout(Stdio::piped()).spawn()?;
+        let mut answers = BufReader::with_capacity(1 << 16, git.stdout.take().expect("piped"));
+        let mut body = Vec::new();
+        let mut result = Ok(());
+        loop {
+            match answer(&mut answers, &mut body) {
+                Ok(Some(object)) => reading.take(object, &body, progress),
+                Ok(None) => break,
+                Err(error) => {
+                    result = Err(error);
+                    break;
+                }
+            }
+        }
+        drop(answers);
+        let _ = (list.wait(), git.wait());
+        result
+    }
+
+    /// Reads what is named and not yet answered, and all that comes after it by parents.
+    fn read_named(&self, reading: &mut Reading<'_>, progress: &mut Progress) -> io::Result<()> {
         let mut git = self.git();
         git.args(["cat-file", "--batch"]).stdin(Stdio::piped()).stdout(Stdio::piped());
-        let mut git = git.spawn().map_err(not_started)?;
+        let mut git = git.spawn()?;
         let (stdin, stdout) = (git.stdin.take().expect("piped"), git.stdout.take().expect("piped"));
         // A thread of its own asks for commits, so that git never waits for us to read while we wait for it to take a name.
         let (ask, asked) = channel();
         let asking = thread::spawn(move || ask_for(stdin, asked));
         let mut answers = BufReader::new(stdout);
-        let mut commits = Commits::default();
-        let mut known = HashSet::new();
-        let mut open = 0u64;
-        let mut body = Vec::new();
-        let mut met = |id: ObjectId, open: &mut u64| {
-            if known.insert(id) {
-                *open += 1;
-                // If the thread has ended, git has, and the next answer will not come.
-                let _ = ask.send(id);
-            }
-        };
-        for &id in from {
-            met(id, &mut open);
-        }
+        let (mut known, mut open, mut body) = (HashSet::new(), 0u64, Vec::new());
         let mut result = Ok(());
-        while open > 0 {
-            open -= 1;
-            match answer(&mut answers, &mut body) {
-                Ok(Object::Commit(id)) => {
-                    progress.step();
-                    parents(&body).for_each(|parent| met(parent, &mut open));
-                    commits.whole.add(id, &body);
-                    commits.headers.add(id, header(&body));
+        loop {
+            for id in std::mem::take(&mut reading.named) {
+                if !reading.answered.contains(&id) && known.insert(id) {
+                    open += 1;
+                    // If the thread has ended, git has, and the next answer will not come.
+                    let _ = ask.send(id);
                 }
-                Ok(Object::Other(id)) => commits.absent.push(id),
+            }
+            if open == 0 {
+                break;
+            }
+            open -= 1;
+            match answer(&mut answers, &mut body).and_then(|object| object.ok_or_else(ended_early)) {
+                Ok(object) => reading.take(object, &body, progress),
                 Err(error) => {
-                    result = Err(format!("git cat-file: {error}"));
+                    result = Err(error);
                     break;
                 }
             }
@@ -151,8 +298,12 @@ impl Repository {
         drop(answers);
         let _ = asking.join();
         let _ = git.wait();
-        result.map(|()| commits)
+        result
     }
+}
+
+fn ended_early() -> io::Error {
+    io::Error::new(io::ErrorKind::UnexpectedEof, "ended early")
 }
 
 fn not_started(error: io::Error) -> String {
@@ -179,26 +330,26 @@ enum Object {
     Other(ObjectId),
 }
 
-/// One answer of `git cat-file --batch`: a line `ID TYPE SIZE`, the object and a newline; or a line `ID missing`.
-fn answer(answers: &mut impl BufRead, body: &mut Vec<u8>) -> io::Result<Object> {
+/// One answer of `git cat-file --batch`: a line `ID TYPE SIZE`, the object and a newline; or a line `ID missing`. None if there are no more.
+fn answer(answers: &mut impl BufRead, body: &mut Vec<u8>) -> io::Result<Option<Object>> {
     let bad = |line: &[u8]| io::Error::new(io::ErrorKind::InvalidData, format!("answered '{}'", String::from_utf8_lossy(line).trim_end()));
     let mut line = Vec::new();
     answers.read_until(b'\n', &mut line)?;
     if line.is_empty() {
-        return Err(io::Error::new(io::ErrorKind::UnexpectedEof, "ended early"));
+        return Ok(None);
     }
     let mut words = line.trim_ascii_end().split(|&byte| byte == b' ');
     let id = words.next().and_then(ObjectId::from_hex).ok_or_else(|| bad(&line))?;
     let kind = words.next().ok_or_else(|| bad(&line))?;
     if kind == b"missing" {
-        return Ok(Object::Other(id));
+        return Ok(Some(Object::Other(id)));
     }
     let size: u64 = words.next().and_then(|size| std::str::from_utf8(size).ok()?.parse().ok()).ok_or_else(|| bad(&line))?;
     body.clear();
     if answers.by_ref().take(size + 1).read_to_end(body)? as u64 != size + 1 || body.pop() != Some(b'\n') {
-        return Err(io::Error::new(io::ErrorKind::UnexpectedEof, "ended early"));
+        return Err(ended_early());
     }
-    Ok(if kind == b"commit" { Object::Commit(id) } else { Object::Other(id) })
+    Ok(Some(if kind == b"commit" { Object::Commit(id) } else { Object::Other(id) }))
 }
 
 #[cfg(test)]
@@ -211,12 +362,12 @@ mod tests {
         let text = format!("{one} commit 3\nab\n\n{two} missing\n{one} tree 0\n\n{two} commit 9\nshort\n");
         let mut answers = text.as_bytes();
         let mut body = Vec::new();
-        assert!(matches!(answer(&mut answers, &mut body), Ok(Object::Commit(id)) if id == ObjectId([0x11; 20])));
+        assert!(matches!(answer(&mut answers, &mut body), Ok(Some(Object::Commit(id))) if id == ObjectId([0x11; 20])));
         assert_eq!(body, b"ab\n");
-        assert!(matches!(answer(&mut answers, &mut body), Ok(Object::Other(id)) if id == ObjectId([0x22; 20])));
-        assert!(matches!(answer(&mut answers, &mut body), Ok(Object::Other(id)) if id == ObjectId([0x11; 20])));
+        assert!(matches!(answer(&mut answers, &mut body), Ok(Some(Object::Other(id))) if id == ObjectId([0x22; 20])));
+        assert!(matches!(answer(&mut answers, &mut body), Ok(Some(Object::Other(id))) if id == ObjectId([0x11; 20])));
         assert!(answer(&mut answers, &mut body).is_err());
-        assert!(answer(&mut answers, &mut body).is_err());
+        assert!(matches!(answer(&mut answers, &mut body), Ok(None)));
         assert!(answer(&mut &b"HEAD ambiguous\n"[..], &mut body).is_err());
     }
 }

@@ -1,0 +1,54 @@
+//! What the tool itself takes from a commit's body: its subject, and its lines without those of its parents. No list rests on the first.
+
+/// A commit's subject as git has it: the lines of the message up to the first that is blank, joined by spaces.
+pub fn subject(body: &[u8]) -> String {
+    let Some(at) = body.windows(2).position(|two| two == b"\n\n") else {
+        return String::new();
+    };
+    let lines = body[at + 2..].split(|&byte| byte == b'\n').map(<[u8]>::trim_ascii_end);
+    let lines = lines.skip_while(|line| line.is_empty()).take_while(|line| !line.is_empty());
+    let text = lines.collect::<Vec<_>>().join(&b' ');
+    match is_latin(&body[..at]) {
+        true => text.iter().map(|&byte| char::from(byte)).collect(),
+        false => String::from_utf8_lossy(&text).into_owned(),
+    }
+}
+
+/// Whether a header says that the message is in ISO 8859-1, in which a byte is a character; any other is read as UTF-8.
+fn is_latin(header: &[u8]) -> bool {
+    let mut encodings = header.split(|&byte| byte == b'\n').filter_map(|line| line.strip_prefix(b"encoding "));
+    encodings.next().is_some_and(|name| [&b"iso-8859-1"[..], b"iso8859-1", b"latin1", b"latin-1"].contains(&&name.to_ascii_lowercase()[..]))
+}
+
+/// A body without its parent lines, those between the tree line and the author line.
+pub fn without_parents(body: &[u8]) -> Vec<u8> {
+    let mut lines = body.split_inclusive(|&byte| byte == b'\n');
+    let mut left = lines.next().unwrap_or_default().to_vec();
+    let rest: Vec<&[u8]> = lines.skip_while(|line| line.starts_with(b"parent ")).collect();
+    left.extend(rest.concat());
+    left
+}
+
+#[cfg(test)]
+mod tests {
+    use super::*;
+
+    #[test]
+    fn subjects() {
+        let said = |body: &str| subject(body.as_bytes());
+        assert_eq!(said("tree t\nauthor a\n\nrun 7\n"), "run 7");
+        assert_eq!(said("tree t\n\n\n  \nrun 7 \nof the left bench\n\nmore\n"), "run 7 of the left bench");
+        assert_eq!(said("tree t\n\n"), "");
+        assert_eq!(said("tree t\n"), "");
+        assert_eq!(subject(b"tree t\nencoding ISO-8859-1\n\ncaf\xe9"), "café");
+        assert_eq!(subject(b"tree t\n\ncaf\xe9"), "caf\u{fffd}");
+    }
+
+    #[test]
+    fn bodies_without_parents() {
+        let body = b"tree t\nparent a\nparent b\nauthor A\ncommitter C\n\nparent c\n";
+        assert_eq!(without_parents(body), b"tree t\nauthor A\ncommitter C\n\nparent c\n");
+        assert_eq!(without_parents(b"tree t\nauthor A"), b"tree t\nauthor A");
+        assert_eq!(without_parents(b""), b"");
+    }
+}
