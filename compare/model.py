@@ -2,8 +2,9 @@
 
 `Files` is what the two files say of an id. `Walk` is an opening and its next calls. Sentences in quotation marks are the documents'.
 `reach` and `Tested` are card 1, `commit_id` and `check_names` card 2, `write_graph` card 4, `feed_report` card 5, `merge_base` cards 8 and 11,
-`trace` card 12.
+`terms_report` card 9, `trace` card 12.
 """
+import calendar
 import collections
 import hashlib
 import os
@@ -582,6 +583,45 @@ def feed_report(walk):
     except Refused as refused:
         return refused.number, [0] * 6, 0
     return 0, [both, cone_alone, bed_alone, neither, cones, beds], less
+
+
+# ---- card 9
+
+def month_seconds(month):
+    """The first and the last second of a month, counted from January 1970, in UTC, by Python's own calendar."""
+    year, at = 1970 + month // 12, month % 12 + 1
+    return calendar.timegm((year, at, 1, 0, 0, 0)), calendar.timegm((year, at, calendar.monthrange(year, at)[1], 23, 59, 59))
+
+
+def good_terms(months):
+    """"Refused: 24 bad term list (over 24 terms, out of order, overlapping, a term ending before it starts, or a month outside the table; no terms is a good
+    list)". Two months a term. """
+    if len(months) % 2 or len(months) > 48 or any(not 0 <= month < 1560 for month in months):
+        return False
+    terms = list(zip(months[::2], months[1::2]))
+    return all(first <= last for first, last in terms) and all(one[1] < other[0] for one, other in zip(terms, terms[1:]))
+
+
+def terms_report(months, opened):
+    """The number, the runs in each term, those outside all. opened makes the walk: 24 comes "before the walk opens". "Runs before 1970 or after 2099, and runs
+    without readable seconds in the book, are outside. A walk's own refusal ends this report with that number and zeros; after 24 it is zeros." """
+    counts, outside = [0] * (len(months) // 2), 0
+    if not good_terms(months):
+        return 24, counts, 0
+    # "A term runs from the first second of one month to the last second of the same or a later month."
+    terms = [(month_seconds(first)[0], month_seconds(last)[1]) for first, last in zip(months[::2], months[1::2])]
+    walk = opened()
+    try:
+        for name in handed(walk):
+            header = walk.files.header(name)
+            seconds = None if header is None else header.seconds
+            within = [k for k, (first, last) in enumerate(terms) if seconds is not None and first <= seconds <= last]
+            for k in within:
+                counts[k] += 1
+            outside += not within
+    except Refused as refused:
+        return refused.number, [0] * (len(months) // 2), 0
+    return 0, counts, outside
 
 
 # ---- card 12

@@ -1,12 +1,13 @@
 """reports.py LIBRARY.so: the reports over a whole walk by the static library, made into a shared one, and by model.py's, on generated files:
 
 - the feed report (card 5): every number of it, over generate.py's histories with messages that hold readings, none, two of a kind, unreadable ones, and
-  lines that only look so; faulty commits before and after a commit that the walk refuses, and commits that the graph alone has.
+  lines that only look so; faulty commits before and after a commit that the walk refuses, and commits that the graph alone has;
+- the report by terms (card 9): each month of Python's calendar, to the second; and the same histories with seconds at the ends of months, good lists of terms and bad ones.
 
 Each call is also made with a buffer of the memory an element too short, with a ragged or oversize list, and without room for what is reported. After 1
-to 8 no lent byte may be altered but the report's own; and no byte beside a buffer ever.
+to 8, and after 24, no lent byte may be altered but the report's own; and no byte beside a buffer ever.
 
-Prints how many came to each result; ends with status 1 if anything differs. Options: --seed N, --scale N (percent).
+Prints how many came to each result; ends with status 1 if anything differs. Options: --seed N, --scale N (percent), --feed or --terms alone.
 
     rt staticlib linenhatch
     make -C bindings/c shared
@@ -23,7 +24,7 @@ import generate
 import model
 from library import GUARD, MOST_PLACES, NO_ROOM, Buffer, lend
 
-FEED = 36000
+FEED, TERMS = 36000, 36000
 FAMILIES = [family for _, family, pairs, *_ in generate.FAMILIES if pairs > 100] + [generate.wide]
 CASES = 6  # of each pair of files
 SIZES = ((ctypes.c_uint8, 20), (ctypes.c_uint8, 1), (ctypes.c_uint32, 1), (ctypes.c_int64, 1), (ctypes.c_uint32, 5))
@@ -54,6 +55,12 @@ class Call:
         self.result = self.library.linenhatch_feed(*self.inputs, *self.settings, *self.lent(), *(w for b in self.own for w in b.words()))
         return self.result
 
+    def terms(self, terms, counts, outside=1):
+        part = (ctypes.c_uint32 * max(1, len(terms)))(*terms)
+        self.own = [Buffer(ctypes.c_uint64, counts), Buffer(ctypes.c_uint64, outside)]
+        self.result = self.library.linenhatch_terms(*self.inputs, *self.settings, ctypes.cast(part, ctypes.c_void_p), ctypes.c_size_t(len(terms)), *self.lent(),
+                                                    *(w for b in self.own for w in b.words()))
+        return self.result
 
     def said(self):
         return self.result, list(self.own[0].part), list(self.own[1].part)
@@ -114,6 +121,60 @@ def same_graph(pair, bodies):
     return generate.Pair(bodies, pair.rows, pair.edges, store=pair.torn_store if torn else None, graph=pair.torn_graph)
 
 
+# ---- seconds and terms
+
+def a_second(rng, months):
+    """A second at or beside the ends of a month, or any."""
+    month = rng.choice(months) if rng.random() < 0.7 else rng.randrange(1560)
+    first, last = model.month_seconds(month)
+    return rng.choice([first - 1, first, first + 1, last - 1, last, last + 1, rng.randrange(first, last + 1), rng.randrange(-10 ** 10, 10 ** 10), -1, 0, 4102444799, 4102444800])
+
+
+def good_terms(rng):
+    """A good list: up to 24 terms, some of one month, some that touch."""
+    count = rng.choice([0, 1, 1, 2, 3, 5, 12, 23, 24])
+    span = rng.choice([2 * count + 1, 60, 1560])
+    start = rng.choice([0, 1, 1560 - span, rng.randrange(1560 - span + 1)])
+    ends = sorted(rng.sample(range(start, start + span), min(2 * count, span)))
+    out = []
+    for a, b in zip(ends[::2], ends[1::2]):
+        if rng.random() < 0.3 and (not out or a > out[-1]):
+            b = a
+        elif out and rng.random() < 0.4:
+            a = out[-1] + 1
+        out += [a, b]
+    return out
+
+
+def some_terms(rng):
+    """A list, good by three in four."""
+    out = good_terms(rng)
+    if rng.random() < 0.75 or not out:
+        return out
+    at = rng.randrange(len(out))
+    return rng.choice([
+        lambda: out[:-1], lambda: out + [out[-1] + 1], lambda: out[:at] + out[at + 1:], lambda: out[:at] + [1560] + out[at + 1:], lambda: out + [1559, 1560],
+        lambda: out[::-1], lambda: out + out[-2:], lambda: out + [out[-1], out[-1] + 1], lambda: out + [out[-1] + 1, out[-1]], lambda: out[:at] + [2 ** 32 - 1] + out[at + 1:],
+        lambda: [n for k in range(25) for n in (3 * k, 3 * k + 1)], lambda: [rng.randrange(2 ** 32) for _ in range(rng.randrange(60))],
+    ])()
+
+
+def with_seconds(rng, pair, months):
+    """The same files with other seconds in the store; the graph may say others."""
+    def other(found):
+        return found.group(1) + b"%d" % a_second(rng, months)
+
+    bodies = {name: re.sub(rb"(\ncommitter A <a> )-?[0-9]+", other, pair.bodies[name]) for name in sorted(pair.bodies)}
+    rows = pair.rows
+    if rows is not None and rng.random() < 0.6:  # the graph agrees
+        rows = {name: (parents, level, second_of(bodies.get(name), seconds)) for name, (parents, level, seconds) in rows.items()}
+    return same_graph(generate.Pair(pair.bodies, rows, pair.edges, store=pair.torn_store, graph=pair.torn_graph), bodies)
+
+
+def second_of(body, seconds):
+    header = model.Header(body) if body is not None else None
+    return seconds if header is None or header.seconds is None else header.seconds % generate.SECONDS_OF_A_ROW
+
 
 # ---- one case
 
@@ -134,6 +195,21 @@ def wrong_feed(library, rng, case):
         return "memory altered by %d" % wanted[0], wanted
     return refused_early(library, rng, case, wanted[0], lambda c: c.feed(), lambda c: c.feed(*rng.choice(((5, 1), (6, 0), (0, 0)))), (6, 1)), wanted
 
+
+def wrong_terms(library, rng, case, terms):
+    wanted = model.terms_report(terms, case.walk)
+    n = len(terms) // 2
+    call = Call(library, case)
+    call.terms(terms, *rng.choice(((n, 1), (n, 1), (n + 1, 2), (24 + n, 1))))
+    # "a number for each term, and 0 in every place past them"
+    rest = [0] * (len(call.own[0].part) - n), [0x5C5C5C5C5C5C5C5C] * (len(call.own[1].part) - 1)
+    said = wanted[0], wanted[1] + rest[0], [wanted[2]] + rest[1]
+    if call.said() != said or not call.sound():
+        return "%s for %s" % (call.said(), said), wanted
+    if (before_the_walk(wanted[0]) or wanted[0] == 24) and not call.as_lent(call.memory):
+        return "memory altered by %d" % wanted[0], wanted
+    short = [(n, 0), (0, 0)] + [(n - 1, 1)] * (n > 0)
+    return refused_early(library, rng, case, wanted[0], lambda c: c.terms(terms, n), lambda c: c.terms(terms, *rng.choice(short)), (n, 1)), wanted
 
 
 def refused_early(library, rng, case, wanted, run, no_room, own):
@@ -187,6 +263,38 @@ def feeds(library, seed, count):
     return tell("feed reports", results, bad)
 
 
+def terms(library, seed, count):
+    rng, results, bad = random.Random("terms %d" % seed), collections.Counter(), 0
+    for pair, drawn in cases(rng, count):
+        listed = some_terms(rng)
+        pair = with_seconds(rng, pair, [m for m in listed if m < 1560] or [0])
+        for case in drawn:
+            case.pair = pair
+            found, wanted = wrong_terms(library, rng, case, listed)
+            results[wanted[0]] += 1
+            results["runs"] += sum(wanted[1]) + wanted[2]
+            results["outside"] += wanted[2]
+            if found:
+                bad += 1
+                if bad <= 5:
+                    print("terms %s: %s" % (listed, found))
+    return tell("reports by terms", results, bad)
+
+
+def every_month(library):
+    """A second before each month of Python's calendar, its first, its last, and one after: two of the four lie in it."""
+    bad = 0
+    for month in range(1560):
+        first, last = model.month_seconds(month)
+        bodies = {bytes([k + 1]) * 20: generate.formats.body([bytes([k + 2]) * 20] if k < 3 else [], at) for k, at in enumerate((first - 1, first, last, last + 1))}
+        call = Call(library, generate.Case(generate.Pair(bodies), [b"\1" * 20]))
+        call.terms([month, month], 1)
+        if call.said() != (0, [2], [2]):
+            bad += 1
+            print("month %d: %s" % (month, call.said()))
+    print("1560 months, each with four commits at its ends: %d differ" % bad)
+    return bad
+
 
 def tell(what, results, bad):
     numbers = {key: n for key, n in results.items() if isinstance(key, int)}
@@ -201,11 +309,19 @@ def main():
     options.add_argument("library")
     options.add_argument("--seed", type=int, default=1)
     options.add_argument("--scale", type=int, default=100)
+    options.add_argument("--feed", action="store_true")
+    options.add_argument("--terms", action="store_true")
     options = options.parse_args()
     library = ctypes.CDLL(options.library)
     library.linenhatch_places.restype = ctypes.c_size_t
-    library.linenhatch_feed.restype = ctypes.c_uint32
-    bad = feeds(library, options.seed, FEED * options.scale // 100)
+    bad = 0
+    if not options.terms:
+        library.linenhatch_feed.restype = ctypes.c_uint32
+        bad += feeds(library, options.seed, FEED * options.scale // 100)
+    if not options.feed:
+        library.linenhatch_terms.restype = ctypes.c_uint32
+        bad += every_month(library)
+        bad += terms(library, options.seed, TERMS * options.scale // 100)
     print("%d differ" % bad)
     return 1 if bad else 0
 

@@ -43,6 +43,9 @@ extern "C" {
 #define LINENHATCH_FEED_NUMBERS 6u                                        /* uint64_t, of a feed report */
 #define LINENHATCH_FEED_DIFFERENCES 1u                                    /* int64_t, of a feed report */
 #define LINENHATCH_TRACE_NUMBERS 2u                                       /* uint64_t, of a trace */
+#define LINENHATCH_TERMS_NUMBERS 1u                                       /* uint64_t, of a report by terms */
+#define LINENHATCH_MONTHS 1560u                                           /* the months of the calendar: January 1970 to December 2099 */
+#define LINENHATCH_MAX_TERMS 24u                                          /* the terms of a list */
 
 /* ---- where a number stands in numbers */
 
@@ -81,6 +84,9 @@ extern "C" {
 /* of a trace alone: */
 #define LINENHATCH_FORCED 0        /* 0: not forced; 1: the start is on the list; 2: forced by a parent, which id holds */
 #define LINENHATCH_PARENT_NUMBER 1 /* that parent's number in header order, counted from 0 */
+
+/* of a report by terms alone: */
+#define LINENHATCH_OUTSIDE 0 /* commits outside all terms */
 
 /* ---- results: a commit or an opening that is accepted is 0, the end 100, no room 101, all others are refusals */
 
@@ -338,6 +344,33 @@ uint32_t linenhatch_trace(
     uint32_t moves,
     uint8_t *memo, size_t memo_len,
     uint8_t *id, size_t id_len,
+    uint64_t *numbers, size_t numbers_len);
+
+/* How many commits of a whole walk lie in each term, by their committer time in the store: 0, or the number of the refusal: 24, before all else; that of
+ * the opening; or the walk's own first one (9 to 11).
+ *
+ * terms: two months a term, its first and its last, each counted from January 1970 (2024-09 is 656). A term runs from the first second of the one to the last
+ * second of the other, in UTC. Good lists have at most 24 terms, rising and without overlap; two may touch, and there may be none. A list is refused
+ * with 24 where it is not so, where a month stands alone or is 1560 or more, or where a term ends before it starts. counts: a number for each term, and 0 in
+ * every place past them. numbers: see above; commits before 1970 or after 2099, and those whose time cannot be read in the store, are outside. Both are set
+ * down in every case, zeros after a refusal; the counts and the commits outside add up to the commits of the walk. Where counts has less than one for
+ * each two months, or numbers is too short, the result is 101, before all other tests, and nothing is altered. names to parents are working memory: after 24
+ * and 1 to 8 not a byte there is altered, else what they hold is free. */
+uint32_t linenhatch_terms(
+    const uint8_t *store, size_t store_len,
+    const uint8_t *graph, size_t graph_len,
+    const uint8_t *tips, size_t tips_len,
+    const uint8_t *hidden, size_t hidden_len,
+    const uint8_t *excluded, size_t excluded_len,
+    uint32_t sorting, uint32_t has_cutoff, int64_t cutoff, uint32_t first,
+    const uint32_t *terms, size_t terms_len,
+    uint8_t *names, size_t names_len,
+    uint8_t *marks, size_t marks_len,
+    uint32_t *generations, size_t generations_len,
+    int64_t *times, size_t times_len,
+    uint32_t *line, size_t line_len,
+    uint8_t *parents, size_t parents_len,
+    uint64_t *counts, size_t counts_len,
     uint64_t *numbers, size_t numbers_len);
 
 #ifdef __cplusplus

@@ -601,6 +601,7 @@ static void all_at_once(void)
 #include "writing.h"
 #include "feeding.h"
 #include "tracing.h"
+#include "counting.h"
 
 static const struct {
     const char *name;
@@ -654,6 +655,7 @@ static const struct {
     {"writing graph files", written, 20},
     {"feed reports", fed, 20},
     {"tracing by turns", traced, 20},
+    {"reports by terms", counted, 20},
 };
 #define KINDS (sizeof kinds / sizeof *kinds)
 
@@ -792,6 +794,7 @@ static void print_table(void)
     print_writings();
     print_feedings();
     print_tracings();
+    print_countings();
 }
 
 static uint64_t calls = 5000000;

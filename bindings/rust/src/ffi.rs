@@ -26,6 +26,8 @@ pub(crate) const FEED_NUMBERS: usize = 6;
 pub(crate) const FEED_DIFFERENCES: usize = 1;
 /// How many numbers a trace sets down.
 pub(crate) const TRACE_NUMBERS: usize = 2;
+/// How many numbers a report by terms sets down beside its counts.
+pub(crate) const TERMS_NUMBERS: usize = 1;
 
 /// The files, lists and settings that an opening and each of its calls are lent. No call reads the tips.
 #[derive(Clone, Debug)]
@@ -274,6 +276,41 @@ unsafe extern "C" {
         memo_len: usize,
         id: *mut u8,
         id_len: usize,
+        numbers: *mut u64,
+        numbers_len: usize,
+    ) -> u32;
+
+    fn linenhatch_terms(
+        store: *const u8,
+        store_len: usize,
+        graph: *const u8,
+        graph_len: usize,
+        tips: *const u8,
+        tips_len: usize,
+        hidden: *const u8,
+        hidden_len: usize,
+        excluded: *const u8,
+        excluded_len: usize,
+        sorting: u32,
+        has_cutoff: u32,
+        cutoff: i64,
+        first: u32,
+        terms: *const u32,
+        terms_len: usize,
+        names: *mut u8,
+        names_len: usize,
+        marks: *mut u8,
+        marks_len: usize,
+        generations: *mut u32,
+        generations_len: usize,
+        times: *mut i64,
+        times_len: usize,
+        line: *mut u32,
+        line_len: usize,
+        parents: *mut u8,
+        parents_len: usize,
+        counts: *mut u64,
+        counts_len: usize,
         numbers: *mut u64,
         numbers_len: usize,
     ) -> u32;
@@ -544,6 +581,54 @@ pub(crate) fn feed(
     }
 }
 
+/// The report of a whole walk by terms: 0, or the number of the refusal; never 101 where there is a count for each term. The memory's record plays no part.
+pub(crate) fn terms(
+    input: &Input<'_>,
+    tips: &[u8],
+    terms: &[u32],
+    memory: &mut Memory,
+    counts: &mut [u64],
+    numbers: &mut [u64; TERMS_NUMBERS],
+) -> u32 {
+    // SAFETY: as in `open`; the mutable ones are all of one field each of `memory`, `counts` and `numbers`.
+    unsafe {
+        linenhatch_terms(
+            input.store.as_ptr(),
+            input.store.len(),
+            input.graph.as_ptr(),
+            input.graph.len(),
+            tips.as_ptr(),
+            tips.len(),
+            input.hidden.as_ptr(),
+            input.hidden.len(),
+            input.excluded.as_ptr(),
+            input.excluded.len(),
+            input.sorting,
+            input.has_cutoff,
+            input.cutoff,
+            input.first,
+            terms.as_ptr(),
+            terms.len(),
+            memory.names.as_mut_ptr(),
+            memory.names.len(),
+            memory.marks.as_mut_ptr(),
+            memory.marks.len(),
+            memory.generations.as_mut_ptr(),
+            memory.generations.len(),
+            memory.times.as_mut_ptr(),
+            memory.times.len(),
+            memory.line.as_mut_ptr(),
+            memory.line.len(),
+            memory.parents.as_mut_ptr(),
+            memory.parents.len(),
+            counts.as_mut_ptr(),
+            counts.len(),
+            numbers.as_mut_ptr(),
+            numbers.len(),
+        )
+    }
+}
+
 /// The functions themselves, with buffers that the safe ones above never lend.
 #[cfg(test)]
 mod tests {
@@ -704,6 +789,30 @@ mod tests {
                         memory.parents.as_mut_ptr(), memory.parents.len(), numbers.as_mut_ptr(), count, difference.as_mut_ptr(), signed)
                 };
                 assert_eq!((result, numbers, difference, format!("{memory:?}")), (NoRoom::NUMBER, [7; FEED_NUMBERS], [7], before));
+            }
+        }
+    }
+
+    /// Before all else: also of a list of terms that would be refused.
+    #[test]
+    fn a_report_by_terms_without_room() {
+        for terms in [[0u32, 0, 1, 1], [1, 0, 0, 9]] {
+            for (places, count) in [(1, TERMS_NUMBERS), (2, 0), (0, 0)] {
+                let mut memory = Memory { parents: vec![7; 5120], ..Memory::with_places(2) };
+                memory.names.fill(7);
+                let before = format!("{memory:?}");
+                let (list, mut counts, mut numbers) = ([0u8; 0], [7u64; 2], [7u64; TERMS_NUMBERS]);
+                // SAFETY: as in `open`; no length is over the array's.
+                #[rustfmt::skip]
+                let result = unsafe {
+                    linenhatch_terms(
+                        STORE.as_ptr(), STORE.len(), list.as_ptr(), 0, list.as_ptr(), 0, list.as_ptr(), 0, list.as_ptr(), 0, 0, 0, 0, 0,
+                        terms.as_ptr(), terms.len(), memory.names.as_mut_ptr(), memory.names.len(), memory.marks.as_mut_ptr(), memory.marks.len(),
+                        memory.generations.as_mut_ptr(), memory.generations.len(), memory.times.as_mut_ptr(), memory.times.len(),
+                        memory.line.as_mut_ptr(), memory.line.len(), memory.parents.as_mut_ptr(), memory.parents.len(), counts.as_mut_ptr(), places,
+                        numbers.as_mut_ptr(), count)
+                };
+                assert_eq!((result, counts, numbers, format!("{memory:?}")), (NoRoom::NUMBER, [7; 2], [7], before));
             }
         }
     }

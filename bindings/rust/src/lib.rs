@@ -42,6 +42,7 @@ mod refusal;
 #[cfg(feature = "walk")]
 mod reports;
 mod store;
+mod terms;
 #[cfg(feature = "walk")]
 mod trace;
 #[cfg(feature = "walk")]
@@ -57,8 +58,9 @@ pub use names::{check_names, Fault};
 pub use order::Order;
 pub use refusal::{NoRoom, Refusal};
 #[cfg(feature = "walk")]
-pub use reports::FeedReport;
+pub use reports::{FeedReport, TermsReport};
 pub use store::{header, parents, store_from_commits, StoreBuilder, TooLarge, MAX_FILE_BYTES, MAX_IDS};
+pub use terms::{Month, ParseTermError, Term, MAX_TERMS};
 #[cfg(feature = "walk")]
 pub use trace::{trace, Prospect, MAX_MOVES};
 #[cfg(feature = "walk")]

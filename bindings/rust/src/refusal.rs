@@ -61,7 +61,8 @@ pub enum Refusal {
     /// 23: commits are reachable from both tips, and none of them is best, since parents run in a circle. [`merge_base`](crate::merge_base) alone
     /// meets this.
     TangledReach,
-    /// 24: the list of terms is too long, out of order or overlapping, or a term is no span of months of the calendar.
+    /// 24: the list of terms is too long, out of order or overlapping, or a term ends before it starts.
+    /// [`terms_report`](crate::Lister::terms_report) alone meets this.
     BadTerms,
     /// 25: more moves than a trace may have.
     TooManyMoves,

@@ -2,6 +2,7 @@
 
 use crate::ffi::{self, Input, Memory};
 use crate::refusal::Refusal;
+use crate::terms::Term;
 use crate::walk::{refusal, Lister};
 
 /// What the messages of a whole walk's commits say of feeds, in millimetres.
@@ -77,6 +78,54 @@ impl Lister<'_> {
         with_memory(&input, &tips, |memory| ffi::feed(&input, &tips, memory, &mut numbers, &mut difference))?;
         let ([both, cone_alone, bed_alone, neither, cone_sum, bed_sum], [difference]) = (numbers, difference);
         Ok(FeedReport { both, cone_alone, bed_alone, neither, cone_sum, bed_sum, difference })
+    }
+}
+
+/// How many commits of a whole walk lie in each term, by their committer time in the commit store.
+#[derive(Clone, Debug, Default, PartialEq, Eq, Hash)]
+pub struct TermsReport {
+    /// A number for each term, in their order.
+    pub counts: Vec<u64>,
+    /// The commits outside all of them; also those before 1970 or after 2099, and those whose time cannot be read in the store.
+    pub outside: u64,
+}
+
+impl TermsReport {
+    /// How many commits the walk handed out.
+    pub fn commits(&self) -> u64 {
+        self.counts.iter().sum::<u64>() + self.outside
+    }
+}
+
+impl Lister<'_> {
+    /// Walks to the end, and reports how many of the commits lie in each term. Terms rise without overlap, at most [`MAX_TERMS`](crate::MAX_TERMS); two may
+    /// touch, and there may be none.
+    ///
+    /// Refused with 24 where the list of terms is not so, before anything else; then as [`open`](Lister::open) is; then with the walk's own first refusal
+    /// (9 to 11).
+    ///
+    /// ```
+    /// use linenhatch::{store_from_commits, Lister, ObjectId, Refusal};
+    ///
+    /// let body = |second: i64| format!("tree {}\nauthor A <a> 5 +0000\ncommitter A <a> {second} +0000\n\n", "0".repeat(40));
+    /// let ids = [1, 2, 3].map(|n| ObjectId([n; 20]));
+    /// // the last second of January 1970, the first of February, and a second before 1970
+    /// let store = store_from_commits([(ids[0], body(2_678_399)), (ids[1], body(2_678_400)), (ids[2], body(-1))])?;
+    ///
+    /// let report = Lister::new(&store).tips(&ids).terms_report(&["1970-01".parse()?, "1970-02..1970-03".parse()?])?;
+    /// assert_eq!((report.commits(), report.counts, report.outside), (3, vec![1, 1], 1));
+    ///
+    /// let shared = Lister::new(&store).tips(&ids).terms_report(&["1970-01..1970-02".parse()?, "1970-02..1970-03".parse()?]);
+    /// assert_eq!(shared, Err(Refusal::BadTerms));
+    /// # Ok::<(), Box<dyn std::error::Error>>(())
+    /// ```
+    pub fn terms_report(&self, terms: &[Term]) -> Result<TermsReport, Refusal> {
+        let (input, tips) = self.lent();
+        let months: Vec<u32> = terms.iter().flat_map(|term| [term.first.number(), term.last.number()]).collect();
+        let (mut counts, mut numbers) = (vec![0; terms.len()], [0; ffi::TERMS_NUMBERS]);
+        with_memory(&input, &tips, |memory| ffi::terms(&input, &tips, &months, memory, &mut counts, &mut numbers))?;
+        let [outside] = numbers;
+        Ok(TermsReport { counts, outside })
     }
 }
 

@@ -327,3 +327,32 @@ fn a_report() {
     assert!(refused("--csv").contains("no option --csv"));
     assert_eq!(task("feed -h"), Ok(Task::Help(args::FEED_HELP)));
 }
+
+#[test]
+fn a_report_by_terms() {
+    let args = list("terms --csv --term 2024-09..2025-01 --term=2025-02 main ^old");
+    assert_eq!(
+        (args.report, args.csv, args.revs, args.hide),
+        (Some(Report::Terms), true, vec![OsString::from("main")], vec![OsString::from("old")])
+    );
+    assert_eq!(args.terms.iter().map(|term| term.to_string()).collect::<Vec<_>>(), ["2024-09..2025-01", "2025-02..2025-02"]);
+    assert_eq!((list("terms").terms, list("terms").revs), (vec![], vec![OsString::from("HEAD")]));
+    assert_eq!((list("-- terms").report, list("terms terms").revs), (None, vec![OsString::from("terms")]));
+    let many = |count: usize| (0..count).map(|k| format!(" --term {}-01", 1970 + k)).collect::<String>();
+    assert_eq!(list(&format!("terms{}", many(24))).terms.len(), 24);
+    for (line, said) in [
+        ("terms --term", "--term needs a term"),
+        ("terms --term 2024-9", "'2024-9' is no term"),
+        ("terms --term 2100-01", "'2100-01' is no term"),
+        ("terms --term 2024-03..2024-01", "2024-03..2024-01 ends before it starts"),
+        ("terms --term 2024-03 --term 2024-01", "2024-01..2024-01 does not start after 2024-03..2024-03"),
+        ("terms --term 2024-01..2024-03 --term 2024-03", "does not start after"),
+        (&format!("terms{}", many(25)), "25 terms are given"),
+        ("terms --count", "a report has no option --count"),
+        ("feed --term 2024-01", "no option --term"),
+        ("--term 2024-01", "no option --term"),
+    ] {
+        assert!(refused(line).contains(said), "{line}");
+    }
+    assert_eq!(task("terms -h"), Ok(Task::Help(args::TERMS_HELP)));
+}

@@ -57,6 +57,7 @@ fn the_same_in_both_languages() {
         ("linenhatch_write_graph", 9),
         ("linenhatch_feed", 30),
         ("linenhatch_trace", 13),
+        ("linenhatch_terms", 32),
     ] {
         let rust = in_rust(name);
         assert_eq!(rust.0.len(), parameters, "{name}");

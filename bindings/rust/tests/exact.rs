@@ -239,6 +239,8 @@ fn reports_go_over_the_same_commits() {
         let right = all.difference(&reached(&links, hidden)).count().to_string();
         let report = repository.list(&format!("feed --csv {}..main", ids[hidden]));
         assert_eq!(report[1].split(',').next(), Some(right.as_str()), "hidden {hidden}");
+        let report = repository.list(&format!("terms --csv --term 1970-01 {}..main", ids[hidden]));
+        assert_eq!(report.last().map(String::as_str), Some(format!("total,,,{right},").as_str()), "hidden {hidden}");
     }
     let (report, said) = repository.fails("feed --no-graph main");
     assert!(report.is_empty() && said.contains("(refusal 15, pair not falling)"), "{said}");

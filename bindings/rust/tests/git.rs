@@ -546,4 +546,41 @@ mod tool {
         }
         assert_eq!(repository.list("-- feed").len(), 5);
     }
+
+    #[test]
+    fn reports_by_terms() {
+        if !has_git() {
+            return;
+        }
+        let repository = Repository::new("terms");
+        // the first second of September 2024, the last of January 2025, the one after it, and a commit of 1970
+        let times = [100, 1_725_148_800, 1_738_367_999, 1_738_368_000];
+        let mut ids: Vec<String> = Vec::new();
+        for time in times {
+            let parents: Vec<&str> = ids.last().map(String::as_str).into_iter().collect();
+            let id = repository.commit(time, &parents);
+            ids.push(id);
+        }
+        repository.point("main", &ids[3]);
+        repository.point("terms", &ids[1]);
+        let terms = "--term 2024-09..2025-01 --term 2025-02..2025-03";
+        let fields = repository.list(&format!("terms --csv {terms} main"));
+        assert_eq!(
+            fields,
+            [
+                "what,first,last,commits,a_month",
+                "term,2024-09,2025-01,2,0.400",
+                "term,2025-02,2025-03,1,0.500",
+                "outside,,,1,",
+                "total,,,4,"
+            ]
+        );
+        let text = repository.list(&format!("terms {terms} main ^terms"));
+        assert_eq!(text.iter().map(|line| line.split_whitespace().nth(1).unwrap()).collect::<Vec<_>>(), ["1,", "1,", "0", "2"]);
+        assert!(text[0].starts_with("2024-09..2025-01 ") && text[0].ends_with(" 1, a month 0.200"), "{text:?}");
+        assert!(text[2].starts_with("outside ") && text[3].starts_with("commits "), "{text:?}");
+        assert_eq!(repository.list("terms --csv"), ["what,first,last,commits,a_month", "outside,,,4,", "total,,,4,"]);
+        assert_eq!(repository.list("-- terms").len(), 2);
+        assert_eq!(repository.tool("terms --term 2024-02..2024-01").status.code(), Some(2));
+    }
 }

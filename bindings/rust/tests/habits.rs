@@ -179,7 +179,7 @@ fn said_as_such() {
     assert!(said.contains("--tags leads to no commit"), "{said}");
     let output = repository.tool("--version");
     assert_eq!(lines(&output.stdout), [concat!("linenhatch ", env!("CARGO_PKG_VERSION"))]);
-    for command in ["list", "feed", "merge-base", "trace", "write-graph"] {
+    for command in ["list", "feed", "terms", "merge-base", "trace", "write-graph"] {
         let help = repository.list(&format!("{command} --help"));
         assert!(help[0].starts_with("linenhatch") && help.iter().any(|line| line.starts_with("example: ")), "{command}");
     }

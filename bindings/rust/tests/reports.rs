@@ -2,7 +2,7 @@
 
 #![cfg(feature = "walk")]
 
-use linenhatch::{store_from_commits, FeedReport, Lister, ObjectId, Order, Refusal};
+use linenhatch::{store_from_commits, FeedReport, Lister, Month, ObjectId, Order, Refusal, Term, TermsReport, MAX_TERMS};
 
 fn id(n: u8) -> ObjectId {
     ObjectId([n; 20])
@@ -90,4 +90,81 @@ fn refusals_of_the_walk() {
     assert_eq!(tip(1).hide(&[id(2)]).feed_report().map(|report| (report.commits(), report.cone_sum)), Ok((1, 5)));
     assert_eq!(tip(1).exclude(&[id(2)]).feed_report().map(|report| report.commits()), Ok(1));
     assert_eq!(tip(1).order(Order::Newest).cutoff(9).feed_report().map(|report| report.commits()), Ok(1));
+}
+
+fn terms(text: &str) -> Vec<Term> {
+    text.split_whitespace().map(|term| term.parse().unwrap()).collect()
+}
+
+/// A chain of commits at these seconds, by these terms.
+fn by_terms(seconds: &[i64], text: &str) -> Result<TermsReport, Refusal> {
+    let commits: Vec<_> = seconds.iter().map(|&second| (second, "")).collect();
+    let store = chain(&commits);
+    Lister::new(&store).tips(&[id(1)]).terms_report(&terms(text))
+}
+
+fn counted(counts: &[u64], outside: u64) -> Result<TermsReport, Refusal> {
+    Ok(TermsReport { counts: counts.to_vec(), outside })
+}
+
+/// The first and the last second of a month.
+fn edges(year: u32, month: u32) -> [i64; 2] {
+    let days = |year: u32, month: u32| match month {
+        2 if year % 4 == 0 && (year % 100 != 0 || year % 400 == 0) => 29,
+        2 => 28,
+        4 | 6 | 9 | 11 => 30,
+        _ => 31,
+    };
+    let before: i64 = (1970..year).map(|year| (1..=12).map(|month| days(year, month)).sum::<i64>()).sum::<i64>();
+    let first = 86400 * (before + (1..month).map(|month| days(year, month)).sum::<i64>());
+    [first, first + 86400 * days(year, month) - 1]
+}
+
+#[test]
+fn every_month_from_its_first_second_to_its_last() {
+    for number in 0..1560 {
+        let (year, month) = (1970 + number / 12, 1 + number % 12);
+        let [first, last] = edges(year, month);
+        let month = Month::new(year, month).unwrap();
+        assert_eq!(by_terms(&[first - 1, first, last, last + 1], &format!("{month}")), counted(&[2], 2), "{month}");
+    }
+    assert_eq!(edges(2099, 12)[1], 4_102_444_799);
+}
+
+#[test]
+fn terms_that_touch_and_many_of_them() {
+    let [january, february] = [edges(1970, 1), edges(1970, 2)];
+    let seconds = [january[1], february[0], february[1], february[1] + 1, -1, 0];
+    assert_eq!(by_terms(&seconds, "1970-01 1970-02"), counted(&[2, 2], 2));
+    assert_eq!(by_terms(&seconds, "1970-01..1970-02"), counted(&[4], 2));
+    assert_eq!(by_terms(&seconds, ""), counted(&[], 6));
+    let every_fifth: Vec<_> = (0..MAX_TERMS as u32).map(|k| format!("{0}-03..{0}-06", 1970 + 5 * k)).collect();
+    let counts: Vec<u64> = (0..MAX_TERMS as u64).map(|k| u64::from(k == 7) * 2).collect();
+    let seconds = [edges(2005, 3)[0], edges(2005, 6)[1], edges(2005, 7)[0], edges(2005, 2)[1]];
+    assert_eq!(by_terms(&seconds, &every_fifth.join(" ")), counted(&counts, 2));
+}
+
+#[test]
+fn bad_lists_of_terms() {
+    let many: Vec<_> = (0..=MAX_TERMS).map(|k| format!("{}-01", 1970 + k)).collect();
+    for text in ["1970-02..1970-01", "1970-01..1970-02 1970-02", "1971-01 1970-01", "1970-01 1970-01", &many.join(" ")] {
+        assert_eq!(by_terms(&[0], text), Err(Refusal::BadTerms), "{text}");
+        assert_eq!(Lister::new(b"no store").terms_report(&terms(text)), Err(Refusal::BadTerms), "{text}");
+    }
+    for text in
+        ["1969-12", "2100-01", "2024-00", "2024-13", "2024-9", "24-09", "2024-09..", "..2024-09", "", "2024-09...2024-10", "2024-+9"]
+    {
+        assert!(text.parse::<Term>().is_err(), "{text:?}");
+    }
+}
+
+#[test]
+fn refusals_of_the_walk_by_terms() {
+    let store = chain(&[(9, "Cone-feed: x"), (8, "")]);
+    let january = terms("1970-01");
+    let tip = |n| Lister::new(&store).tips(&[id(n)]);
+    assert_eq!(tip(1).terms_report(&january), counted(&[2], 0));
+    assert_eq!(tip(9).terms_report(&january), Err(Refusal::CommitNotFound));
+    assert_eq!(tip(9).order(Order::Oldest).terms_report(&january), Err(Refusal::TipNotFound));
+    assert_eq!(Lister::new(&store[1..]).terms_report(&january), Err(Refusal::CorruptStore));
 }

@@ -4,6 +4,7 @@ use Prim.Native.Nat.{ℕ, _+_, _≤_, _<_}
 use mathlib.Core.Bool.{true}
 use mathlib.Core.List.{List}
 use native.Mathlib.Omega.{arith}
+use lib.ListN.{length}
 use Rattle.hash.specs.Bytes.{idBytes}
 use Rattle.odb.specs.Store.{storeOk}
 use Rattle.walk.specs.declared.Refusal.{Refusal}
@@ -24,11 +25,12 @@ use Rattle.traverse.specs.declared.Opened.{Opened}
 use Rattle.traverse.specs.Contract.{Lent, lengthsOf, OpenSays}
 use Rattle.traverse.specs.Demand.{filesOf}
 use Rattle.driver.specs.declared.Driven.{Driven}
-use Rattle.driver.specs.declared.tally.Task.{Task}
-use Rattle.driver.specs.Tally.{noTally, Few, holding, folded}
+use Rattle.tally.specs.declared.Task.{Task}
+use Rattle.tally.specs.Tally.{noTally, Few, Held, holding}
+use Rattle.tally.specs.Terms.{goodPart, zeros}
 use Rattle.driver.specs.Walked.{parentsLeft, mostCalls}
 use Rattle.driver.specs.Says.{driven, beforeCalls, Made, Drove, Drives, CallsAll}
-use Rattle.driver.proofs.Few.{few-up}
+use Rattle.tally.proofs.Few.{few-up}
 use Rattle.driver.proofs.OneMore.{no-answers, fold-none}
 
 -- nothing is tallied before any call
@@ -46,6 +48,7 @@ none-few = record {
     paired-cone = omega arith;
     paired-bed = omega arith;
   };
+  outside = omega arith;
 }
 
 module _ {i : Input} {m : Lent} {o : Opened} {m₁ : Lent} (s : OpenSays i m o m₁) where
@@ -85,29 +88,35 @@ module _ {i : Input} {m : Lent} {o : Opened} {m₁ : Lent} (s : OpenSays i m o m
       good h (opened st) e = passes i (opens i (roomFor i (lengthsOf m)) (sym (ap checkedBy e)) .accepted) .store-good
 
   -- before any call
-  made-none : (task : Task) (st : State) → openWalk i (roomFor i (lengthsOf m)) ≡ opened st → (ids : List ℕ) → Made task i ids (m₁ .parents) 0 (beforeCalls o) m₁ ids
+  made-none : (task : Task) (terms : List ℕ) (st : State) → openWalk i (roomFor i (lengthsOf m)) ≡ opened st → (ids counts : List ℕ)
+      → Made task terms i (holding noTally ids counts) (m₁ .parents) 0 (beforeCalls o) m₁ ids counts
   unfolding parentsLeft
-  made-none task st e ids = record {
+  made-none task terms st e ids counts = record {
     accepted = accepted-as st e;
-    held = sym (fold-none task (i .store) (holding noTally ids) i);
+    held = sym (fold-none task terms (i .store) (holding noTally ids counts) i);
     parents = ap (λ (l : List Answer). parentsLeft l (m₁ .parents)) (sym (no-answers i));
     reads = s .accepted-open st e;
   }
 
-  module _ {task : Task} {n : ℕ} {d₀ d : Driven} {m′ : Lent} {ids ids′ : List ℕ} (c : n ≡ mostCalls (o .answer .outcome) (o .record .queue .cap)) (b : d₀ ≡ beforeCalls o) (a : CallsAll task (filesOf i) n d₀ m₁ ids d m′ ids′) where
-    none-made : (r : Refusal) → openWalk i (roomFor i (lengthsOf m)) ≡ closed r → (d ≡ driven (NotOpened r) noTally closedRecord) × (m′ ≡ m) × (ids′ ≡ ids)
+  module _ {task : Task} (terms : List ℕ) {good : List ℕ} {n : ℕ} {d₀ d : Driven} {m′ : Lent} {ids ids′ : List ℕ} (counts : List ℕ) {c₁ counts′ : List ℕ} (w : good ≡ goodPart terms) (z : c₁ ≡ zeros (length counts))
+      (c : n ≡ mostCalls (o .answer .outcome) (o .record .queue .cap)) (b : d₀ ≡ beforeCalls o) (a : CallsAll task good (filesOf i) n d₀ m₁ ids c₁ d m′ ids′ counts′) where
+    none-made : (r : Refusal) → openWalk i (roomFor i (lengthsOf m)) ≡ closed r → (d ≡ driven (NotOpened r) noTally closedRecord) × (m′ ≡ m) × (ids′ ≡ ids) × (counts′ ≡ zeros (length counts))
     none-made r e =
         let q = a .no-call (c ∙ ap (λ (x : OpenOutcome). mostCalls x (o .record .queue .cap)) (refused-as r e)) in
         let u = s .refused-open r e in
-        (q .0 ∙ b ∙ ap (λ (x : OpenOutcome). driven x noTally (o .record)) (refused-as r e) ∙ ap (driven (NotOpened r) noTally) (u .0), q .1 ∙ u .1, q .2)
+        (q .0 ∙ b ∙ ap (λ (x : OpenOutcome). driven x noTally (o .record)) (refused-as r e) ∙ ap (driven (NotOpened r) noTally) (u .0), q .1 ∙ u .1, q .2, q .3 ∙ z)
 
-    all-made : (st : State) → openWalk i (roomFor i (lengthsOf m)) ≡ opened st → Drove task i ids (m .parents) d m′ ids′
+    all-made : (st : State) → openWalk i (roomFor i (lengthsOf m)) ≡ opened st → Drove task (goodPart terms) i (holding noTally ids (zeros (length counts))) (m .parents) d m′ ids′ counts′
     all-made st e =
         let k : n ≡ P i + 2 = c ∙ ap (λ (x : OpenOutcome). mostCalls x (o .record .queue .cap)) (accepted-as st e) ∙ ap (λ (x : ℕ). x + 2) (opened-cap st e) in
-        subst (λ (x : List ℕ). Drove task i ids x d m′ ids′) (s .same-parents)
-        (a .all-calls (i .tips) st (ap (λ (x : _). openWalk i (roomFor i x)) (s .same-lengths) ∙ e) k (subst (λ (x : Driven). Made task i ids (m₁ .parents) 0 x m₁ ids) (sym b) (made-none task st e ids)))
+        let h : Held = holding noTally ids c₁ in
+        let v : Drove task good i h (m₁ .parents) d m′ ids′ counts′ =
+        a .all-calls (i .tips) st (ap (λ (x : _). openWalk i (roomFor i x)) (s .same-lengths) ∙ e) k h (subst (λ (x : Driven). Made task good i h (m₁ .parents) 0 x m₁ ids c₁) (sym b) (made-none task good st e ids c₁)) in
+        subst (λ (x : List ℕ). Drove task x i (holding noTally ids (zeros (length counts))) (m .parents) d m′ ids′ counts′) w
+        (subst (λ (x : List ℕ). Drove task good i (holding noTally ids x) (m .parents) d m′ ids′ counts′) z
+        (subst (λ (x : List ℕ). Drove task good i h x d m′ ids′ counts′) (s .same-parents) v))
 
-    pub drive-says : Drives task i m ids d m′ ids′
+    pub drive-says : Drives task terms i m ids counts d m′ ids′ counts′
     drive-says = record {
       refused-open = none-made;
       accepted-open = all-made;

@@ -10,8 +10,8 @@ use Rattle.walk.specs.Calls.{answerAt, answers, upTo}
 use Rattle.walk.specs.AnyInput.{handedBy, handedIds}
 use Rattle.walk.specs.Given.{parentsGiven}
 use Rattle.walk.proofs.Calls.{answers-at}
-use Rattle.driver.specs.declared.tally.Task.{Task}
-use Rattle.driver.specs.Tally.{Held, stepped, folded}
+use Rattle.tally.specs.declared.Task.{Task}
+use Rattle.tally.specs.Tally.{Held, stepped, folded}
 use Rattle.driver.specs.Walked.{parentsLeft}
 
 upTo-more : {A : Type 0} (f : ℕ → A) (k : ℕ) → upTo f (suc k) ≡ upTo f k ++ (f k ∷ [])
@@ -36,15 +36,15 @@ unfolding parentsLeft
 parents-more [] a b = refl
 parents-more (c ∷ l) a b = parents-more l a (parentsGiven c b)
 
-folded-more : (task : Task) (s : List ℕ) (h : Held) (l : List Answer) (a : Answer) → folded task s h (l ++ (a ∷ [])) ≡ stepped task s (folded task s h l) (a .kind)
+folded-more : (task : Task) (terms s : List ℕ) (h : Held) (l : List Answer) (a : Answer) → folded task terms s h (l ++ (a ∷ [])) ≡ stepped task terms s (folded task terms s h l) (a .kind)
 unfolding folded
-folded-more task s h [] a = refl
-folded-more task s h (b ∷ l) a = folded-more task s (stepped task s h (b .kind)) l a
+folded-more task terms s h [] a = refl
+folded-more task terms s h (b ∷ l) a = folded-more task terms s (stepped task terms s h (b .kind)) l a
 
 -- the step over the answers to a call more
-pub fold-call : (task : Task) (s : List ℕ) (h : Held) (i : Input) (k : ℕ) → folded task s h (answers i (suc k)) ≡ stepped task s (folded task s h (answers i k)) (answerAt i k .kind)
-fold-call task s h i k = ap (folded task s h) (answers-more i k) ∙ folded-more task s h (answers i k) (answerAt i k)
+pub fold-call : (task : Task) (terms s : List ℕ) (h : Held) (i : Input) (k : ℕ) → folded task terms s h (answers i (suc k)) ≡ stepped task terms s (folded task terms s h (answers i k)) (answerAt i k .kind)
+fold-call task terms s h i k = ap (folded task terms s h) (answers-more i k) ∙ folded-more task terms s h (answers i k) (answerAt i k)
 
-pub fold-none : (task : Task) (s : List ℕ) (h : Held) (i : Input) → folded task s h (answers i 0) ≡ h
+pub fold-none : (task : Task) (terms s : List ℕ) (h : Held) (i : Input) → folded task terms s h (answers i 0) ≡ h
 unfolding folded
-fold-none task s h i = ap (folded task s h) (no-answers i)
+fold-none task terms s h i = ap (folded task terms s h) (no-answers i)

@@ -1,4 +1,2 @@
-pub mod Feeds
-pub mod Tally
 pub mod Walked
 pub mod Says

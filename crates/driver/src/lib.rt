@@ -1,8 +1,5 @@
 // A whole walk at once, for any task: it is opened and called to its end, and a step is folded over its answers. The one loop over calls that
 // `lister` and `reports` are made of.
-pub mod feeds;
-pub mod tally;
-
 use state::Record;
 use tally::Tally;
 use tally::Task;
@@ -17,7 +14,9 @@ ghost use Rattle.odb.specs.Store.{storeOk};
 ghost use Rattle.opening.specs.Checks.{inputOf};
 ghost use Rattle.traverse.specs.Open.{lentOf};
 ghost use Rattle.traverse.specs.Next.{filesLent};
-ghost use Rattle.driver.specs.Tally.{Few};
+ghost use Rattle.calendar.specs.Terms.{goodTerms};
+ghost use Rattle.tally.specs.Terms.{FewCounts};
+ghost use Rattle.tally.specs.Tally.{Few};
 ghost use Rattle.driver.specs.Walked.{mostCalls};
 ghost use Rattle.driver.specs.Says.{Drives, beforeCalls, wentOn, CallsAll};
 
@@ -89,9 +88,11 @@ fn call_all(
     line: &mut [u32],
     parents: &mut [u8],
     ids: &mut [u8],
+    terms: &[u32],
+    counts: &mut [u64],
 ) -> Driven
-    requires { ⌜ (n ≤ 1048578) × Few 0 (first .tally) × (0 < n → storeOk idBytes (now store) ≡ true) ⌝ }
-    ensures { λ d. ⌜ CallsAll task (filesLent (now (store .entry)) (now (graph .entry)) (now (hidden .entry)) (now (excluded .entry)) settings) n first (lentOf (now (names .entry)) (now (marks .entry)) (now (levels .entry)) (now (times .entry)) (now (line .entry)) (now (parents .entry))) (now (ids .entry)) d (lentOf (now (names .exit)) (now (marks .exit)) (now (levels .exit)) (now (times .exit)) (now (line .exit)) (now (parents .exit))) (now (ids .exit)) ⌝ }
+    requires { ⌜ (n ≤ 1048578) × Few 0 (first .tally) × (0 < n → storeOk idBytes (now store) ≡ true) × (goodTerms (now terms) ≡ true) × FewCounts 0 (now counts) ⌝ }
+    ensures { λ d. ⌜ CallsAll task (now (terms .entry)) (filesLent (now (store .entry)) (now (graph .entry)) (now (hidden .entry)) (now (excluded .entry)) settings) n first (lentOf (now (names .entry)) (now (marks .entry)) (now (levels .entry)) (now (times .entry)) (now (line .entry)) (now (parents .entry))) (now (ids .entry)) (now (counts .entry)) d (lentOf (now (names .exit)) (now (marks .exit)) (now (levels .exit)) (now (times .exit)) (now (line .exit)) (now (parents .exit))) (now (ids .exit)) (now (counts .exit)) ⌝ }
 {
     let mut d = first;
     let mut left = n;
@@ -115,14 +116,15 @@ fn call_all(
         let outcome = answer.outcome;
         let after = o.record;
         let had = d.tally;
-        let t = tally::fold(task, had, answer, store, ids);
+        let t = tally::fold(task, had, answer, store, ids, terms, counts);
         d = went_on(d, t, after);
         left = tally::calls_left(task, t, left, outcome);
     }
     d
 }
 
-// Opens a walk and calls it to its end, or to the end of its task. The ids are altered by the task Ids alone.
+// Opens a walk and calls it to its end, or to the end of its task. The ids are altered by the task Ids alone; the counts are set to 0, and counted
+// up by the task Terms alone. Terms that are not a good list count as none.
 pub fn drive(
     task: Task,
     store: &[u8],
@@ -138,9 +140,13 @@ pub fn drive(
     line: &mut [u32],
     parents: &mut [u8],
     ids: &mut [u8],
+    terms: &[u32],
+    counts: &mut [u64],
 ) -> Driven
-    ensures { λ d. ⌜ Drives task (inputOf (now (store .entry)) (now (graph .entry)) (now (tips .entry)) (now (hidden .entry)) (now (excluded .entry)) settings) (lentOf (now (names .entry)) (now (marks .entry)) (now (levels .entry)) (now (times .entry)) (now (line .entry)) (now (parents .entry))) (now (ids .entry)) d (lentOf (now (names .exit)) (now (marks .exit)) (now (levels .exit)) (now (times .exit)) (now (line .exit)) (now (parents .exit))) (now (ids .exit)) ⌝ }
+    ensures { λ d. ⌜ Drives task (now (terms .entry)) (inputOf (now (store .entry)) (now (graph .entry)) (now (tips .entry)) (now (hidden .entry)) (now (excluded .entry)) settings) (lentOf (now (names .entry)) (now (marks .entry)) (now (levels .entry)) (now (times .entry)) (now (line .entry)) (now (parents .entry))) (now (ids .entry)) (now (counts .entry)) d (lentOf (now (names .exit)) (now (marks .exit)) (now (levels .exit)) (now (times .exit)) (now (line .exit)) (now (parents .exit))) (now (ids .exit)) (now (counts .exit)) ⌝ }
 {
+    let good = tally::terms::good_part(terms);
+    tally::terms::clear(counts);
     let o = traverse::open::open(
         store,
         graph,
@@ -171,5 +177,7 @@ pub fn drive(
         line,
         parents,
         ids,
+        good,
+        counts,
     )
 }

@@ -11,6 +11,7 @@ ghost use Rattle.reach.specs.Memory.{lent};
 ghost use Rattle.tracewire.specs.Wire.{LibraryTrace};
 ghost use Rattle.mergewire.specs.Wire.{LibraryMergeBase};
 ghost use Rattle.reportwire.specs.Feed.{LibraryFeed};
+ghost use Rattle.reportwire.specs.Terms.{LibraryTerms};
 ghost use Rattle.graphwire.specs.Wire.{kindOf, LibraryMeasures, LibraryWrites};
 ghost use Rattle.traverse.specs.Open.{lentOf};
 ghost use Rattle.traverse.specs.Next.{filesLent};
@@ -318,5 +319,53 @@ pub extern "C" fn linenhatch_feed(
         parents,
         numbers,
         difference,
+    )
+}
+
+// How many commits of a whole walk lie in each term (document 02, card 9): the result is 0, counts has a number for each two months and 0 in every place past
+// them, and the first number is that of the commits outside all; else the number of the refusal, 24 before all else, and zeros. After 24 and 1 to 8 the lent
+// memory is as it was. Where there is no room for the counts or the number the result is 101: nothing is read, and nothing is altered.
+#[no_mangle]
+pub extern "C" fn linenhatch_terms(
+    store: &[u8],
+    graph: &[u8],
+    tips: &[u8],
+    hidden: &[u8],
+    excluded: &[u8],
+    sorting: u32,
+    limited: u32,
+    cutoff: i64,
+    first: u32,
+    months: &[u32],
+    names: &mut [u8],
+    marks: &mut [u8],
+    levels: &mut [u32],
+    times: &mut [i64],
+    line: &mut [u32],
+    parents: &mut [u8],
+    counts: &mut [u64],
+    numbers: &mut [u64],
+) -> u32
+    ensures { λ n. ⌜ LibraryTerms (inputOf (now (store .entry)) (now (graph .entry)) (now (tips .entry)) (now (hidden .entry)) (now (excluded .entry)) (settingsOf sorting limited cutoff first)) (now (months .entry)) (lentOf (now (names .entry)) (now (marks .entry)) (now (levels .entry)) (now (times .entry)) (now (line .entry)) (now (parents .entry))) (lentOf (now (names .exit)) (now (marks .exit)) (now (levels .exit)) (now (times .exit)) (now (line .exit)) (now (parents .exit))) (now (counts .entry)) (now (counts .exit)) (now (numbers .entry)) (now (numbers .exit)) n ⌝ }
+{
+    reportwire::terms::terms(
+        store,
+        graph,
+        tips,
+        hidden,
+        excluded,
+        sorting,
+        limited,
+        cutoff,
+        first,
+        months,
+        names,
+        marks,
+        levels,
+        times,
+        line,
+        parents,
+        counts,
+        numbers,
     )
 }

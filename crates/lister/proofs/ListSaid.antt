@@ -16,8 +16,9 @@ use Rattle.opening.proofs.Opened.{opens}
 use Rattle.state.specs.Reads.{closedRecord}
 use Rattle.traverse.specs.Contract.{Lent, lengthsOf}
 use Rattle.driver.specs.declared.Driven.{Driven}
-use Rattle.driver.specs.declared.tally.Task.the-variants.{Ids}
-use Rattle.driver.specs.Tally.{Held, holding, noTally, folded}
+use Rattle.tally.specs.declared.Task.the-variants.{Ids}
+use Rattle.tally.specs.Tally.{Held, holding, noTally, folded}
+use Rattle.tally.specs.Terms.{goodPart, zeros}
 use Rattle.driver.specs.Walked.{wholeList}
 use Rattle.driver.specs.Says.{driven, Made, Drives}
 use Rattle.driver.proofs.Whole.{list-wide}
@@ -26,7 +27,7 @@ use Rattle.lister.specs.Says.{listing, Whole, ListSays, listingOf}
 use Rattle.lister.proofs.SetDown.{put-down-all}
 use Rattle.lister.proofs.Ids.{Counts, counts-all}
 
-module _ {i : Input} {m : Lent} {d : Driven} {l : Listing} {m′ : Lent} {ids ids′ : List ℕ} (s : Drives Ids i m ids d m′ ids′) (b : l ≡ listingOf d) where
+module _ {i : Input} {m : Lent} {d : Driven} {l : Listing} {m′ : Lent} {terms ids counts ids′ counts′ : List ℕ} (s : Drives Ids terms i m ids counts d m′ ids′ counts′) (b : l ≡ listingOf d) where
   refused : (r : Refusal) → openWalk i (roomFor i (lengthsOf m)) ≡ closed r → (l ≡ listing (NotOpened r) closedRecord) × (m′ ≡ m) × (ids′ ≡ ids)
   refused r e = let u = s .refused-open r e in (b ∙ ap listingOf (u .0), u .1, u .2)
 
@@ -34,8 +35,10 @@ module _ {i : Input} {m : Lent} {d : Driven} {l : Listing} {m′ : Lent} {ids id
   unfolding wholeList
   accepted st e =
       let v = s .accepted-open st e in
-      let a : Made Ids i ids (m .parents) (P i + 2) d m′ ids′ = subst (λ (k : ℕ). Made Ids i ids (m .parents) k d m′ ids′) (v .whole refl) (v .made) in
-      let c : Counts ids (answers i (P i + 2)) (holding (d .tally) ids′) = subst (Counts ids (answers i (P i + 2))) (sym (a .held)) (counts-all i ids (P i + 2)) in
+      let h : Held = holding noTally ids (zeros (length counts)) in
+      let a : Made Ids (goodPart terms) i h (m .parents) (P i + 2) d m′ ids′ counts′ =
+      subst (λ (k : ℕ). Made Ids (goodPart terms) i h (m .parents) k d m′ ids′ counts′) (v .whole refl) (v .made) in
+      let c : Counts ids (answers i (P i + 2)) (holding (d .tally) ids′ counts′) = subst (Counts ids (answers i (P i + 2))) (sym (a .held)) (counts-all i ids (goodPart terms) (zeros (length counts)) (P i + 2)) in
       let w = opens i (roomFor i (lengthsOf m)) (sym (ap checkedBy e)) in
       let y : idBytes * 0 ≡ 0 = omega arith in
       let z : length ids / idBytes - 0 ≡ length ids / idBytes = omega arith in

@@ -11,7 +11,7 @@ use Rattle.walk.specs.declared.Outcome.the-variants.{Commit, End, Refused}
 use Rattle.walk.specs.Next.{Kind, end, refused, handed, Answer}
 use Rattle.walk.specs.AnyInput.{handedBy}
 use Rattle.walk.specs.Given.{outcomeOf, idOfKind}
-use Rattle.driver.specs.Tally.{commitsAfter, refusedAfter, reasonAfter, idsAfter}
+use Rattle.tally.specs.Tally.{commitsAfter, refusedAfter, reasonAfter, idsAfter}
 use Rattle.lister.specs.Walked.{refusedBy, refusals, refusalOr, firstRefusal, putDown}
 
 -- ---- what a list of answers comes to

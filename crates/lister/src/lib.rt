@@ -1,8 +1,8 @@
 // A whole walk at once: it is opened and called to its end, and the ids of the commits are set down, in order, in a buffer of the caller's.
 // A walk call by call is in crate `traverse`.
 use driver::Driven;
-use driver::tally::Task;
 use state::Record;
+use tally::Task;
 use walk::OpenOutcome;
 use walk::Outcome;
 use walk::Settings;
@@ -60,6 +60,9 @@ pub fn list(
 ) -> Listing
     ensures { λ l. ⌜ ListSays (inputOf (now (store .entry)) (now (graph .entry)) (now (tips .entry)) (now (hidden .entry)) (now (excluded .entry)) settings) (lentOf (now (names .entry)) (now (marks .entry)) (now (levels .entry)) (now (times .entry)) (now (line .entry)) (now (parents .entry))) (now (ids .entry)) l (lentOf (now (names .exit)) (now (marks .exit)) (now (levels .exit)) (now (times .exit)) (now (line .exit)) (now (parents .exit))) (now (ids .exit)) ⌝ }
 {
+    // Nothing is counted by terms.
+    let terms = [0u32; 1];
+    let mut counts = [0u64; 1];
     listing_of(driver::drive(
         Task::Ids,
         store,
@@ -75,5 +78,7 @@ pub fn list(
         line,
         parents,
         ids,
+        &terms,
+        &mut counts,
     ))
 }

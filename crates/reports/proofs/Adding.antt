@@ -12,8 +12,8 @@ use Rattle.feed.specs.declared.Reading.the-variants.{Absent, Given}
 use Rattle.feed.specs.declared.FeedOutcome.{FeedOutcome}
 use Rattle.feed.specs.declared.FeedOutcome.the-variants.{Read, Faulty}
 use Rattle.walk.specs.declared.Refusal.{Refusal}
-use Rattle.driver.specs.declared.feeds.Feeds.{Feeds}
-use Rattle.driver.specs.Feeds.{feedAt, noFeeds, feedsOf, feedsIn, plus, feedsOver}
+use Rattle.tally.specs.declared.feeds.Feeds.{Feeds}
+use Rattle.tally.specs.Feeds.{feedAt, noFeeds, feedsOf, feedsIn, plus, feedsOver}
 use Rattle.reports.specs.Report.{faultIn}
 use Rattle.reports.specs.Demand.{faultOver}
 

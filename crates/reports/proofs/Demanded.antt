@@ -16,7 +16,7 @@ use Rattle.walk.specs.Demand.{Premises}
 use Rattle.walk.proofs.Calls.{answers-at}
 use Rattle.traverse.specs.Contract.{Lent, lengthsOf}
 use Rattle.traverse.proofs.Numbered.{length-upTo}
-use Rattle.driver.specs.Feeds.{feedsOver}
+use Rattle.tally.specs.Feeds.{feedsOver}
 use Rattle.driver.specs.Walked.{allAnswers, wholeList}
 use Rattle.driver.proofs.Whole.{listed-whole}
 use Rattle.reports.specs.declared.Reported.{Reported}

@@ -13,7 +13,7 @@ use Rattle.walk.specs.Next.{Kind, end, refused, handed, Answer}
 use Rattle.walk.specs.Calls.{answerAt, answers}
 use Rattle.walk.specs.AnyInput.{handedBy, handedIds}
 use Rattle.walk.specs.Demand.{Hands, no-more-calls, hands, ends}
-use Rattle.driver.specs.Feeds.{feedAt}
+use Rattle.tally.specs.Feeds.{feedAt}
 use Rattle.driver.proofs.OneMore.{answers-more}
 use Rattle.reports.specs.Report.{faultIn, faultBy, firstFault}
 use Rattle.reports.specs.Demand.{faultOver}

@@ -4,6 +4,7 @@ use Prim.Native.Nat.{ℕ, _+_, _≤_}
 use mathlib.Core.Option.{Option, none, some}
 use mathlib.Core.List.{List}
 use native.Mathlib.Omega.{arith}
+use lib.ListN.{length}
 use Rattle.hash.specs.Bytes.{idBytes}
 use Rattle.walk.specs.declared.Refusal.{Refusal}
 use Rattle.walk.specs.declared.Outcome.{Outcome}
@@ -14,19 +15,20 @@ use Rattle.walk.specs.Calls.{answers}
 use Rattle.walk.specs.AnyInput.{handedIds}
 use Rattle.traverse.specs.Contract.{Lent, lengthsOf}
 use Rattle.driver.specs.declared.Driven.{Driven}
-use Rattle.driver.specs.declared.feeds.Feeds.{Feeds}
-use Rattle.driver.specs.declared.tally.Task.the-variants.{Feed}
-use Rattle.driver.specs.Feeds.{feedsOver, LowFeeds}
-use Rattle.driver.specs.Tally.{isRefusal, holding}
+use Rattle.tally.specs.declared.feeds.Feeds.{Feeds}
+use Rattle.tally.specs.declared.Task.the-variants.{Feed}
+use Rattle.tally.specs.Feeds.{feedsOver, LowFeeds}
+use Rattle.tally.specs.Tally.{isRefusal, noTally, holding}
+use Rattle.tally.specs.Terms.{goodPart, zeros}
 use Rattle.driver.specs.Walked.{allAnswers, wholeList}
 use Rattle.driver.specs.Says.{Drove, Drives}
-use Rattle.driver.proofs.Few.{few-up}
+use Rattle.tally.proofs.Few.{few-up}
 use Rattle.reports.specs.declared.FeedReport.{FeedReport}
 use Rattle.reports.specs.Report.{wholeReport, firstFault, reportFrom, feedReport, FeedSays, reportBy, openedBy, reportOf, refusedReport}
 use Rattle.reports.proofs.Faults.{fault-stays}
 use Rattle.reports.proofs.Told.{asReason, Told, told-all}
 
-module _ {i : Input} {m : Lent} {d : Driven} {m′ : Lent} {ids ids′ : List ℕ} (s : Drives Feed i m ids d m′ ids′) where
+module _ {i : Input} {m : Lent} {d : Driven} {m′ : Lent} {terms ids counts ids′ counts′ : List ℕ} (s : Drives Feed terms i m ids counts d m′ ids′ counts′) where
   pub low-feeds : LowFeeds (d .tally .feeds)
   low-feeds = few-up 1048578 4294967296 (d .tally) (omega arith) (s .few) .feeds
 
@@ -34,11 +36,11 @@ module _ {i : Input} {m : Lent} {d : Driven} {m′ : Lent} {ids ids′ : List �
   unfolding feedReport wholeList
   accepted st e = go (firstFault idBytes (i .store) (answers i (v .calls))) refl
     where
-      v : Drove Feed i ids (m .parents) d m′ ids′
+      v : Drove Feed (goodPart terms) i (holding noTally ids (zeros (length counts))) (m .parents) d m′ ids′ counts′
       v = s .accepted-open st e
 
-      t : Told (i .store) (answers i (v .calls)) (holding (d .tally) ids′)
-      t = subst (Told (i .store) (answers i (v .calls))) (sym (v .made .held)) (told-all i ids (v .calls))
+      t : Told (i .store) (answers i (v .calls)) (holding (d .tally) ids′ counts′)
+      t = subst (Told (i .store) (answers i (v .calls))) (sym (v .made .held)) (told-all i ids (goodPart terms) (zeros (length counts)) (v .calls))
 
       one : (f : Option Refusal) → firstFault idBytes (i .store) (answers i (v .calls)) ≡ f → reportOf d ≡ reportBy (asReason f) (d .tally .feeds)
       one f h =

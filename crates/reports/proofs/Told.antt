@@ -15,11 +15,11 @@ use Rattle.walk.specs.Next.{Kind, end, refused, handed, Answer}
 use Rattle.walk.specs.Calls.{answerAt, answers}
 use Rattle.walk.specs.AnyInput.{handedBy, handedIds}
 use Rattle.walk.specs.Given.{outcomeOf, idOfKind}
-use Rattle.driver.specs.declared.feeds.Feeds.{Feeds}
-use Rattle.driver.specs.declared.tally.Task.the-variants.{Feed}
-use Rattle.driver.specs.declared.tally.Tally.{Tally}
-use Rattle.driver.specs.Feeds.{feedAt, feedsIn, plus, feedsOver}
-use Rattle.driver.specs.Tally.{reasonOr, fedBy, stepOf, Held, holding, noTally, stepped, folded}
+use Rattle.tally.specs.declared.feeds.Feeds.{Feeds}
+use Rattle.tally.specs.declared.Task.the-variants.{Feed}
+use Rattle.tally.specs.declared.Tally.{Tally}
+use Rattle.tally.specs.Feeds.{feedAt, feedsIn, plus, feedsOver}
+use Rattle.tally.specs.Tally.{reasonOr, fedBy, stepOf, Held, holding, noTally, stepped, folded}
 use Rattle.driver.proofs.OneMore.{no-answers, answers-more, handed-more, fold-call, fold-none}
 use Rattle.reports.specs.Report.{faultIn, faultBy, firstFault}
 use Rattle.reports.proofs.Adding.{plus-none, over-more}
@@ -38,45 +38,45 @@ reason-more : (o : Outcome) (f : Option Refusal) (r : Refusal) → o ≡ asReaso
 reason-more o none r e = ap (λ (z : Outcome). reasonOr z (Refused r)) e
 reason-more o (some q) r e = ap (λ (z : Outcome). reasonOr z (Refused r)) e
 
-reason-on : (s : List ℕ) (t : Tally) (f : Option Refusal) (k : Kind) → t .reason ≡ asReason f
-    → stepOf Feed s t (outcomeOf k) (idOfKind k) .reason ≡ asReason (firstOf f (faultBy idBytes s k))
-reason-on s t f end e = e ∙ ap asReason (sym (first-last f))
-reason-on s t f (refused r) e = reason-more (t .reason) f r e
-reason-on s t f (handed x g u) e = go (feedAt idBytes s x)
+reason-on : (terms s : List ℕ) (t : Tally) (f : Option Refusal) (k : Kind) → t .reason ≡ asReason f
+    → stepOf Feed terms s t (outcomeOf k) (idOfKind k) .reason ≡ asReason (firstOf f (faultBy idBytes s k))
+reason-on terms s t f end e = e ∙ ap asReason (sym (first-last f))
+reason-on terms s t f (refused r) e = reason-more (t .reason) f r e
+reason-on terms s t f (handed x g u) e = go (feedAt idBytes s x)
   where
     go : (q : FeedOutcome) → fedBy t Commit q .reason ≡ asReason (firstOf f (faultIn q))
     go (Read p) = e ∙ ap asReason (sym (first-last f))
     go (Faulty r) = reason-more (t .reason) f r e
 
-feeds-on : (s : List ℕ) (t : Tally) (l : List Id) (k : Kind) → t .feeds ≡ feedsOver idBytes s l
-    → stepOf Feed s t (outcomeOf k) (idOfKind k) .feeds ≡ feedsOver idBytes s (l ++ handedBy k)
+feeds-on : (terms s : List ℕ) (t : Tally) (l : List Id) (k : Kind) → t .feeds ≡ feedsOver idBytes s l
+    → stepOf Feed terms s t (outcomeOf k) (idOfKind k) .feeds ≡ feedsOver idBytes s (l ++ handedBy k)
 unfolding handedBy
-feeds-on s t l end e = e ∙ ap (feedsOver idBytes s) (sym (append-nil l))
-feeds-on s t l (refused r) e = e ∙ ap (feedsOver idBytes s) (sym (append-nil l))
-feeds-on s t l (handed x g u) e = go (feedAt idBytes s x) ∙ ap (λ (f : Feeds). plus f (feedsIn (feedAt idBytes s x))) e ∙ sym (over-more idBytes s l x)
+feeds-on terms s t l end e = e ∙ ap (feedsOver idBytes s) (sym (append-nil l))
+feeds-on terms s t l (refused r) e = e ∙ ap (feedsOver idBytes s) (sym (append-nil l))
+feeds-on terms s t l (handed x g u) e = go (feedAt idBytes s x) ∙ ap (λ (f : Feeds). plus f (feedsIn (feedAt idBytes s x))) e ∙ sym (over-more idBytes s l x)
   where
     go : (q : FeedOutcome) → fedBy t Commit q .feeds ≡ plus (t .feeds) (feedsIn q)
     go (Read p) = refl
     go (Faulty r) = sym (plus-none (t .feeds))
 
-module _ (i : Input) (ids₀ : List ℕ) where
-  told-none : Told (i .store) (answers i 0) (holding noTally ids₀)
+module _ (i : Input) (ids₀ terms counts₀ : List ℕ) where
+  told-none : Told (i .store) (answers i 0) (holding noTally ids₀ counts₀)
   unfolding firstFault feedsOver handedIds
   told-none = record {
     reason = ap (λ (l : List Answer). asReason (firstFault idBytes (i .store) l)) (sym (no-answers i));
     feeds = ap (λ (l : List Answer). feedsOver idBytes (i .store) (handedIds l)) (sym (no-answers i));
   }
 
-  told-next : (k : ℕ) (h : Held) → Told (i .store) (answers i k) h → Told (i .store) (answers i (suc k)) (stepped Feed (i .store) h (answerAt i k .kind))
+  told-next : (k : ℕ) (h : Held) → Told (i .store) (answers i k) h → Told (i .store) (answers i (suc k)) (stepped Feed terms (i .store) h (answerAt i k .kind))
   told-next k h d = record {
-    reason = reason-on (i .store) (h .tally) (firstFault idBytes (i .store) (answers i k)) (answerAt i k .kind) (d .reason) ∙ ap asReason (sym (fault-call idBytes (i .store) i k));
+    reason = reason-on terms (i .store) (h .tally) (firstFault idBytes (i .store) (answers i k)) (answerAt i k .kind) (d .reason) ∙ ap asReason (sym (fault-call idBytes (i .store) i k));
     feeds =
-        feeds-on (i .store) (h .tally) (handedIds (answers i k)) (answerAt i k .kind) (d .feeds)
+        feeds-on terms (i .store) (h .tally) (handedIds (answers i k)) (answerAt i k .kind) (d .feeds)
         ∙ ap (feedsOver idBytes (i .store)) (sym (ap handedIds (answers-more i k) ∙ handed-more (answers i k) (answerAt i k)));
   }
 
-  pub told-all : (k : ℕ) → Told (i .store) (answers i k) (folded Feed (i .store) (holding noTally ids₀) (answers i k))
-  told-all zero = subst (Told (i .store) (answers i 0)) (sym (fold-none Feed (i .store) (holding noTally ids₀) i)) told-none
+  pub told-all : (k : ℕ) → Told (i .store) (answers i k) (folded Feed terms (i .store) (holding noTally ids₀ counts₀) (answers i k))
+  told-all zero = subst (Told (i .store) (answers i 0)) (sym (fold-none Feed terms (i .store) (holding noTally ids₀ counts₀) i)) told-none
   told-all (suc k) =
-      subst (Told (i .store) (answers i (suc k))) (sym (fold-call Feed (i .store) (holding noTally ids₀) i k))
-      (told-next k (folded Feed (i .store) (holding noTally ids₀) (answers i k)) (told-all k))
+      subst (Told (i .store) (answers i (suc k))) (sym (fold-call Feed terms (i .store) (holding noTally ids₀ counts₀) i k))
+      (told-next k (folded Feed terms (i .store) (holding noTally ids₀ counts₀) (answers i k)) (told-all k))

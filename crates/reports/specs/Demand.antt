@@ -13,7 +13,7 @@ use Rattle.walk.specs.Opening.{Input, walkOf, listIds, refusal, roomFor}
 use Rattle.walk.specs.Reach.{Mem, NoDup}
 use Rattle.walk.specs.Demand.{Premises, Listed}
 use Rattle.traverse.specs.Contract.{Lent, lengthsOf}
-use Rattle.driver.specs.Feeds.{feedAt, feedsOver}
+use Rattle.tally.specs.Feeds.{feedAt, feedsOver}
 use Rattle.driver.specs.Walked.{wholeList}
 use Rattle.reports.specs.declared.Reported.the-variants.{Whole}
 use Rattle.reports.specs.declared.FeedReport.{FeedReport}

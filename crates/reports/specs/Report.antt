@@ -17,8 +17,8 @@ use Rattle.walk.specs.Opening.{Input, roomFor, openWalk, closed, opened}
 use Rattle.walk.specs.Next.{Kind, end, refused, handed, Answer}
 use Rattle.traverse.specs.Contract.{Lent, lengthsOf}
 use Rattle.driver.specs.declared.Driven.{Driven}
-use Rattle.driver.specs.declared.feeds.Feeds.{Feeds}
-use Rattle.driver.specs.Feeds.{feedAt, feedsOver}
+use Rattle.tally.specs.declared.feeds.Feeds.{Feeds}
+use Rattle.tally.specs.Feeds.{feedAt, feedsOver}
 use Rattle.driver.specs.Walked.{allAnswers, wholeList}
 use Rattle.reports.specs.declared.Reported.the-variants.{Whole, Refused}
 use Rattle.reports.specs.declared.FeedReport.{FeedReport}

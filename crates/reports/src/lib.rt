@@ -1,7 +1,7 @@
 // Reports over a whole walk (document 02, card 5): the readings of its commits, counted and added up.
 use driver::Driven;
-use driver::feeds::Feeds;
-use driver::tally::Task;
+use tally::Task;
+use tally::feeds::Feeds;
 use walk::OpenOutcome;
 use walk::Outcome;
 use walk::Refusal;
@@ -11,7 +11,7 @@ ghost use lib.IntN.{pos, _-ℤ_};
 ghost use Prim.Native.Nat.{_<_};
 ghost use Rattle.opening.specs.Checks.{inputOf};
 ghost use Rattle.traverse.specs.Open.{lentOf};
-ghost use Rattle.driver.specs.Feeds.{LowFeeds};
+ghost use Rattle.tally.specs.Feeds.{LowFeeds};
 ghost use Rattle.reports.specs.Report.{refusedReport, wholeReport, reportBy, reportOf, FeedSays};
 
 // Whether a report is whole.
@@ -122,6 +122,9 @@ pub fn feed_report(
 {
     // No id is set down.
     let mut ids = [0u8; 1];
+    // Nor is anything counted by terms.
+    let terms = [0u32; 1];
+    let mut counts = [0u64; 1];
     report_of(driver::drive(
         Task::Feed,
         store,
@@ -137,5 +140,7 @@ pub fn feed_report(
         line,
         parents,
         &mut ids,
+        &terms,
+        &mut counts,
     ))
 }

@@ -1,5 +1,7 @@
 // Reports over a whole walk for callers in other languages: settings as numbers, and a report's numbers in lent slices. Every function is total on
 // any bytes, numbers and lengths.
+pub mod terms;
+
 use reports::FeedReport;
 use reports::Reported;
 ghost use mathlib.Core.Path.{_≡_};

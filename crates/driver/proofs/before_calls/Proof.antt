@@ -1,11 +1,11 @@
 -- `before_calls` meets its contract: field by field. Assumes nothing.
 use mathlib.Core.Path.{ap}
-use Rattle.driver.specs.declared.tally.Tally.{Tally}
+use Rattle.tally.specs.declared.Tally.{Tally}
 use Rattle.driver.specs.Says.{driven}
 use borrow.Author.Needs.{needs}
 use Rattle.driver.proofs.before_calls.Statement.{statement}
 use Rattle.driver.proofs.before_calls.Tie as tie
-use Rattle.driver.proofs.tally.no_tally.Reads as no-tally-reads
+use Rattle.tally.proofs.no_tally.Reads as no-tally-reads
 
 no-tally-requires : tie.Need-no-tally-requires
 no-tally-requires c κs = search needs

@@ -6,6 +6,12 @@ use Rattle.lister.proofs.list.Tie as tie
 use Rattle.driver.proofs.drive.Reads as drive-reads
 use Rattle.lister.proofs.listing_of.Reads as listing-of-reads
 
+slice-aggregate-drive : tie.Need-slice-aggregate-drive
+slice-aggregate-drive c = search needs
+
+slice-aggregate-drive-2 : tie.Need-slice-aggregate-drive-2
+slice-aggregate-drive-2 c = search needs
+
 drive-requires : tie.Need-drive-requires
 drive-requires c κs = search needs
 
@@ -34,12 +40,14 @@ same-length-7 : tie.Need-same-length-7
 same-length-7 c = search needs
 
 returns : tie.Need-returns
-returns c = list-says (c .before .before .before .before .before .before .before .before .before .before .before .before .before .before .drive .ensures) (c .listing-of .ensures)
+returns c = list-says (c .before .before .before .before .before .before .before .before .before .before .before .before .before .before .before .drive .ensures) (c .listing-of .ensures)
 
 pub list-spec : {M : Type 1} → statement M
 list-spec =
     tie.close
     (tie.spec
+    slice-aggregate-drive
+    slice-aggregate-drive-2
     drive-requires
     listing-of-requires
     same-length

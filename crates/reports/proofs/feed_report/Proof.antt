@@ -9,11 +9,17 @@ use Rattle.reports.proofs.report_of.Reads as report-of-reads
 slice-aggregate-drive : tie.Need-slice-aggregate-drive
 slice-aggregate-drive c = search needs
 
+slice-aggregate-drive-2 : tie.Need-slice-aggregate-drive-2
+slice-aggregate-drive-2 c = search needs
+
+slice-aggregate-drive-3 : tie.Need-slice-aggregate-drive-3
+slice-aggregate-drive-3 c = search needs
+
 drive-requires : tie.Need-drive-requires
 drive-requires c κs = search needs
 
 report-of-requires : tie.Need-report-of-requires
-report-of-requires c κs = low-feeds (c .before .before .before .before .before .before .before .before .before .before .before .before .drive .ensures)
+report-of-requires c κs = low-feeds (c .before .before .before .before .before .before .before .before .before .before .before .before .before .drive .ensures)
 
 same-length : tie.Need-same-length
 same-length c = search needs
@@ -34,13 +40,15 @@ same-length-6 : tie.Need-same-length-6
 same-length-6 c = search needs
 
 returns : tie.Need-returns
-returns c = feed-says (c .before .before .before .before .before .before .before .before .before .before .before .before .before .drive .ensures) (c .report-of .ensures)
+returns c = feed-says (c .before .before .before .before .before .before .before .before .before .before .before .before .before .before .drive .ensures) (c .report-of .ensures)
 
 pub feed-report-spec : {M : Type 1} → statement M
 feed-report-spec =
     tie.close
     (tie.spec
     slice-aggregate-drive
+    slice-aggregate-drive-2
+    slice-aggregate-drive-3
     drive-requires
     report-of-requires
     same-length

@@ -4,10 +4,11 @@ use std::ffi::{OsStr, OsString};
 use std::os::unix::ffi::OsStrExt;
 use std::path::PathBuf;
 
-use linenhatch::Order;
+use linenhatch::{Order, ParseTermError, Term, MAX_TERMS};
 
 pub const HELP: &str = include_str!("help/list.txt");
 pub const FEED_HELP: &str = include_str!("help/feed.txt");
+pub const TERMS_HELP: &str = include_str!("help/terms.txt");
 pub const MERGE_BASE_HELP: &str = include_str!("help/merge-base.txt");
 pub const TRACE_HELP: &str = include_str!("help/trace.txt");
 pub const WRITE_GRAPH_HELP: &str = include_str!("help/write-graph.txt");
@@ -75,6 +76,8 @@ pub struct Args {
     /// `--all`, `--branches` and `--tags`, as they were given.
     pub refs: Vec<&'static str>,
     pub report: Option<Report>,
+    /// Of a report by terms.
+    pub terms: Vec<Term>,
     pub csv: bool,
     pub revs: Vec<OsString>,
 }
@@ -83,12 +86,14 @@ pub struct Args {
 #[derive(Clone, Copy, Debug, PartialEq)]
 pub enum Report {
     Feed,
+    Terms,
 }
 
 impl Report {
     fn help(self) -> &'static str {
         match self {
             Report::Feed => FEED_HELP,
+            Report::Terms => TERMS_HELP,
         }
     }
 }
@@ -129,6 +134,7 @@ pub fn parse(words: impl IntoIterator<Item = OsString>) -> Result<Task, String> 
         Some("write-graph") => parse_output(words),
         Some("list") => parse_list(without(words, "list"), None),
         Some("feed") => parse_list(without(words, "feed"), Some(Report::Feed)),
+        Some("terms") => parse_list(without(words, "terms"), Some(Report::Terms)),
         _ => parse_list(words, None),
     }
 }
@@ -170,6 +176,7 @@ fn plain(report: Option<Report>) -> Args {
         check_names: false,
         refs: Vec::new(),
         report,
+        terms: Vec::new(),
         csv: false,
         revs: Vec::new(),
     }
@@ -196,7 +203,7 @@ fn parse_list(words: Vec<OsString>, report: Option<Report>) -> Result<Task, Stri
             of_lists if report.is_some() && OF_LISTS.contains(&of_lists) => return Err(format!("a report has no option {option}")),
             _ => {}
         }
-        if let Some(what) = needs(&option) {
+        if let Some(what) = needs(&option, report) {
             let value = given.or_else(|| words.next()).ok_or_else(|| format!("{option} needs {what}"))?;
             args.set(&option, value)?;
         } else if given.is_some() || !args.turn_on(&option) {
@@ -208,7 +215,7 @@ fn parse_list(words: Vec<OsString>, report: Option<Report>) -> Result<Task, Stri
 }
 
 /// What an option has to be followed by, if it takes a value.
-fn needs(option: &str) -> Option<&'static str> {
+fn needs(option: &str, report: Option<Report>) -> Option<&'static str> {
     match option {
         "-C" => Some("a folder"),
         "--order" => Some("newest, oldest or breadth"),
@@ -217,6 +224,7 @@ fn needs(option: &str) -> Option<&'static str> {
         "--since" | "--after" | "--until" | "--before" => Some("a date"),
         "--cutoff" => Some("a number of seconds"),
         "--hide" | "--exclude" => Some("a commit"),
+        "--term" if report == Some(Report::Terms) => Some("a term, as 2024-09..2025-01"),
         _ => None,
     }
 }
@@ -340,6 +348,7 @@ impl Args {
             "--until" | "--before" => self.until = Some(value),
             "--cutoff" => self.cutoff = Some(seconds_of(&value)?),
             "--hide" => self.hide.push(name(value)?),
+            "--term" => self.terms.push(term_of(&value)?),
             _ => self.exclude.push(name(value)?),
         }
         Ok(())
@@ -375,6 +384,9 @@ impl Args {
         }
         if self.format.is_table() && (self.time || self.zone) {
             return Err("--time and --zone are for --format ids and parents; csv and json have both".into());
+        }
+        if let Some(why) = bad_terms(&self.terms) {
+            return Err(why);
         }
         if self.revs.is_empty() && self.refs.is_empty() {
             self.revs.push("HEAD".into());
@@ -449,6 +461,25 @@ fn format_of(word: &OsStr) -> Result<Format, String> {
 fn seconds_of(word: &OsStr) -> Result<i64, String> {
     let number = word.to_str().and_then(|text| text.parse().ok());
     number.ok_or_else(|| format!("'{}' is no number of seconds since 1970", word.to_string_lossy()))
+}
+
+fn term_of(word: &OsStr) -> Result<Term, String> {
+    let text = word.to_string_lossy();
+    text.parse().map_err(|error: ParseTermError| format!("'{text}' is {error}"))
+}
+
+/// Why a report by these terms would be refused (24), with the term that is meant.
+fn bad_terms(terms: &[Term]) -> Option<String> {
+    if let Some(term) = terms.iter().find(|term| term.last < term.first) {
+        return Some(format!("the term {term} ends before it starts"));
+    }
+    if let Some(two) = terms.windows(2).find(|two| two[1].first <= two[0].last) {
+        return Some(format!(
+            "the term {} does not start after {} has ended; terms are given in order, and none shares a month",
+            two[1], two[0]
+        ));
+    }
+    (terms.len() > MAX_TERMS).then(|| format!("{} terms are given, and a report takes at most {MAX_TERMS}", terms.len()))
 }
 
 fn count_of(word: &OsStr) -> Result<u64, String> {

@@ -2,7 +2,7 @@
 
 use std::io::{self, Write};
 
-use linenhatch::{store_from_commits, FeedReport, Lister, ObjectId, Refusal};
+use linenhatch::{store_from_commits, FeedReport, Lister, ObjectId, Refusal, Term, TermsReport};
 
 use crate::args::{Args, Report};
 use crate::history::{self, History};
@@ -23,11 +23,11 @@ pub fn report(args: &Args) -> Result<(), String> {
     written(io::stdout().write_all(text.as_bytes()), "report")
 }
 
-/// The commit store that a report needs: a feed report reads messages, so the commits have to fit whole.
+/// The commit store that a report needs: a feed report reads messages, so the commits have to fit whole; seconds stand in the header.
 fn store(args: &Args, commits: Commits) -> Result<Vec<u8>, String> {
     match args.report {
         Some(Report::Feed) => commits.whole.finish().map_err(|too_large| format!("the messages cannot be read at once: {too_large}")),
-        None => history::store(commits),
+        Some(Report::Terms) | None => history::store(commits),
     }
 }
 
@@ -35,6 +35,10 @@ fn store(args: &Args, commits: Commits) -> Result<Vec<u8>, String> {
 fn text(args: &Args, lister: &Lister<'_>) -> Result<String, Refusal> {
     match args.report {
         Some(Report::Feed) => lister.feed_report().map(|report| if args.csv { feed_fields(&report) } else { feed_lines(&report) }),
+        Some(Report::Terms) => {
+            let report = lister.terms_report(&args.terms)?;
+            Ok(if args.csv { term_fields(&args.terms, &report) } else { term_lines(&args.terms, &report) })
+        }
         None => Ok(String::new()),
     }
 }
@@ -65,6 +69,25 @@ fn feed_fields(report: &FeedReport) -> String {
          {},{both},{cone_alone},{bed_alone},{neither},{cone_sum},{bed_sum},{difference},{means}\n",
         report.commits()
     )
+}
+
+fn term_lines(terms: &[Term], report: &TermsReport) -> String {
+    let counts = terms.iter().zip(&report.counts);
+    let counts = counts.map(|(term, &count)| format!("{:<24}{count:>16}, a month {}\n", term.to_string(), decimal(a_month(term, count))));
+    let totals = [("outside", report.outside), ("commits", report.commits())];
+    counts.chain(totals.iter().map(|(what, count)| format!("{what:<24}{count:>16}\n"))).collect()
+}
+
+fn term_fields(terms: &[Term], report: &TermsReport) -> String {
+    let counts = terms.iter().zip(&report.counts);
+    let counts: String =
+        counts.map(|(term, &count)| format!("term,{},{},{count},{}\n", term.first, term.last, decimal(a_month(term, count)))).collect();
+    format!("what,first,last,commits,a_month\n{counts}outside,,,{},\ntotal,,,{},\n", report.outside, report.commits())
+}
+
+/// How many commits there are a month. A term that was counted has one at least.
+fn a_month(term: &Term, count: u64) -> f64 {
+    count as f64 / f64::from(term.months())
 }
 
 fn decimal(mean: f64) -> String {

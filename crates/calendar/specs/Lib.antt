@@ -1,0 +1,4 @@
+pub mod Months
+pub mod Table
+pub mod Terms
+pub mod Search

@@ -1,0 +1,174 @@
+-- What a whole walk is called for, and what its answers come to, one after another. Assumes nothing.
+use Prim.Native.Nat.{ℕ, _+_, _*_, _≤_}
+use mathlib.Core.Path.{_≡_}
+use mathlib.Core.Bool.{Bool, true, false, cond}
+use mathlib.Core.List.{List, [], _∷_}
+use Rattle.hash.specs.Bytes.{Id, idBytes, setDown}
+use Rattle.odb.specs.Store.{storeOk}
+use Rattle.calendar.specs.Terms.{goodTerms}
+use Rattle.feed.specs.declared.FeedOutcome.{FeedOutcome}
+use Rattle.feed.specs.declared.FeedOutcome.the-variants.{Read, Faulty}
+use Rattle.feed.specs.declared.Reading.the-variants.{Absent}
+use Rattle.feed.specs.Feed.{feedOf}
+use Rattle.walk.specs.declared.Outcome.{Outcome}
+use Rattle.walk.specs.declared.Outcome.the-variants.{Commit, End, Refused}
+use Rattle.walk.specs.Next.{Kind, Answer}
+use Rattle.walk.specs.Given.{outcomeOf, idOfKind, callsAfter}
+use Rattle.tally.specs.declared.feeds.Feeds.{Feeds}
+use Rattle.tally.specs.declared.Task.{Task}
+use Rattle.tally.specs.declared.Task.the-variants.{Ids, Feed, Terms}
+use Rattle.tally.specs.declared.Tally.{Tally}
+use Rattle.tally.specs.declared.terms.Spot.{Spot}
+use Rattle.tally.specs.Terms.{termOf, countsAt, outsideAt, FewCounts}
+use Rattle.tally.specs.Feeds.{feedAt, feedsOf, noFeeds, plus, FewFeeds}
+
+-- ---- counted from one call to the next, by the outcome of a call
+
+-- the commits handed out
+abbrev pub commitsAfter : ℕ → Outcome → ℕ
+commitsAfter n Commit = n + 1
+commitsAfter n End = n
+commitsAfter n (Refused r) = n
+
+-- the calls refused
+abbrev pub refusedAfter : ℕ → Outcome → ℕ
+refusedAfter n Commit = n
+refusedAfter n End = n
+refusedAfter n (Refused r) = n + 1
+
+-- a first refusal stays
+abbrev pub reasonOr : Outcome → Outcome → Outcome
+reasonOr Commit o = o
+reasonOr End o = o
+reasonOr (Refused r) o = Refused r
+
+-- the first refusal, or End
+abbrev pub reasonAfter : Outcome → Outcome → Outcome
+reasonAfter first Commit = first
+reasonAfter first End = first
+reasonAfter first (Refused r) = reasonOr first (Refused r)
+
+-- after a commit its id stands behind the n ids before it, where it fits
+abbrev pub idsAfter : List ℕ → ℕ → Outcome → Id → List ℕ
+idsAfter b n Commit x = setDown b (idBytes * n) x
+idsAfter b n End x = b
+idsAfter b n (Refused r) x = b
+
+abbrev pub noTally : Tally
+noTally = record { commits = 0; refused = 0; reason = End; feeds = noFeeds; outside = 0 }
+
+-- the same with other readings
+abbrev pub withFeeds : Tally → Feeds → Tally
+withFeeds t f = record { commits = t .commits; refused = t .refused; reason = t .reason; feeds = f; outside = t .outside }
+
+-- a call more, with these readings
+abbrev pub counted : Tally → Outcome → Feeds → Tally
+counted t o f = record {
+  commits = commitsAfter (t .commits) o;
+  refused = refusedAfter (t .refused) o;
+  reason = reasonAfter (t .reason) o;
+  feeds = f;
+  outside = t .outside;
+}
+
+-- ---- the steps
+
+-- the readings of a body, where one was found
+abbrev pub readIn : Bool → List ℕ → FeedOutcome
+readIn true b = feedOf b
+readIn false b = Read (record { cone = Absent; bed = Absent })
+
+-- a faulty commit counts as a refusal
+abbrev pub fedBy : Tally → Outcome → FeedOutcome → Tally
+fedBy t Commit (Read f) = counted t Commit (plus (t .feeds) (feedsOf (f .cone) (f .bed)))
+fedBy t Commit (Faulty r) = counted t (Refused r) (t .feeds)
+fedBy t End q = t
+fedBy t (Refused r) q = counted t (Refused r) (t .feeds)
+
+-- a commit more, in its term or outside all
+abbrev pub placed : Tally → Spot → Tally
+placed t p = record { commits = t .commits + 1; refused = t .refused; reason = t .reason; feeds = t .feeds; outside = outsideAt (t .outside) p }
+
+abbrev pub placedBy : Tally → Outcome → Spot → Tally
+placedBy t Commit p = placed t p
+placedBy t End p = t
+placedBy t (Refused r) p = counted t (Refused r) (t .feeds)
+
+abbrev pub countsAfter : List ℕ → Outcome → Spot → List ℕ
+countsAfter c Commit p = countsAt c p
+countsAfter c End p = c
+countsAfter c (Refused r) p = c
+
+-- the tally after an answer that came out so and named the id x; s is the store
+abbrev pub stepOf : Task → List ℕ → List ℕ → Tally → Outcome → Id → Tally
+stepOf Ids terms s t o x = counted t o (t .feeds)
+stepOf Feed terms s t o x = fedBy t o (feedAt idBytes s x)
+stepOf Terms terms s t o x = placedBy t o (termOf terms s x)
+
+-- and the caller's buffer of ids
+abbrev pub idsBy : Task → List ℕ → ℕ → Outcome → Id → List ℕ
+idsBy Ids b n o x = idsAfter b n o x
+idsBy Feed b n o x = b
+idsBy Terms b n o x = b
+
+-- and of counts
+abbrev pub countsBy : Task → List ℕ → List ℕ → List ℕ → Outcome → Id → List ℕ
+countsBy Ids terms s c o x = c
+countsBy Feed terms s c o x = c
+countsBy Terms terms s c o x = countsAfter c o (termOf terms s x)
+
+abbrev pub isRefusal : Outcome → Bool
+isRefusal Commit = false
+isRefusal End = false
+isRefusal (Refused r) = true
+
+-- a report ends at its first refusal
+abbrev pub halted : Task → Tally → Bool
+halted Ids t = false
+halted Feed t = isRefusal (t .reason)
+halted Terms t = isRefusal (t .reason)
+
+-- how many of some calls may follow
+abbrev pub callsLeft : Task → Tally → ℕ → Outcome → ℕ
+callsLeft task t n o = cond (halted task t) 0 (callsAfter n o)
+
+-- ---- all answers
+
+-- a tally and the caller's buffers of ids and counts
+pub record Held : Type 0 where
+  pub tally : Tally
+  pub ids : List ℕ
+  pub counts : List ℕ
+
+abbrev pub holding : Tally → List ℕ → List ℕ → Held
+holding t b c = record { tally = t; ids = b; counts = c }
+
+abbrev pub stepped : Task → List ℕ → List ℕ → Held → Kind → Held
+stepped task terms s h k =
+    holding (stepOf task terms s (h .tally) (outcomeOf k) (idOfKind k)) (idsBy task (h .ids) (h .tally .commits) (outcomeOf k) (idOfKind k))
+    (countsBy task terms s (h .counts) (outcomeOf k) (idOfKind k))
+
+-- the step folded over a list of answers
+unfoldable pub folded : Task → List ℕ → List ℕ → Held → List Answer → Held
+folded task terms s h [] = h
+folded task terms s h (a ∷ rest) = folded task terms s (stepped task terms s h (a .kind)) rest
+
+-- ---- how great the numbers are
+
+-- of n calls or fewer
+pub record Few (n : ℕ) (t : Tally) : Type 0 where
+  pub commits : t .commits ≤ n
+  pub refused : t .refused ≤ n
+  pub feeds : FewFeeds n (t .feeds)
+  pub outside : t .outside ≤ n
+
+-- so few that one more fits its number's width
+abbrev pub Low : Tally → Type 0
+Low t = Few 4294967296 t
+
+-- what a step is told over: a store whose layout is whole, a good list of terms, and numbers that one more fits
+pub record Ready (terms s : List ℕ) (t : Tally) (c : List ℕ) : Type 0 where
+  pub store-good : storeOk idBytes s ≡ true
+  pub terms-good : goodTerms terms ≡ true
+  pub low : Low t
+  pub few : FewCounts 4294967296 c

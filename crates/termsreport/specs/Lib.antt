@@ -1,0 +1,4 @@
+pub mod Counts
+pub mod Places
+pub mod Terms
+pub mod Demand
