@@ -1,8 +1,8 @@
 """Document 01's walk, from its words alone, and document 02's cards; the readers of the two files are tools/formats.py, from the same words.
 
 `Files` is what the two files say of an id. `Walk` is an opening and its next calls. Sentences in quotation marks are the documents'.
-`reach` and `Tested` are card 1, `commit_id` and `check_names` card 2, `write_graph` card 4, `feed_report` card 5, `merge_base` cards 8 and 11,
-`terms_report` card 9, `trace` card 12.
+`reach` and `Tested` are card 1, `commit_id` and `check_names` card 2, `write_graph` card 4, `feed_report` cards 5 and 10, `merge_base` cards 8 and
+11, `terms_report` card 9, `trace` card 12.
 """
 import calendar
 import collections
@@ -564,15 +564,28 @@ def handed(walk):
         yield answer.name
 
 
-def feed_report(walk):
+def embargo_refusal(walk, embargoed):
+    """Card 10: "The list of embargoed ids is a list for 2 and 3", in document 01's order: 2 of any file or list, then 3 of any; None where neither is of
+    this list. The walk's own lists are of whole ids here. """
+    if walk.refused == 2 or len(embargoed) > 20 * MOST_IDS:
+        return 2
+    return 3 if len(embargoed) % 20 else None
+
+
+def feed_report(walk, embargoed=b"", outside=False):
     """The number, then runs with both, cone alone, bed alone and neither, the two sums, and cone less bed over paired runs. "A walk's own refusal ends the
     report with that number and zeros." 21 and 22 "at the first such run in walk order …; the report is zeros. Of these and a walk's refusal the earlier
-    call decides." """
+    call decides." Card 10: "The shop's reader sees all; an outside reader is given the id, parents, level, seconds and zone of an embargoed run, and its
+    feed counts as neither reading"; its readings "never cause 21 or 22 there". """
+    early = embargo_refusal(walk, embargoed)
+    if early is not None:
+        return early, [0] * 6, 0
+    withheld = {embargoed[k:k + 20] for k in range(0, len(embargoed), 20)} if outside else set()
     both = cone_alone = bed_alone = neither = cones = beds = less = 0
     try:
         for name in handed(walk):
             # "A commit found only in the graph has no message and counts as neither."
-            cone, bed = feed(walk.files.bodies.get(name, b""))
+            cone, bed = (None, None) if name in withheld else feed(walk.files.bodies.get(name, b""))
             both += cone is not None and bed is not None
             cone_alone += cone is not None and bed is None
             bed_alone += cone is None and bed is not None

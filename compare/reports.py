@@ -1,11 +1,12 @@
 """reports.py LIBRARY.so: the reports over a whole walk by the static library, made into a shared one, and by model.py's, on generated files:
 
-- the feed report (card 5): every number of it, over generate.py's histories with messages that hold readings, none, two of a kind, unreadable ones, and
-  lines that only look so; faulty commits before and after a commit that the walk refuses, and commits that the graph alone has;
+- the feed report (cards 5 and 10): every number of it, over generate.py's histories with messages that hold readings, none, two of a kind, unreadable
+  ones, and lines that only look so; faulty commits before and after a commit that the walk refuses, and commits that the graph alone has; for the shop's
+  reader and for an outside one, with lists of embargoed ids. Pairs of stores that differ in embargoed readings are in embargo.py.
 - the report by terms (card 9): each month of Python's calendar, to the second; and the same histories with seconds at the ends of months, good lists of terms and bad ones.
 
-Each call is also made with a buffer of the memory an element too short, with a ragged or oversize list, and without room for what is reported. After 1
-to 8, and after 24, no lent byte may be altered but the report's own; and no byte beside a buffer ever.
+Each call is also made with a buffer of the memory an element too short, with a ragged or oversize list (of tips and of embargoed ids), and without room
+for what is reported. After 1 to 8, and after 24, no lent byte may be altered but the report's own; and no byte beside a buffer ever.
 
 Prints how many came to each result; ends with status 1 if anything differs. Options: --seed N, --scale N (percent), --feed or --terms alone.
 
@@ -50,9 +51,11 @@ class Call:
     def lent(self):
         return [word for b in self.memory for word in b.words()]
 
-    def feed(self, numbers=6, difference=1):
+    def feed(self, numbers=6, difference=1, embargoed=b"", outside=0):
+        words, part = lend(embargoed)
+        self.kept.append((part, embargoed))
         self.own = [Buffer(ctypes.c_uint64, numbers), Buffer(ctypes.c_int64, difference)]
-        self.result = self.library.linenhatch_feed(*self.inputs, *self.settings, *self.lent(), *(w for b in self.own for w in b.words()))
+        self.result = self.library.linenhatch_feed(*self.inputs, *self.settings, *words, ctypes.c_uint32(outside), *self.lent(), *(w for b in self.own for w in b.words()))
         return self.result
 
     def terms(self, terms, counts, outside=1):
@@ -184,16 +187,37 @@ def before_the_walk(wanted):
 
 def wrong_feed(library, rng, case):
     """None, or what differs; and the result."""
-    wanted = model.feed_report(case.walk())
+    listed, outside = some_embargoed(rng, case), rng.choice((0, 1, 1, 2, 0xFFFFFFFF))
+    wanted = model.feed_report(case.walk(), listed, outside != 0)
     call = Call(library, case)
-    call.feed(*rng.choice(((6, 1), (6, 1), (7, 2))))
+    call.feed(*rng.choice(((6, 1), (6, 1), (7, 2))), listed, outside)
     rest = [0x5C5C5C5C5C5C5C5C] * (len(call.own[0].part) - 6), [0x5C5C5C5C5C5C5C5C] * (len(call.own[1].part) - 1)
     said = wanted[0], wanted[1] + rest[0], [wanted[2]] + rest[1]
     if call.said() != said or not call.sound():
         return "%s for %s" % (call.said(), said), wanted
     if before_the_walk(wanted[0]) and not call.as_lent(call.memory):
         return "memory altered by %d" % wanted[0], wanted
-    return refused_early(library, rng, case, wanted[0], lambda c: c.feed(), lambda c: c.feed(*rng.choice(((5, 1), (6, 0), (0, 0)))), (6, 1)), wanted
+    bad = rng.choice((b"x" * 20 * 1025, b"x" * 20481, b"x" * 19, listed + b"y", listed[:-1] or b"z"))
+    call, number = Call(library, case), model.embargo_refusal(case.walk(), bad)
+    call.feed(6, 1, bad, outside)
+    if call.said() != (number, [0] * 6, [0]) or not call.sound() or not call.as_lent(call.memory):
+        return "%s with an embargoed list of %d bytes, for %d" % (call.said(), len(bad), number), wanted
+    said = refused_early(
+        library, rng, case, wanted[0], lambda c: c.feed(6, 1, listed, outside), lambda c: c.feed(*rng.choice(((5, 1), (6, 0), (0, 0))), listed, outside), (6, 1))
+    return said, wanted
+
+
+def some_embargoed(rng, case):
+    """A list of ids, some of them of the store, some none, some twice; often empty."""
+    names = sorted(case.pair.bodies)
+    share = rng.choice((0, 0.2, 0.5, 1))
+    listed = [name for name in names if rng.random() < share]
+    if listed and rng.random() < 0.3:
+        listed.append(rng.choice(listed))
+    if rng.random() < 0.2:
+        listed.append(bytes(rng.randrange(256) for _ in range(20)))
+    rng.shuffle(listed)
+    return b"".join(listed[:model.MOST_IDS])
 
 
 def wrong_terms(library, rng, case, terms):
@@ -298,7 +322,7 @@ def every_month(library):
 
 def tell(what, results, bad):
     numbers = {key: n for key, n in results.items() if isinstance(key, int)}
-    print("%d %s: %s; %s; each with three calls more: %d differ" % (
+    print("%d %s: %s; %s; each with four calls more: %d differ" % (
         sum(numbers.values()), what, ", ".join("%s %d" % ("whole" if not key else "refused %d" % key, numbers[key]) for key in sorted(numbers)),
         ", ".join("%s %d" % (key, n) for key, n in results.items() if not isinstance(key, int)), bad))
     return bad

@@ -1,8 +1,8 @@
 """make_reports.py DIR: writes DIR/stdin and DIR/stdout, the cases of the program `reportcases` and what it must print.
 
-A case is the report's letter (`f` feed), the settings (big-endian u32s: order, whether a cutoff stands, the mode First; then the
+A case is the reader's letter (`f` the shop's, `o` an outside one), the settings (big-endian u32s: order, whether a cutoff stands, the mode First; then the
 cutoff in 8 bytes), the lengths of the six buffers to lend, those of the six parts, and the parts: store, graph, tips, hidden tips, excluded
-ids, and one that is empty. Before a case stands its own length. What is expected comes from compare/model.py, document 02's words; each hand-made case also says what it should be.
+ids, embargoed ids. Before a case stands its own length. What is expected comes from compare/model.py, document 02's words; each hand-made case also says what it should be.
 """
 import os
 import random
@@ -25,9 +25,9 @@ def lengths(case):
     return [20 * p, p, p, p, 5 * p, 5120]
 
 
-def encoded(letter, case, months, lent):
+def encoded(letter, case, embargoed, lent):
     order = {"breadth": 0, "newest": 1, "oldest": 2}[generate.ORDER[case.sorting]]
-    parts = (case.pair.store, case.pair.graph, b"".join(case.tips), b"".join(case.hidden), b"".join(case.barred), b"".join(map(u32, months)))
+    parts = (case.pair.store, case.pair.graph, b"".join(case.tips), b"".join(case.hidden), b"".join(case.barred), embargoed)
     out = letter + struct.pack(">IIIQ", order, case.sorting >= CUTOFF_NEWEST, case.first, case.cutoff)
     out += b"".join(map(u32, lent)) + b"".join(u32(len(part)) for part in parts) + b"".join(parts)
     assert len(out) <= 65536 and all(n <= most for n, most in zip(lent, (20 * PLACES, PLACES, PLACES, PLACES, 5 * PLACES, 5120)))
@@ -38,16 +38,16 @@ def said(number, numbers):
     return " ".join(["refused %d" % number if number else "whole"] + [str(n) for n in numbers])
 
 
-def feed(case, want=None, lent=None):
+def feed(case, want=None, lent=None, embargoed=b"", outside=False):
     """want: the number, or the seven numbers."""
-    number, numbers, less = model.feed_report(case.walk())
+    number, numbers, less = model.feed_report(case.walk(), embargoed, outside)
     if lent is None:
         lent = lengths(case)
     elif number not in (2, 3, 4, 5, 6):
         number, numbers, less = 1, [0] * 6, 0
     line = said(number, numbers + [less])
     assert want is None or line == (said(want, [0] * 7) if isinstance(want, int) else said(0, want)), (line, want)
-    encoded(b"f", case, (), lent)
+    encoded(b"o" if outside else b"f", case, embargoed, lent)
     lines.append(line)
 
 
@@ -111,6 +111,44 @@ def bodies():
     feed(lone(HEAD, sorting=NEWEST), neither)
 
 
+# ---- card 10
+
+def embargoes():
+    """Both readers: readings withheld, faults that are not met, and the list refused among the others."""
+    one, two = b"Cone-feed: 5\nBed-feed: 3\n", b"Cone-feed: 2\nBed-feed: 10\n"
+    texts = lambda *messages: {name(k + 1): body([name(k + 2)] if k + 1 < len(messages) else [], 100 - k) + text for k, text in enumerate(messages)}
+    two_of = Case(Pair(texts(one, two)), [name(1)])
+    feed(two_of, [2, 0, 0, 0, 7, 13, -6], embargoed=name(2))
+    feed(two_of, [1, 0, 0, 1, 5, 3, 2], embargoed=name(2), outside=True)
+    feed(two_of, [1, 0, 0, 1, 2, 10, -8], embargoed=name(1) + name(9) + name(1), outside=True)     # an id that is none, and a repeated one
+    feed(two_of, [0, 0, 0, 2, 0, 0, 0], embargoed=name(2) + name(1), outside=True)
+    feed(two_of, [2, 0, 0, 0, 7, 13, -6], outside=True)                                            # nothing is embargoed
+    for text, number in ((b"Cone-feed: x", 22), (b"Bed-feed: 1\nBed-feed: 1", 21), (b"Cone-feed: \nCone-feed: \n", 21)):
+        case = Case(Pair(texts(one, text, two)), [name(1)])
+        feed(case, number, embargoed=name(2))                                                      # the shop's reader meets it
+        feed(case, number, embargoed=name(3), outside=True)                                        # another is embargoed
+        feed(case, [2, 0, 0, 1, 7, 13, -6], embargoed=name(2), outside=True)
+    feed(Case(Pair(texts(b"Cone-feed: x", b"Bed-feed: 1\nBed-feed: 1")), [name(1)]), 21, embargoed=name(1), outside=True)
+    lost = Case(Pair({name(1): body([name(2)], 100) + one}), [name(1)])
+    feed(lost, 9, embargoed=name(2), outside=True)                                                 # the walk's own refusal stays
+    row = {name(1): ([name(2)], 2, 100), name(2): ([], 1, 99)}
+    feed(Case(Pair({name(1): body([name(2)], 100) + one}, row), [name(1)]), [0, 0, 0, 2, 0, 0, 0], embargoed=name(1), outside=True)
+    torn = Case(Pair({}, store=b""), [name(1)])
+    for outside in (False, True):
+        feed(two_of, 2, embargoed=b"x" * 20481, outside=outside)                                   # 2 and 3, for either reader
+        feed(two_of, [2, 0, 0, 0, 7, 13, -6], embargoed=b"x" * 20480, outside=outside)
+        for length in (1, 19, 21, 20479):
+            feed(two_of, 3, embargoed=b"x" * length, outside=outside)
+        feed(torn, 2, embargoed=b"x" * 20481, outside=outside)                                     # before 4 and 1
+        feed(torn, 3, embargoed=b"x" * 19, outside=outside)
+        feed(two_of, 3, [0] * 6, embargoed=b"x" * 19, outside=outside)
+        feed(two_of, 1, [0] * 6, embargoed=name(2), outside=outside)
+        for part in ("tips", "hidden", "barred"):
+            over = Case(Pair(texts(one, two)), [name(1)])
+            setattr(over, part, [name(1)] * 1025)
+            feed(over, 2, [0] * 6, embargoed=b"x" * 19, outside=outside)                           # 3 after every 2
+
+
 def several():
     """Several commits: sums, what comes first, and commits without a message."""
     def chain(messages, rows=None, **settings):
@@ -159,11 +197,14 @@ def generated(seed, count):
             case.pair = reports.with_messages(rng, pair, rng.choice([0, 0, 0.1]))
             if case.walk().P <= PLACES:
                 feed(case)
+                listed = [name for name in sorted(pair.bodies) if rng.random() < 0.5]
+                feed(case, embargoed=b"".join(listed), outside=True)
 
 
 def main(out):
     bodies()
     several()
+    embargoes()
     generated(1, 240)
     open(os.path.join(out, "stdin"), "wb").write(b"".join(cases))
     open(os.path.join(out, "stdout"), "w").write("\n".join(lines) + "\n")

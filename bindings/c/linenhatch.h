@@ -24,6 +24,10 @@ extern "C" {
 #define LINENHATCH_NEWEST 1u
 #define LINENHATCH_OLDEST 2u
 
+/* Who a feed report is for. Any other number is an outside reader. */
+#define LINENHATCH_READER_SHOP 0u
+#define LINENHATCH_READER_OUTSIDE 1u
+
 /* ---- sizes of the buffers, in elements; places is what linenhatch_places gives */
 
 #define LINENHATCH_ID_BYTES 20u
@@ -304,6 +308,12 @@ uint32_t linenhatch_write_graph(
  * A message is what follows a commit's first empty line. A line of it that starts with "Cone-feed: " or "Bed-feed: " gives a reading in millimetres, 1 to 10
  * digits up to the line's end, at most 1,000,000,000.
  *
+ * embargoed: a list of ids as the others, and tested as they are for 2 and 3, whoever the report is for; it asks for no places. outside: 0 for the shop's
+ * reader, who sees all; with any other number the report is for an outside reader: a commit on the list counts as one with neither reading, and its
+ * message causes no 21 or 22. So where two stores differ only in the digits of readings of commits on the list, by as many, both reports for an outside
+ * reader are the same, and so are all lists; not so the check of names, which depends on every byte, and nothing is said of the time a call takes or of
+ * what it leaves in its memory.
+ *
  * numbers: see above. difference: one number, the sum of cone less bed over the commits with both readings. Both are set down in every case, zeros
  * after a refusal; where one of them is too short the result is 101, before all other tests, and nothing is altered. names to parents are working memory, of the
  * sizes that an opening asks for: after 1 to 8 not a byte there is altered, else what they hold is free. */
@@ -314,6 +324,8 @@ uint32_t linenhatch_feed(
     const uint8_t *hidden, size_t hidden_len,
     const uint8_t *excluded, size_t excluded_len,
     uint32_t sorting, uint32_t has_cutoff, int64_t cutoff, uint32_t first,
+    const uint8_t *embargoed, size_t embargoed_len,
+    uint32_t outside,
     uint8_t *names, size_t names_len,
     uint8_t *marks, size_t marks_len,
     uint32_t *generations, size_t generations_len,

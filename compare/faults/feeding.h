@@ -1,8 +1,11 @@
-/* A part of faults.c: the feed report over damaged files, other settings and memory that may be too short. numbers and seconds are lent for what it
- * sets down. */
+/* A part of faults.c: the feed report over damaged files, other settings and memory that may be too short, for either reader, with a list or a file of the
+ * call's lent once more as that of embargoed ids, also one that is ragged or oversize. numbers and seconds are lent for what it sets down. */
 
 static uint64_t feedings[15];
 static const uint32_t feeding_result[15] = {0, 1, 2, 3, 4, 5, 6, 7, 8, 9, 10, 11, 21, 22, NO_ROOM};
+static unsigned embargoed; /* which input is lent as the list of embargoed ids */
+static size_t embargoed_n;
+static uint32_t outside;
 
 #ifdef FAULTY
 /* The library spoiled in one way, as in spoiled.h. */
@@ -18,6 +21,8 @@ static uint32_t spoiled_feeding(uint32_t result)
         return 100;
     if (fault == 64 && result == NO_ROOM) /* the number of short memory */
         return SHORT;
+    if (fault == 65 && result == 3) /* a list that is not of whole ids is taken */
+        return 0;
     return result;
 }
 #else
@@ -30,7 +35,7 @@ static uint32_t call_feeding(void)
     return spoiled_feeding(linenhatch_feed(
         input[STORE].at, input[STORE].n, input[GRAPH].at, input[GRAPH].n, input[TIPS].at, input[TIPS].n, input[HIDDEN].at, input[HIDDEN].n,
         input[EXCLUDED].at, input[EXCLUDED].n, settings.sorting, settings.limited, settings.cutoff, settings.first,
-        b[NAMES].at, b[NAMES].count, b[MARKS].at, b[MARKS].count, (uint32_t *)b[GENERATIONS].at, b[GENERATIONS].count,
+        input[embargoed].at, embargoed_n, outside, b[NAMES].at, b[NAMES].count, b[MARKS].at, b[MARKS].count, (uint32_t *)b[GENERATIONS].at, b[GENERATIONS].count,
         (int64_t *)b[TIMES].at, b[TIMES].count, (uint32_t *)b[LINE].at, b[LINE].count, b[PARENTS].at, b[PARENTS].count,
         (uint64_t *)b[NUMBERS].at, b[NUMBERS].count, (int64_t *)b[SECONDS].at, b[SECONDS].count));
 }
@@ -73,6 +78,8 @@ static void check_feeding(uint32_t result)
         known |= result == feeding_result[k];
     if (!known)
         fail("a feed report gives %" PRIu32, result);
+    if (embargoed_n % LINENHATCH_ID_BYTES && result != 2 && result != 3)
+        fail("a feed report with a ragged list of embargoed ids gives %" PRIu32, result);
     for (unsigned k = 0; k < MEMORY && result >= 1 && result <= 8; k++)
         check_same(k, 0, "by a feed report that is refused before the walk");
     check_feeding_report(result);
@@ -111,6 +118,11 @@ static void fed(void)
     referenced = false;
     if (!ask_places())
         return;
+    embargoed = (unsigned)below(INPUTS);
+    embargoed_n = chance(20) ? input[embargoed].n : input[embargoed].n / 20 * 20;
+    if (embargoed_n > 20480 && chance(90))
+        embargoed_n = 20480;
+    outside = chance(50) ? 0 : chance(50) ? 1 : (uint32_t)draw();
     size_lent(places_given, chance(50) ? 0 : 40);
     if (chance(15))
         shorten(NAMES, MEMORY);

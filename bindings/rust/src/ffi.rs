@@ -246,6 +246,9 @@ unsafe extern "C" {
         has_cutoff: u32,
         cutoff: i64,
         first: u32,
+        embargoed: *const u8,
+        embargoed_len: usize,
+        outside: u32,
         names: *mut u8,
         names_len: usize,
         marks: *mut u8,
@@ -536,10 +539,12 @@ pub(crate) fn write_graph(width: u32, store: &[u8], generations: &mut [u32], out
     }
 }
 
-/// The feed report of a whole walk: 0, or the number of the refusal; never 101, as in `open`. The memory's record plays no part.
+/// The feed report of a whole walk, for an outside reader unless `outside` is 0: 0, or the number of the refusal; never 101, as in `open`. The memory's record plays no part.
 pub(crate) fn feed(
     input: &Input<'_>,
     tips: &[u8],
+    embargoed: &[u8],
+    outside: u32,
     memory: &mut Memory,
     numbers: &mut [u64; FEED_NUMBERS],
     difference: &mut [i64; FEED_DIFFERENCES],
@@ -561,6 +566,9 @@ pub(crate) fn feed(
             input.has_cutoff,
             input.cutoff,
             input.first,
+            embargoed.as_ptr(),
+            embargoed.len(),
+            outside,
             memory.names.as_mut_ptr(),
             memory.names.len(),
             memory.marks.as_mut_ptr(),
@@ -784,7 +792,7 @@ mod tests {
                 let result = unsafe {
                     linenhatch_feed(
                         store.as_ptr(), store.len(), list.as_ptr(), 0, list.as_ptr(), 0, list.as_ptr(), 0, list.as_ptr(), 0, 0, 0, 0, 0,
-                        memory.names.as_mut_ptr(), memory.names.len(), memory.marks.as_mut_ptr(), memory.marks.len(), memory.generations.as_mut_ptr(),
+                        list.as_ptr(), 0, 0, memory.names.as_mut_ptr(), memory.names.len(), memory.marks.as_mut_ptr(), memory.marks.len(), memory.generations.as_mut_ptr(),
                         memory.generations.len(), memory.times.as_mut_ptr(), memory.times.len(), memory.line.as_mut_ptr(), memory.line.len(),
                         memory.parents.as_mut_ptr(), memory.parents.len(), numbers.as_mut_ptr(), count, difference.as_mut_ptr(), signed)
                 };

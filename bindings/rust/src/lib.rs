@@ -58,7 +58,7 @@ pub use names::{check_names, Fault};
 pub use order::Order;
 pub use refusal::{NoRoom, Refusal};
 #[cfg(feature = "walk")]
-pub use reports::{FeedReport, TermsReport};
+pub use reports::{FeedReport, Reader, TermsReport};
 pub use store::{header, parents, store_from_commits, StoreBuilder, TooLarge, MAX_FILE_BYTES, MAX_IDS};
 pub use terms::{Month, ParseTermError, Term, MAX_TERMS};
 #[cfg(feature = "walk")]

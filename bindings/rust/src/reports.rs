@@ -1,9 +1,20 @@
 //! Reports over a whole walk.
 
 use crate::ffi::{self, Input, Memory};
+use crate::id::ObjectId;
 use crate::refusal::Refusal;
 use crate::terms::Term;
-use crate::walk::{refusal, Lister};
+use crate::walk::{joined, refusal, Lister};
+
+/// Who a report is for.
+#[derive(Clone, Copy, Debug, Default, PartialEq, Eq, Hash)]
+pub enum Reader {
+    /// The shop's reader, who sees all.
+    #[default]
+    Shop,
+    /// An outside reader, from whom the readings of embargoed commits are withheld.
+    Outside,
+}
 
 /// What the messages of a whole walk's commits say of feeds, in millimetres.
 ///
@@ -73,9 +84,39 @@ impl Lister<'_> {
     /// # Ok::<(), Box<dyn std::error::Error>>(())
     /// ```
     pub fn feed_report(&self) -> Result<FeedReport, Refusal> {
+        self.feed_report_for(Reader::Shop, &[])
+    }
+
+    /// The same for a reader, with a list of embargoed commits.
+    ///
+    /// For an outside reader a commit on the list counts as one with neither reading, and its message causes no 21 or 22. The shop's reader sees all. The
+    /// list is refused with 2 where it has over [`MAX_IDS`](crate::MAX_IDS) ids, whoever the report is for.
+    ///
+    /// Where two stores differ only in the digits of readings of commits on the list, by as many, their reports for an outside reader are the same, and so
+    /// are the lists of a walk. That is no promise about [`check_names`](crate::check_names), which depends on every byte, nor about the time that a call
+    /// takes.
+    ///
+    /// ```
+    /// use linenhatch::{store_from_commits, FeedReport, Lister, ObjectId, Reader};
+    ///
+    /// let head = "tree 0000000000000000000000000000000000000000\nauthor A <a> 5 +0000\ncommitter A <a> 5 +0000\n\n";
+    /// let [one, two] = [1, 2].map(|n| ObjectId([n; 20]));
+    /// let with = |reading| store_from_commits([(one, format!("{head}Cone-feed: 1200\n")), (two, format!("{head}Cone-feed: {reading}\n"))]);
+    /// let (before, after) = (with("0800")?, with("0799")?);
+    ///
+    /// let report = |store, reader| Lister::new(store).tips(&[one, two]).feed_report_for(reader, &[two]);
+    /// let seen = FeedReport { cone_alone: 1, neither: 1, cone_sum: 1200, ..FeedReport::default() };
+    /// assert_eq!(report(&before, Reader::Outside)?, seen);
+    /// assert_eq!(report(&after, Reader::Outside)?, seen);
+    /// assert_eq!(report(&before, Reader::Shop)?.cone_sum, 2000);
+    /// assert_eq!(report(&after, Reader::Shop)?.cone_sum, 1999);
+    /// # Ok::<(), Box<dyn std::error::Error>>(())
+    /// ```
+    pub fn feed_report_for(&self, reader: Reader, embargoed: &[ObjectId]) -> Result<FeedReport, Refusal> {
         let (input, tips) = self.lent();
+        let (embargoed, outside) = (joined(embargoed), u32::from(reader == Reader::Outside));
         let (mut numbers, mut difference) = ([0; ffi::FEED_NUMBERS], [0; ffi::FEED_DIFFERENCES]);
-        with_memory(&input, &tips, |memory| ffi::feed(&input, &tips, memory, &mut numbers, &mut difference))?;
+        with_memory(&input, &tips, |memory| ffi::feed(&input, &tips, &embargoed, outside, memory, &mut numbers, &mut difference))?;
         let ([both, cone_alone, bed_alone, neither, cone_sum, bed_sum], [difference]) = (numbers, difference);
         Ok(FeedReport { both, cone_alone, bed_alone, neither, cone_sum, bed_sum, difference })
     }

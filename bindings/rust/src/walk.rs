@@ -190,7 +190,7 @@ impl<'a> Lister<'a> {
     }
 }
 
-fn joined(ids: &[ObjectId]) -> Vec<u8> {
+pub(crate) fn joined(ids: &[ObjectId]) -> Vec<u8> {
     ids.iter().flat_map(|id| id.0).collect()
 }
 

@@ -326,6 +326,14 @@ fn a_report() {
     assert!(refused("feed --check-names").contains("no option --check-names"));
     assert!(refused("--csv").contains("no option --csv"));
     assert_eq!(task("feed -h"), Ok(Task::Help(args::FEED_HELP)));
+    let args = list("feed --embargo ids --outside a");
+    assert_eq!((args.embargo.as_deref(), args.outside, args.revs), (Some(Path::new("ids")), true, vec![OsString::from("a")]));
+    let args = list("feed --embargo=ids");
+    assert_eq!((args.embargo.as_deref(), args.outside), (Some(Path::new("ids")), false));
+    assert!(list("feed --outside").outside);
+    assert!(refused("feed --embargo").contains("--embargo needs a file of ids"));
+    assert!(refused("--embargo ids").contains("no option --embargo"));
+    assert!(refused("--outside").contains("no option --outside"));
 }
 
 #[test]

@@ -55,7 +55,7 @@ fn the_same_in_both_languages() {
         ("linenhatch_merge_base", 22),
         ("linenhatch_graph_length", 7),
         ("linenhatch_write_graph", 9),
-        ("linenhatch_feed", 30),
+        ("linenhatch_feed", 33),
         ("linenhatch_trace", 13),
         ("linenhatch_terms", 32),
     ] {

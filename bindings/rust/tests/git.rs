@@ -545,6 +545,26 @@ mod tool {
             assert!(report.is_empty() && why.contains(id), "{why}");
         }
         assert_eq!(repository.list("-- feed").len(), 5);
+
+        let written = |name: &str, lines: &str| {
+            let path = repository.dir.join(name);
+            std::fs::write(&path, lines).unwrap();
+            path
+        };
+        let file = written("embargo", &format!("{one}\n\n{bad}\r\n{worse}"));
+        let embargo = format!("feed --csv --embargo {} -- feed", file.display());
+        assert_eq!(repository.list(&embargo.replace("--csv", "--csv --outside"))[1], "5,0,1,0,4,800,0,0,800.000,,");
+        assert!(repository.fails(&embargo).1.contains(&worse));
+        assert!(repository.fails("feed --outside -- feed").1.contains(&worse));
+        for (lines, said) in
+            [(&one[..39], "line 1: '"), ("\nHEAD\n", "line 2: 'HEAD' is no whole id: write one id of 40"), (&*format!("{one} "), "line 1")]
+        {
+            let file = written("bad", lines);
+            assert!(repository.fails(&format!("feed --embargo {}", file.display())).1.contains(said), "{lines}");
+        }
+        let many = written("many", &format!("{one}\n").repeat(1025));
+        assert!(repository.fails(&format!("feed --outside --embargo {}", many.display())).1.contains("1025 commits, and at most 1024"));
+        assert!(repository.fails("feed --embargo no-such-file").1.contains("cannot be read from no-such-file"));
     }
 
     #[test]

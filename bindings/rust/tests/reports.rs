@@ -2,7 +2,7 @@
 
 #![cfg(feature = "walk")]
 
-use linenhatch::{store_from_commits, FeedReport, Lister, Month, ObjectId, Order, Refusal, Term, TermsReport, MAX_TERMS};
+use linenhatch::{store_from_commits, FeedReport, Lister, Month, ObjectId, Order, Reader, Refusal, Term, TermsReport, MAX_IDS, MAX_TERMS};
 
 fn id(n: u8) -> ObjectId {
     ObjectId([n; 20])
@@ -158,6 +158,35 @@ fn bad_lists_of_terms() {
     }
 }
 
+/// What an outside reader is given, and the shop's, with a list of embargoed commits.
+fn for_both(messages: &[&str], embargoed: &[u8]) -> [Result<FeedReport, Refusal>; 2] {
+    let commits: Vec<_> = messages.iter().enumerate().map(|(k, &message)| (100 - k as i64, message)).collect();
+    let (store, listed) = (chain(&commits), embargoed.iter().map(|&n| id(n)).collect::<Vec<_>>());
+    [Reader::Outside, Reader::Shop].map(|reader| Lister::new(&store).tips(&[id(1)]).feed_report_for(reader, &listed))
+}
+
+#[test]
+fn embargoed_readings() {
+    let messages = ["Cone-feed: 5\nBed-feed: 3", "Cone-feed: 7", "Bed-feed: 9"];
+    let all = FeedReport { both: 1, cone_alone: 1, bed_alone: 1, neither: 0, cone_sum: 12, bed_sum: 12, difference: 2 };
+    assert_eq!(for_both(&messages, &[]), [Ok(all), Ok(all)]);
+    let without_two = FeedReport { cone_alone: 0, neither: 1, cone_sum: 5, ..all };
+    assert_eq!(for_both(&messages, &[2]), [Ok(without_two), Ok(all)]);
+    assert_eq!(for_both(&messages, &[9, 2, 2]), [Ok(without_two), Ok(all)]);
+    let nothing = FeedReport { neither: 3, ..FeedReport::default() };
+    assert_eq!(for_both(&messages, &[3, 2, 1]), [Ok(nothing), Ok(all)]);
+}
+
+#[test]
+fn embargoed_faults_are_not_met() {
+    for (text, refusal) in [("Cone-feed: x", Refusal::ReadingUnreadable), ("Bed-feed: 1\nBed-feed: 1", Refusal::ReadingTwice)] {
+        let messages = ["Cone-feed: 5", text];
+        let seen = FeedReport { cone_alone: 1, neither: 1, cone_sum: 5, ..FeedReport::default() };
+        assert_eq!(for_both(&messages, &[2]), [Ok(seen), Err(refusal)]);
+        assert_eq!(for_both(&messages, &[1]), [Err(refusal), Err(refusal)]);
+    }
+}
+
 #[test]
 fn refusals_of_the_walk_by_terms() {
     let store = chain(&[(9, "Cone-feed: x"), (8, "")]);
@@ -167,4 +196,24 @@ fn refusals_of_the_walk_by_terms() {
     assert_eq!(tip(9).terms_report(&january), Err(Refusal::CommitNotFound));
     assert_eq!(tip(9).order(Order::Oldest).terms_report(&january), Err(Refusal::TipNotFound));
     assert_eq!(Lister::new(&store[1..]).terms_report(&january), Err(Refusal::CorruptStore));
+}
+
+#[test]
+fn other_digits_of_embargoed_commits() {
+    let reports = ["0", "7", "9"]
+        .map(|digit| for_both(&[&format!("Cone-feed: 1{digit}"), &format!("Bed-feed: {digit}x\nBed-feed: {digit}")], &[1, 2]));
+    assert!(reports.iter().all(|[outside, _]| *outside == reports[0][0] && outside.is_ok()));
+    let shop = ["0", "7", "9"].map(|digit| for_both(&[&format!("Cone-feed: 1{digit}")], &[1])[1].map(|report| report.cone_sum));
+    assert_eq!(shop, [Ok(10), Ok(17), Ok(19)]);
+}
+
+#[test]
+fn too_many_embargoed_ids() {
+    let store = chain(&[(5, "Cone-feed: 5")]);
+    let lister = Lister::new(&store).tips(&[id(1)]);
+    for reader in [Reader::Shop, Reader::Outside] {
+        assert!(lister.feed_report_for(reader, &vec![id(9); MAX_IDS]).is_ok());
+        assert_eq!(lister.feed_report_for(reader, &vec![id(9); MAX_IDS + 1]), Err(Refusal::InputTooLarge));
+        assert_eq!(Lister::new(&store[..9]).feed_report_for(reader, &vec![id(9); MAX_IDS + 1]), Err(Refusal::InputTooLarge));
+    }
 }

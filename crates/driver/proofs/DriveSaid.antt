@@ -88,35 +88,35 @@ module _ {i : Input} {m : Lent} {o : Opened} {m₁ : Lent} (s : OpenSays i m o m
       good h (opened st) e = passes i (opens i (roomFor i (lengthsOf m)) (sym (ap checkedBy e)) .accepted) .store-good
 
   -- before any call
-  made-none : (task : Task) (terms : List ℕ) (st : State) → openWalk i (roomFor i (lengthsOf m)) ≡ opened st → (ids counts : List ℕ)
-      → Made task terms i (holding noTally ids counts) (m₁ .parents) 0 (beforeCalls o) m₁ ids counts
+  made-none : (task : Task) (embargoed terms : List ℕ) (st : State) → openWalk i (roomFor i (lengthsOf m)) ≡ opened st → (ids counts : List ℕ)
+      → Made task embargoed terms i (holding noTally ids counts) (m₁ .parents) 0 (beforeCalls o) m₁ ids counts
   unfolding parentsLeft
-  made-none task terms st e ids counts = record {
+  made-none task embargoed terms st e ids counts = record {
     accepted = accepted-as st e;
-    held = sym (fold-none task terms (i .store) (holding noTally ids counts) i);
+    held = sym (fold-none task embargoed terms (i .store) (holding noTally ids counts) i);
     parents = ap (λ (l : List Answer). parentsLeft l (m₁ .parents)) (sym (no-answers i));
     reads = s .accepted-open st e;
   }
 
-  module _ {task : Task} (terms : List ℕ) {good : List ℕ} {n : ℕ} {d₀ d : Driven} {m′ : Lent} {ids ids′ : List ℕ} (counts : List ℕ) {c₁ counts′ : List ℕ} (w : good ≡ goodPart terms) (z : c₁ ≡ zeros (length counts))
-      (c : n ≡ mostCalls (o .answer .outcome) (o .record .queue .cap)) (b : d₀ ≡ beforeCalls o) (a : CallsAll task good (filesOf i) n d₀ m₁ ids c₁ d m′ ids′ counts′) where
+  module _ {task : Task} {embargoed : List ℕ} (terms : List ℕ) {good : List ℕ} {n : ℕ} {d₀ d : Driven} {m′ : Lent} {ids ids′ : List ℕ} (counts : List ℕ) {c₁ counts′ : List ℕ} (w : good ≡ goodPart terms) (z : c₁ ≡ zeros (length counts))
+      (c : n ≡ mostCalls (o .answer .outcome) (o .record .queue .cap)) (b : d₀ ≡ beforeCalls o) (a : CallsAll task embargoed good (filesOf i) n d₀ m₁ ids c₁ d m′ ids′ counts′) where
     none-made : (r : Refusal) → openWalk i (roomFor i (lengthsOf m)) ≡ closed r → (d ≡ driven (NotOpened r) noTally closedRecord) × (m′ ≡ m) × (ids′ ≡ ids) × (counts′ ≡ zeros (length counts))
     none-made r e =
         let q = a .no-call (c ∙ ap (λ (x : OpenOutcome). mostCalls x (o .record .queue .cap)) (refused-as r e)) in
         let u = s .refused-open r e in
         (q .0 ∙ b ∙ ap (λ (x : OpenOutcome). driven x noTally (o .record)) (refused-as r e) ∙ ap (driven (NotOpened r) noTally) (u .0), q .1 ∙ u .1, q .2, q .3 ∙ z)
 
-    all-made : (st : State) → openWalk i (roomFor i (lengthsOf m)) ≡ opened st → Drove task (goodPart terms) i (holding noTally ids (zeros (length counts))) (m .parents) d m′ ids′ counts′
+    all-made : (st : State) → openWalk i (roomFor i (lengthsOf m)) ≡ opened st → Drove task embargoed (goodPart terms) i (holding noTally ids (zeros (length counts))) (m .parents) d m′ ids′ counts′
     all-made st e =
         let k : n ≡ P i + 2 = c ∙ ap (λ (x : OpenOutcome). mostCalls x (o .record .queue .cap)) (accepted-as st e) ∙ ap (λ (x : ℕ). x + 2) (opened-cap st e) in
         let h : Held = holding noTally ids c₁ in
-        let v : Drove task good i h (m₁ .parents) d m′ ids′ counts′ =
-        a .all-calls (i .tips) st (ap (λ (x : _). openWalk i (roomFor i x)) (s .same-lengths) ∙ e) k h (subst (λ (x : Driven). Made task good i h (m₁ .parents) 0 x m₁ ids c₁) (sym b) (made-none task good st e ids c₁)) in
-        subst (λ (x : List ℕ). Drove task x i (holding noTally ids (zeros (length counts))) (m .parents) d m′ ids′ counts′) w
-        (subst (λ (x : List ℕ). Drove task good i (holding noTally ids x) (m .parents) d m′ ids′ counts′) z
-        (subst (λ (x : List ℕ). Drove task good i h x d m′ ids′ counts′) (s .same-parents) v))
+        let v : Drove task embargoed good i h (m₁ .parents) d m′ ids′ counts′ =
+        a .all-calls (i .tips) st (ap (λ (x : _). openWalk i (roomFor i x)) (s .same-lengths) ∙ e) k h (subst (λ (x : Driven). Made task embargoed good i h (m₁ .parents) 0 x m₁ ids c₁) (sym b) (made-none task embargoed good st e ids c₁)) in
+        subst (λ (x : List ℕ). Drove task embargoed x i (holding noTally ids (zeros (length counts))) (m .parents) d m′ ids′ counts′) w
+        (subst (λ (x : List ℕ). Drove task embargoed good i (holding noTally ids x) (m .parents) d m′ ids′ counts′) z
+        (subst (λ (x : List ℕ). Drove task embargoed good i h x d m′ ids′ counts′) (s .same-parents) v))
 
-    pub drive-says : Drives task terms i m ids counts d m′ ids′ counts′
+    pub drive-says : Drives task embargoed terms i m ids counts d m′ ids′ counts′
     drive-says = record {
       refused-open = none-made;
       accepted-open = all-made;

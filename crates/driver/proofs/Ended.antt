@@ -35,10 +35,10 @@ set-down-nothing b i =
     (less? (length b) (i + 0))
 
 -- no task makes anything of the end
-step-end : (task : Task) (terms s : List ℕ) (h : Held) → stepped task terms s h end ≡ h
-step-end Ids terms s h = refl
-step-end Feed terms s h = refl
-step-end Terms terms s h = refl
+step-end : (task : Task) (embargoed terms s : List ℕ) (h : Held) → stepped task embargoed terms s h end ≡ h
+step-end Ids embargoed terms s h = refl
+step-end Feed embargoed terms s h = refl
+step-end Terms embargoed terms s h = refl
 
 module _ (i : Input) (st : State) (e : openWalk i true ≡ opened st) where
   -- the answer of call k is that of the walk's next step
@@ -65,8 +65,8 @@ module _ (i : Input) (st : State) (e : openWalk i true ≡ opened st) where
   handed-same k h =
       ap handedIds (answers-more i k) ∙ handed-more (answers i k) (answerAt i k) ∙ ap (λ (q : Kind). handedIds (answers i k) ++ handedBy q) h ∙ append-nil (handedIds (answers i k))
 
-  held-same : (task : Task) (terms s : List ℕ) (q : Held) (k : ℕ) → answerAt i k .kind ≡ end → folded task terms s q (answers i (suc k)) ≡ folded task terms s q (answers i k)
-  held-same task terms s q k h = fold-call task terms s q i k ∙ ap (stepped task terms s (folded task terms s q (answers i k))) h ∙ step-end task terms s (folded task terms s q (answers i k))
+  held-same : (task : Task) (embargoed terms s : List ℕ) (q : Held) (k : ℕ) → answerAt i k .kind ≡ end → folded task embargoed terms s q (answers i (suc k)) ≡ folded task embargoed terms s q (answers i k)
+  held-same task embargoed terms s q k h = fold-call task embargoed terms s q i k ∙ ap (stepped task embargoed terms s (folded task embargoed terms s q (answers i k))) h ∙ step-end task embargoed terms s (folded task embargoed terms s q (answers i k))
 
   parents-same : (k : ℕ) (b : List ℕ) → answerAt i k .parents ≡ [] → parentsLeft (answers i (suc k)) b ≡ parentsLeft (answers i k) b
   unfolding parentsGiven joined
@@ -76,24 +76,24 @@ module _ (i : Input) (st : State) (e : openWalk i true ≡ opened st) where
       ∙ ap (λ (l : List Id). setDown (parentsLeft (answers i k) b) 0 (joined l)) h
       ∙ set-down-nothing (parentsLeft (answers i k) b) 0
 
-  made-more : {task : Task} {terms : List ℕ} {h₀ : Held} {b₀ : List ℕ} {d : Driven} {m : Lent} {ids counts : List ℕ} (k : ℕ) → answerAt i k .kind ≡ end → Made task terms i h₀ b₀ (suc k) d m ids counts → Made task terms i h₀ b₀ (suc (suc k)) d m ids counts
-  made-more {task = task} {terms = terms} {h₀ = h₀} {b₀ = b₀} {d = d} {m = m} k h a =
+  made-more : {task : Task} {embargoed terms : List ℕ} {h₀ : Held} {b₀ : List ℕ} {d : Driven} {m : Lent} {ids counts : List ℕ} (k : ℕ) → answerAt i k .kind ≡ end → Made task embargoed terms i h₀ b₀ (suc k) d m ids counts → Made task embargoed terms i h₀ b₀ (suc (suc k)) d m ids counts
+  made-more {task = task} {embargoed = embargoed} {terms = terms} {h₀ = h₀} {b₀ = b₀} {d = d} {m = m} k h a =
       let b = bare k h in
       record {
         accepted = a .accepted;
-        held = a .held ∙ sym (held-same task terms (i .store) h₀ (suc k) (b .0));
+        held = a .held ∙ sym (held-same task embargoed terms (i .store) h₀ (suc k) (b .0));
         parents = a .parents ∙ sym (parents-same (suc k) b₀ (b .1));
         reads = subst (Reads (d .record) (m .memory) (shapeOf i)) (sym (same-state k h)) (a .reads);
       }
 
-  made-on : {task : Task} {terms : List ℕ} {h₀ : Held} {b₀ : List ℕ} {d : Driven} {m : Lent} {ids counts : List ℕ} (j n : ℕ) → answerAt i j .kind ≡ end → Made task terms i h₀ b₀ (suc j) d m ids counts → Made task terms i h₀ b₀ (suc (j + n)) d m ids counts
-  made-on {task} {terms} {h₀} {b₀} {d} {m} {ids} {counts} j zero h a = let z : suc j ≡ suc (j + 0) = omega arith in subst (λ (k : ℕ). Made task terms i h₀ b₀ k d m ids counts) z a
-  made-on {task} {terms} {h₀} {b₀} {d} {m} {ids} {counts} j (suc n) h a =
+  made-on : {task : Task} {embargoed terms : List ℕ} {h₀ : Held} {b₀ : List ℕ} {d : Driven} {m : Lent} {ids counts : List ℕ} (j n : ℕ) → answerAt i j .kind ≡ end → Made task embargoed terms i h₀ b₀ (suc j) d m ids counts → Made task embargoed terms i h₀ b₀ (suc (j + n)) d m ids counts
+  made-on {task} {embargoed} {terms} {h₀} {b₀} {d} {m} {ids} {counts} j zero h a = let z : suc j ≡ suc (j + 0) = omega arith in subst (λ (k : ℕ). Made task embargoed terms i h₀ b₀ k d m ids counts) z a
+  made-on {task} {embargoed} {terms} {h₀} {b₀} {d} {m} {ids} {counts} j (suc n) h a =
       let z : suc (suc (j + n)) ≡ suc (j + suc n) = omega arith in
-      subst (λ (k : ℕ). Made task terms i h₀ b₀ k d m ids counts) z (made-more (j + n) (stays-from i j (j + n) (omega arith) h) (made-on j n h a))
+      subst (λ (k : ℕ). Made task embargoed terms i h₀ b₀ k d m ids counts) z (made-more (j + n) (stays-from i j (j + n) (omega arith) h) (made-on j n h a))
 
   -- call j said end: what its calls came to is what n calls come to, if n is no fewer
-  pub made-all : {task : Task} {terms : List ℕ} {h₀ : Held} {b₀ : List ℕ} {d : Driven} {m : Lent} {ids counts : List ℕ} (j n : ℕ) → suc j ≤ n → answerAt i j .kind ≡ end → Made task terms i h₀ b₀ (suc j) d m ids counts → Made task terms i h₀ b₀ n d m ids counts
-  made-all {task} {terms} {h₀} {b₀} {d} {m} {ids} {counts} j n g h a =
+  pub made-all : {task : Task} {embargoed terms : List ℕ} {h₀ : Held} {b₀ : List ℕ} {d : Driven} {m : Lent} {ids counts : List ℕ} (j n : ℕ) → suc j ≤ n → answerAt i j .kind ≡ end → Made task embargoed terms i h₀ b₀ (suc j) d m ids counts → Made task embargoed terms i h₀ b₀ n d m ids counts
+  made-all {task} {embargoed} {terms} {h₀} {b₀} {d} {m} {ids} {counts} j n g h a =
       let z : suc (j + (n - suc j)) ≡ n = omega arith in
-      subst (λ (k : ℕ). Made task terms i h₀ b₀ k d m ids counts) z (made-on j (n - suc j) h a)
+      subst (λ (k : ℕ). Made task embargoed terms i h₀ b₀ k d m ids counts) z (made-on j (n - suc j) h a)

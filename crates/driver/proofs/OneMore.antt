@@ -36,15 +36,15 @@ unfolding parentsLeft
 parents-more [] a b = refl
 parents-more (c ∷ l) a b = parents-more l a (parentsGiven c b)
 
-folded-more : (task : Task) (terms s : List ℕ) (h : Held) (l : List Answer) (a : Answer) → folded task terms s h (l ++ (a ∷ [])) ≡ stepped task terms s (folded task terms s h l) (a .kind)
+folded-more : (task : Task) (embargoed terms s : List ℕ) (h : Held) (l : List Answer) (a : Answer) → folded task embargoed terms s h (l ++ (a ∷ [])) ≡ stepped task embargoed terms s (folded task embargoed terms s h l) (a .kind)
 unfolding folded
-folded-more task terms s h [] a = refl
-folded-more task terms s h (b ∷ l) a = folded-more task terms s (stepped task terms s h (b .kind)) l a
+folded-more task embargoed terms s h [] a = refl
+folded-more task embargoed terms s h (b ∷ l) a = folded-more task embargoed terms s (stepped task embargoed terms s h (b .kind)) l a
 
 -- the step over the answers to a call more
-pub fold-call : (task : Task) (terms s : List ℕ) (h : Held) (i : Input) (k : ℕ) → folded task terms s h (answers i (suc k)) ≡ stepped task terms s (folded task terms s h (answers i k)) (answerAt i k .kind)
-fold-call task terms s h i k = ap (folded task terms s h) (answers-more i k) ∙ folded-more task terms s h (answers i k) (answerAt i k)
+pub fold-call : (task : Task) (embargoed terms s : List ℕ) (h : Held) (i : Input) (k : ℕ) → folded task embargoed terms s h (answers i (suc k)) ≡ stepped task embargoed terms s (folded task embargoed terms s h (answers i k)) (answerAt i k .kind)
+fold-call task embargoed terms s h i k = ap (folded task embargoed terms s h) (answers-more i k) ∙ folded-more task embargoed terms s h (answers i k) (answerAt i k)
 
-pub fold-none : (task : Task) (terms s : List ℕ) (h : Held) (i : Input) → folded task terms s h (answers i 0) ≡ h
+pub fold-none : (task : Task) (embargoed terms s : List ℕ) (h : Held) (i : Input) → folded task embargoed terms s h (answers i 0) ≡ h
 unfolding folded
-fold-none task terms s h i = ap (folded task terms s h) (no-answers i)
+fold-none task embargoed terms s h i = ap (folded task embargoed terms s h) (no-answers i)

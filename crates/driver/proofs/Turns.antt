@@ -38,7 +38,7 @@ use Rattle.tally.proofs.Few.{few-up, few-step}
 
 -- ---- one call
 
-module _ {task : Task} {terms : List ℕ} {i : Input} {h₀ : Held} {b₀ : List ℕ} {k : ℕ} {d : Driven} {m : Lent} {ids counts : List ℕ} (a : Made task terms i h₀ b₀ k d m ids counts) (o : Out) (g : o .answer ≡ given (answerAt i k)) where
+module _ {task : Task} {embargoed terms : List ℕ} {i : Input} {h₀ : Held} {b₀ : List ℕ} {k : ℕ} {d : Driven} {m : Lent} {ids counts : List ℕ} (a : Made task embargoed terms i h₀ b₀ k d m ids counts) (o : Out) (g : o .answer ≡ given (answerAt i k)) where
   says : o .answer .outcome ≡ outcomeOf (answerAt i k .kind)
   unfolding given
   says = ap (λ (q : Given). q .outcome) g
@@ -49,18 +49,18 @@ module _ {task : Task} {terms : List ℕ} {i : Input} {h₀ : Held} {b₀ : List
 
   -- its answer is folded, and the tally is that of one call more
   made-next : {d′ : Driven} {m′ : Lent} {ids′ counts′ : List ℕ} {t : Tally} → m′ .parents ≡ parentsGiven (answerAt i k) (m .parents) → Reads (o .record) (m′ .memory) (shapeOf i) (stateAfter i (suc k))
-      → t ≡ stepOf task terms (i .store) (d .tally) (o .answer .outcome) (o .answer .info .id) → d′ ≡ wentOn d t (o .record)
+      → t ≡ stepOf task embargoed terms (i .store) (d .tally) (o .answer .outcome) (o .answer .info .id) → d′ ≡ wentOn d t (o .record)
       → ids′ ≡ idsBy task ids (d .tally .commits) (o .answer .outcome) (o .answer .info .id)
-      → counts′ ≡ countsBy task terms (i .store) counts (o .answer .outcome) (o .answer .info .id) → Made task terms i h₀ b₀ (suc k) d′ m′ ids′ counts′
+      → counts′ ≡ countsBy task terms (i .store) counts (o .answer .outcome) (o .answer .info .id) → Made task embargoed terms i h₀ b₀ (suc k) d′ m′ ids′ counts′
   made-next {d′} {m′} {ids′} {counts′} {t} p r q c w v =
       let s : List ℕ = i .store in
       let x : Kind = answerAt i k .kind in
-      let step : Outcome → Id → Held = λ u y. holding (stepOf task terms s (d .tally) u y) (idsBy task ids (d .tally .commits) u y) (countsBy task terms s counts u y) in
+      let step : Outcome → Id → Held = λ u y. holding (stepOf task embargoed terms s (d .tally) u y) (idsBy task ids (d .tally .commits) u y) (countsBy task terms s counts u y) in
       let one : holding (d′ .tally) ids′ counts′ ≡ step (o .answer .outcome) (o .answer .info .id) = λ j. holding ((ap (λ (z : Driven). z .tally) c ∙ q) j) (w j) (v j) in
-      let two : step (o .answer .outcome) (o .answer .info .id) ≡ stepped task terms s (holding (d .tally) ids counts) x = λ j. step (says j) (names-id j) in
+      let two : step (o .answer .outcome) (o .answer .info .id) ≡ stepped task embargoed terms s (holding (d .tally) ids counts) x = λ j. step (says j) (names-id j) in
       record {
         accepted = ap (λ (z : Driven). z .outcome) c ∙ a .accepted;
-        held = one ∙ two ∙ ap (λ (h : Held). stepped task terms s h x) (a .held) ∙ sym (fold-call task terms s h₀ i k);
+        held = one ∙ two ∙ ap (λ (h : Held). stepped task embargoed terms s h x) (a .held) ∙ sym (fold-call task embargoed terms s h₀ i k);
         parents =
             p
             ∙ ap (parentsGiven (answerAt i k)) (a .parents)
@@ -74,11 +74,11 @@ module _ {task : Task} {terms : List ℕ} {i : Input} {h₀ : Held} {b₀ : List
 abbrev Rest : Task → Input → Tally → ℕ → ℕ → Type 0
 Rest task i t k left = (k + left ≡ P i + 2) ⊎ (((left ≡ 0) × (j : ℕ) × (k ≡ suc j) × (answerAt i j .kind ≡ end)) ⊎ ((left ≡ 0) × (halted task t ≡ true)))
 
-abbrev Along : Task → List ℕ → Input → Held → List ℕ → Driven → Lent → List ℕ → List ℕ → ℕ → Type 0
-Along task terms i h₀ b₀ d m ids counts left = (k : ℕ) × Made task terms i h₀ b₀ k d m ids counts × (k ≤ P i + 2) × Rest task i (d .tally) k left
+abbrev Along : Task → List ℕ → List ℕ → Input → Held → List ℕ → Driven → Lent → List ℕ → List ℕ → ℕ → Type 0
+Along task embargoed terms i h₀ b₀ d m ids counts left = (k : ℕ) × Made task embargoed terms i h₀ b₀ k d m ids counts × (k ≤ P i + 2) × Rest task i (d .tally) k left
 
 -- of n calls at most, `left` may still be made
-pub record Turns (task : Task) (terms : List ℕ) (f : Files) (n : ℕ) (d₀ : Driven) (m₀ : Lent) (ids₀ counts₀ : List ℕ) (d : Driven) (m : Lent) (ids counts : List ℕ) (left : ℕ) : Type 0 where
+pub record Turns (task : Task) (embargoed terms : List ℕ) (f : Files) (n : ℕ) (d₀ : Driven) (m₀ : Lent) (ids₀ counts₀ : List ℕ) (d : Driven) (m : Lent) (ids counts : List ℕ) (left : ℕ) : Type 0 where
   pub spent : ℕ
   pub low : spent + left ≤ n
   pub few : Few spent (d .tally)
@@ -88,9 +88,9 @@ pub record Turns (task : Task) (terms : List ℕ) (f : Files) (n : ℕ) (d₀ : 
   pub long-in : length counts ≡ length counts₀
   pub no-call : n ≡ 0 → (d ≡ d₀) × (m ≡ m₀) × (ids ≡ ids₀) × (counts ≡ counts₀)
   pub along : (tips : List ℕ) (st : State) → openWalk (inputWith f tips) (roomFor (inputWith f tips) (lengthsOf m₀)) ≡ opened st → n ≡ P (inputWith f tips) + 2
-      → (h₀ : Held) → Made task terms (inputWith f tips) h₀ (m₀ .parents) 0 d₀ m₀ ids₀ counts₀ → Along task terms (inputWith f tips) h₀ (m₀ .parents) d m ids counts left
+      → (h₀ : Held) → Made task embargoed terms (inputWith f tips) h₀ (m₀ .parents) 0 d₀ m₀ ids₀ counts₀ → Along task embargoed terms (inputWith f tips) h₀ (m₀ .parents) d m ids counts left
 
-pub turns-start : {task : Task} {terms : List ℕ} {f : Files} {n : ℕ} {d : Driven} {m : Lent} {ids counts : List ℕ} → Few 0 (d .tally) → FewCounts 0 counts → Turns task terms f n d m ids counts d m ids counts n
+pub turns-start : {task : Task} {embargoed terms : List ℕ} {f : Files} {n : ℕ} {d : Driven} {m : Lent} {ids counts : List ℕ} → Few 0 (d .tally) → FewCounts 0 counts → Turns task embargoed terms f n d m ids counts d m ids counts n
 turns-start {n = n} h g = record {
   spent = 0;
   low = omega arith;
@@ -139,18 +139,18 @@ left-on task i t k left h g = go (halted task t) refl
     go true e = inr (inr (refl, e))
     go false e = ⊎-elim (λ y. inl y) (λ y. inr (inl y)) (call-on i k left (answerAt i k .kind) refl h g)
 
-module _ {task : Task} {terms : List ℕ} {f : Files} {n : ℕ} {d₀ : Driven} {m₀ : Lent} {ids₀ counts₀ : List ℕ} {d : Driven} {m : Lent} {ids counts : List ℕ} {left : ℕ} (t : Turns task terms f n d₀ m₀ ids₀ counts₀ d m ids counts left) where
+module _ {task : Task} {embargoed terms : List ℕ} {f : Files} {n : ℕ} {d₀ : Driven} {m₀ : Lent} {ids₀ counts₀ : List ℕ} {d : Driven} {m : Lent} {ids counts : List ℕ} {left : ℕ} (t : Turns task embargoed terms f n d₀ m₀ ids₀ counts₀ d m ids counts left) where
   pub turns-next : {d′ : Driven} {m′ : Lent} {ids′ counts′ : List ℕ} {left′ : ℕ} {y : Tally} (o : Out) → 0 < left → NextSays f (d .record) m o m′
-      → y ≡ stepOf task terms (f .store) (d .tally) (o .answer .outcome) (o .answer .info .id) → d′ ≡ wentOn d y (o .record)
+      → y ≡ stepOf task embargoed terms (f .store) (d .tally) (o .answer .outcome) (o .answer .info .id) → d′ ≡ wentOn d y (o .record)
       → ids′ ≡ idsBy task ids (d .tally .commits) (o .answer .outcome) (o .answer .info .id)
       → counts′ ≡ countsBy task terms (f .store) counts (o .answer .outcome) (o .answer .info .id) → left′ ≡ callsLeft task y left (o .answer .outcome)
-      → Turns task terms f n d₀ m₀ ids₀ counts₀ d′ m′ ids′ counts′ left′
+      → Turns task embargoed terms f n d₀ m₀ ids₀ counts₀ d′ m′ ids′ counts′ left′
   turns-next {d′} {m′} {ids′} {counts′} {left′} {y} o h s q c w x u =
       let a : Outcome = o .answer .outcome in
       record {
         spent = suc (t .spent);
         low = omega (arith, u, left-low task y left a h, t .low);
-        few = subst (Few (suc (t .spent))) (sym (ap (λ (z : Driven). z .tally) c ∙ q)) (few-step task terms (f .store) (t .spent) (d .tally) a (o .answer .info .id) (t .few));
+        few = subst (Few (suc (t .spent))) (sym (ap (λ (z : Driven). z .tally) c ∙ q)) (few-step task embargoed terms (f .store) (t .spent) (d .tally) a (o .answer .info .id) (t .few));
         few-in = subst (FewCounts (suc (t .spent))) (sym x) (few-counts task terms (f .store) (t .spent) counts a (o .answer .info .id) (t .few-in));
         long-in = ap length x ∙ long-counts task terms (f .store) counts a (o .answer .info .id) ∙ t .long-in;
         same-lengths = s .same-lengths ∙ t .same-lengths;
@@ -165,8 +165,8 @@ module _ {task : Task} {terms : List ℕ} {f : Files} {n : ℕ} {d₀ : Driven} 
       }
     where
       went : (tips : List ℕ) (st : State) → openWalk (inputWith f tips) (roomFor (inputWith f tips) (lengthsOf m₀)) ≡ opened st
-          → (h₀ : Held) (k : ℕ) → Made task terms (inputWith f tips) h₀ (m₀ .parents) k d m ids counts → k ≤ P (inputWith f tips) + 2 → k + left ≡ P (inputWith f tips) + 2
-          → Along task terms (inputWith f tips) h₀ (m₀ .parents) d′ m′ ids′ counts′ left′
+          → (h₀ : Held) (k : ℕ) → Made task embargoed terms (inputWith f tips) h₀ (m₀ .parents) k d m ids counts → k ≤ P (inputWith f tips) + 2 → k + left ≡ P (inputWith f tips) + 2
+          → Along task embargoed terms (inputWith f tips) h₀ (m₀ .parents) d′ m′ ids′ counts′ left′
       went tips st e h₀ k b l g =
           let i : Input = inputWith f tips in
           let z = s .opened-call tips k st (ap (λ (v : _). openWalk i (roomFor i v)) (t .same-lengths) ∙ e) (b .reads) in
@@ -177,7 +177,7 @@ module _ {task : Task} {terms : List ℕ} {f : Files} {n : ℕ} {d₀ : Driven} 
             subst (λ (r : Tally). Rest task i r (suc k) left′) (sym (ap (λ (r : Driven). r .tally) c)) (subst (Rest task i y (suc k)) v (left-on task i y k left g h)),
           )
 
-  pub turns-end : left ≤ 0 → CallsAll task terms f n d₀ m₀ ids₀ counts₀ d m ids counts
+  pub turns-end : left ≤ 0 → CallsAll task embargoed terms f n d₀ m₀ ids₀ counts₀ d m ids counts
   turns-end h = record {
     no-call = t .no-call;
     all-calls = λ tips st e z h₀ b.
@@ -190,7 +190,7 @@ module _ {task : Task} {terms : List ℕ} {f : Files} {n : ℕ} {d₀ : Driven} 
         (λ x. record {
           calls = P i + 2;
           few = omega arith;
-          made = made-all i (o .state) (o .opens-true) (x .1) (P i + 2) (omega (arith, x .2, a .2)) (x .3) (subst (λ (k : ℕ). Made task terms i h₀ (m₀ .parents) k d m ids counts) (x .2) (a .1));
+          made = made-all i (o .state) (o .opens-true) (x .1) (P i + 2) (omega (arith, x .2, a .2)) (x .3) (subst (λ (k : ℕ). Made task embargoed terms i h₀ (m₀ .parents) k d m ids counts) (x .2) (a .1));
           whole = λ g. refl;
         })
         (λ x. record { calls = a .0; few = a .2; made = a .1; whole = λ g. clash (x .1) g })

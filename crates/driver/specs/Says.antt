@@ -28,25 +28,25 @@ abbrev pub driven : OpenOutcome → Tally → Record → Driven
 driven outcome t r = record { outcome = outcome; tally = t; «record» = r }
 
 -- k calls of the walk are made and folded: the buffers were h₀'s and parents₀ before them
-pub record Made (task : Task) (terms : List ℕ) (i : Input) (h₀ : Held) (parents₀ : List ℕ) (k : ℕ) (d : Driven) (m : Lent) (ids counts : List ℕ) : Type 0 where
+pub record Made (task : Task) (embargoed terms : List ℕ) (i : Input) (h₀ : Held) (parents₀ : List ℕ) (k : ℕ) (d : Driven) (m : Lent) (ids counts : List ℕ) : Type 0 where
   pub accepted : d .outcome ≡ Accepted
-  pub held : holding (d .tally) ids counts ≡ folded task terms (i .store) h₀ (answers i k)
+  pub held : holding (d .tally) ids counts ≡ folded task embargoed terms (i .store) h₀ (answers i k)
   pub parents : m .parents ≡ parentsLeft (answers i k) parents₀
   pub reads : Reads (d .record) (m .memory) (shapeOf i) (stateAfter i k)
 
 -- of an accepted opening: as many calls as there are, P + 2, unless the task ended before
-pub record Drove (task : Task) (terms : List ℕ) (i : Input) (h₀ : Held) (parents₀ : List ℕ) (d : Driven) (m : Lent) (ids counts : List ℕ) : Type 0 where
+pub record Drove (task : Task) (embargoed terms : List ℕ) (i : Input) (h₀ : Held) (parents₀ : List ℕ) (d : Driven) (m : Lent) (ids counts : List ℕ) : Type 0 where
   pub calls : ℕ
   pub few : calls ≤ P i + 2
-  pub made : Made task terms i h₀ parents₀ calls d m ids counts
+  pub made : Made task embargoed terms i h₀ parents₀ calls d m ids counts
   pub whole : halted task (d .tally) ≡ false → calls ≡ P i + 2
 
 -- drive: refused as the opening is, with nothing tallied and a closed record, and no lent byte altered; or driven. The counts are set to 0 first
-pub record Drives (task : Task) (terms : List ℕ) (i : Input) (m : Lent) (ids counts : List ℕ) (d : Driven) (m′ : Lent) (ids′ counts′ : List ℕ) : Type 0 where
+pub record Drives (task : Task) (embargoed terms : List ℕ) (i : Input) (m : Lent) (ids counts : List ℕ) (d : Driven) (m′ : Lent) (ids′ counts′ : List ℕ) : Type 0 where
   pub refused-open : (r : Refusal) → openWalk i (roomFor i (lengthsOf m)) ≡ closed r
       → (d ≡ driven (NotOpened r) noTally closedRecord) × (m′ ≡ m) × (ids′ ≡ ids) × (counts′ ≡ zeros (length counts))
   pub accepted-open : (st : State) → openWalk i (roomFor i (lengthsOf m)) ≡ opened st
-      → Drove task (goodPart terms) i (holding noTally ids (zeros (length counts))) (m .parents) d m′ ids′ counts′
+      → Drove task embargoed (goodPart terms) i (holding noTally ids (zeros (length counts))) (m .parents) d m′ ids′ counts′
   -- no number passes that of P + 2 calls
   pub few : Few 1048578 (d .tally)
   pub same-lengths : lengthsOf m′ ≡ lengthsOf m
@@ -62,9 +62,9 @@ abbrev pub wentOn : Driven → Tally → Record → Driven
 wentOn d t r = driven (d .outcome) t r
 
 -- call_all, with at most n calls, for the files f: none are made, or all that the task can need
-pub record CallsAll (task : Task) (terms : List ℕ) (f : Files) (n : ℕ) (d : Driven) (m : Lent) (ids counts : List ℕ) (d′ : Driven) (m′ : Lent) (ids′ counts′ : List ℕ) : Type 0 where
+pub record CallsAll (task : Task) (embargoed terms : List ℕ) (f : Files) (n : ℕ) (d : Driven) (m : Lent) (ids counts : List ℕ) (d′ : Driven) (m′ : Lent) (ids′ counts′ : List ℕ) : Type 0 where
   pub no-call : n ≡ 0 → (d′ ≡ d) × (m′ ≡ m) × (ids′ ≡ ids) × (counts′ ≡ counts)
   pub all-calls : (tips : List ℕ) (st : State) → openWalk (inputWith f tips) (roomFor (inputWith f tips) (lengthsOf m)) ≡ opened st → n ≡ P (inputWith f tips) + 2
-      → (h₀ : Held) → Made task terms (inputWith f tips) h₀ (m .parents) 0 d m ids counts → Drove task terms (inputWith f tips) h₀ (m .parents) d′ m′ ids′ counts′
+      → (h₀ : Held) → Made task embargoed terms (inputWith f tips) h₀ (m .parents) 0 d m ids counts → Drove task embargoed terms (inputWith f tips) h₀ (m .parents) d′ m′ ids′ counts′
   pub few : Few n (d′ .tally)
   pub same-lengths : lengthsOf m′ ≡ lengthsOf m

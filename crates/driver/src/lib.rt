@@ -88,11 +88,12 @@ fn call_all(
     line: &mut [u32],
     parents: &mut [u8],
     ids: &mut [u8],
+    embargoed: &[u8],
     terms: &[u32],
     counts: &mut [u64],
 ) -> Driven
     requires { ⌜ (n ≤ 1048578) × Few 0 (first .tally) × (0 < n → storeOk idBytes (now store) ≡ true) × (goodTerms (now terms) ≡ true) × FewCounts 0 (now counts) ⌝ }
-    ensures { λ d. ⌜ CallsAll task (now (terms .entry)) (filesLent (now (store .entry)) (now (graph .entry)) (now (hidden .entry)) (now (excluded .entry)) settings) n first (lentOf (now (names .entry)) (now (marks .entry)) (now (levels .entry)) (now (times .entry)) (now (line .entry)) (now (parents .entry))) (now (ids .entry)) (now (counts .entry)) d (lentOf (now (names .exit)) (now (marks .exit)) (now (levels .exit)) (now (times .exit)) (now (line .exit)) (now (parents .exit))) (now (ids .exit)) (now (counts .exit)) ⌝ }
+    ensures { λ d. ⌜ CallsAll task (now (embargoed .entry)) (now (terms .entry)) (filesLent (now (store .entry)) (now (graph .entry)) (now (hidden .entry)) (now (excluded .entry)) settings) n first (lentOf (now (names .entry)) (now (marks .entry)) (now (levels .entry)) (now (times .entry)) (now (line .entry)) (now (parents .entry))) (now (ids .entry)) (now (counts .entry)) d (lentOf (now (names .exit)) (now (marks .exit)) (now (levels .exit)) (now (times .exit)) (now (line .exit)) (now (parents .exit))) (now (ids .exit)) (now (counts .exit)) ⌝ }
 {
     let mut d = first;
     let mut left = n;
@@ -116,7 +117,7 @@ fn call_all(
         let outcome = answer.outcome;
         let after = o.record;
         let had = d.tally;
-        let t = tally::fold(task, had, answer, store, ids, terms, counts);
+        let t = tally::fold(task, had, answer, store, ids, embargoed, terms, counts);
         d = went_on(d, t, after);
         left = tally::calls_left(task, t, left, outcome);
     }
@@ -124,7 +125,7 @@ fn call_all(
 }
 
 // Opens a walk and calls it to its end, or to the end of its task. The ids are altered by the task Ids alone; the counts are set to 0, and counted
-// up by the task Terms alone. Terms that are not a good list count as none.
+// up by the task Terms alone. Terms that are not a good list count as none. The task Feed withholds the readings of the embargoed ids.
 pub fn drive(
     task: Task,
     store: &[u8],
@@ -140,10 +141,11 @@ pub fn drive(
     line: &mut [u32],
     parents: &mut [u8],
     ids: &mut [u8],
+    embargoed: &[u8],
     terms: &[u32],
     counts: &mut [u64],
 ) -> Driven
-    ensures { λ d. ⌜ Drives task (now (terms .entry)) (inputOf (now (store .entry)) (now (graph .entry)) (now (tips .entry)) (now (hidden .entry)) (now (excluded .entry)) settings) (lentOf (now (names .entry)) (now (marks .entry)) (now (levels .entry)) (now (times .entry)) (now (line .entry)) (now (parents .entry))) (now (ids .entry)) (now (counts .entry)) d (lentOf (now (names .exit)) (now (marks .exit)) (now (levels .exit)) (now (times .exit)) (now (line .exit)) (now (parents .exit))) (now (ids .exit)) (now (counts .exit)) ⌝ }
+    ensures { λ d. ⌜ Drives task (now (embargoed .entry)) (now (terms .entry)) (inputOf (now (store .entry)) (now (graph .entry)) (now (tips .entry)) (now (hidden .entry)) (now (excluded .entry)) settings) (lentOf (now (names .entry)) (now (marks .entry)) (now (levels .entry)) (now (times .entry)) (now (line .entry)) (now (parents .entry))) (now (ids .entry)) (now (counts .entry)) d (lentOf (now (names .exit)) (now (marks .exit)) (now (levels .exit)) (now (times .exit)) (now (line .exit)) (now (parents .exit))) (now (ids .exit)) (now (counts .exit)) ⌝ }
 {
     let good = tally::terms::good_part(terms);
     tally::terms::clear(counts);
@@ -177,6 +179,7 @@ pub fn drive(
         line,
         parents,
         ids,
+        embargoed,
         good,
         counts,
     )

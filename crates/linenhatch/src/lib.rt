@@ -10,7 +10,7 @@ ghost use Rattle.opening.specs.Checks.{inputOf, lengthsOf};
 ghost use Rattle.reach.specs.Memory.{lent};
 ghost use Rattle.tracewire.specs.Wire.{LibraryTrace};
 ghost use Rattle.mergewire.specs.Wire.{LibraryMergeBase};
-ghost use Rattle.reportwire.specs.Feed.{LibraryFeed};
+ghost use Rattle.reportwire.specs.Feed.{readerOf, LibraryFeed};
 ghost use Rattle.reportwire.specs.Terms.{LibraryTerms};
 ghost use Rattle.graphwire.specs.Wire.{kindOf, LibraryMeasures, LibraryWrites};
 ghost use Rattle.traverse.specs.Open.{lentOf};
@@ -275,10 +275,11 @@ pub extern "C" fn linenhatch_write_graph(
     graphwire::write_graph(width, store, levels, output, numbers)
 }
 
-// The feed report of a whole walk (document 02, card 5): the result is 0, six numbers are the commits with both readings, the cone's alone, the
-// bed's alone and neither, and the sums of all readings of the cone and of the bed, and the signed number is the sum of cone less bed over those with
-// both; else the number of the refusal, and zeros. After 1 to 8 the lent memory is as it was. Where there is no room for the numbers the
-// result is 101: nothing is read, and nothing is altered.
+// The feed report of a whole walk (document 02, cards 5 and 10): the result is 0, six numbers are the commits with both readings, the cone's alone,
+// the bed's alone and neither, and the sums of all readings of the cone and of the bed, and the signed number is the sum of cone less bed over those
+// with both; else the number of the refusal, and zeros. Where outside is 0 the report is for the shop's reader, who sees all; with any other number it is
+// for an outside one, and each embargoed id counts as a commit with neither reading. The list of embargoed ids is one for 2 and 3, for both. After 1
+// to 8 the lent memory is as it was. Where there is no room for the numbers the result is 101: nothing is read, and nothing is altered.
 #[no_mangle]
 pub extern "C" fn linenhatch_feed(
     store: &[u8],
@@ -290,6 +291,8 @@ pub extern "C" fn linenhatch_feed(
     limited: u32,
     cutoff: i64,
     first: u32,
+    embargoed: &[u8],
+    outside: u32,
     names: &mut [u8],
     marks: &mut [u8],
     levels: &mut [u32],
@@ -299,7 +302,7 @@ pub extern "C" fn linenhatch_feed(
     numbers: &mut [u64],
     difference: &mut [i64],
 ) -> u32
-    ensures { λ n. ⌜ LibraryFeed (inputOf (now (store .entry)) (now (graph .entry)) (now (tips .entry)) (now (hidden .entry)) (now (excluded .entry)) (settingsOf sorting limited cutoff first)) (lentOf (now (names .entry)) (now (marks .entry)) (now (levels .entry)) (now (times .entry)) (now (line .entry)) (now (parents .entry))) (lentOf (now (names .exit)) (now (marks .exit)) (now (levels .exit)) (now (times .exit)) (now (line .exit)) (now (parents .exit))) (now (numbers .entry)) (now (numbers .exit)) (now (difference .entry)) (now (difference .exit)) n ⌝ }
+    ensures { λ n. ⌜ LibraryFeed (readerOf outside) (now (embargoed .entry)) (inputOf (now (store .entry)) (now (graph .entry)) (now (tips .entry)) (now (hidden .entry)) (now (excluded .entry)) (settingsOf sorting limited cutoff first)) (lentOf (now (names .entry)) (now (marks .entry)) (now (levels .entry)) (now (times .entry)) (now (line .entry)) (now (parents .entry))) (lentOf (now (names .exit)) (now (marks .exit)) (now (levels .exit)) (now (times .exit)) (now (line .exit)) (now (parents .exit))) (now (numbers .entry)) (now (numbers .exit)) (now (difference .entry)) (now (difference .exit)) n ⌝ }
 {
     reportwire::feed(
         store,
@@ -311,6 +314,8 @@ pub extern "C" fn linenhatch_feed(
         limited,
         cutoff,
         first,
+        embargoed,
+        outside,
         names,
         marks,
         levels,

@@ -23,7 +23,7 @@ pub record Counts (ids₀ : List ℕ) (l : List Answer) (h : Held) : Type 0 wher
   pub reason : h .tally .reason ≡ firstRefusal l
   pub put-down : h .ids ≡ putDown ids₀ 0 (handedIds l)
 
-module _ (i : Input) (ids₀ terms counts₀ : List ℕ) where
+module _ (i : Input) (ids₀ embargoed terms counts₀ : List ℕ) where
   counts-none : Counts ids₀ (answers i 0) (holding noTally ids₀ counts₀)
   unfolding handedIds refusals firstRefusal putDown
   counts-none = record {
@@ -33,7 +33,7 @@ module _ (i : Input) (ids₀ terms counts₀ : List ℕ) where
     put-down = ap (λ (l : List Answer). putDown ids₀ 0 (handedIds l)) (sym (no-answers i));
   }
 
-  counts-next : (k : ℕ) (h : Held) → Counts ids₀ (answers i k) h → Counts ids₀ (answers i (suc k)) (stepped Ids terms (i .store) h (answerAt i k .kind))
+  counts-next : (k : ℕ) (h : Held) → Counts ids₀ (answers i k) h → Counts ids₀ (answers i (suc k)) (stepped Ids embargoed terms (i .store) h (answerAt i k .kind))
   counts-next k h d =
       let a : Answer = answerAt i k in
       let e : handedIds (answers i (suc k)) ≡ handedIds (answers i k) ++ handedBy (a .kind) = ap handedIds (answers-more i k) ∙ handed-more (answers i k) a in
@@ -56,8 +56,8 @@ module _ (i : Input) (ids₀ terms counts₀ : List ℕ) where
             ∙ ap (putDown ids₀ 0) (sym e);
       }
 
-  pub counts-all : (k : ℕ) → Counts ids₀ (answers i k) (folded Ids terms (i .store) (holding noTally ids₀ counts₀) (answers i k))
-  counts-all zero = subst (Counts ids₀ (answers i 0)) (sym (fold-none Ids terms (i .store) (holding noTally ids₀ counts₀) i)) counts-none
+  pub counts-all : (k : ℕ) → Counts ids₀ (answers i k) (folded Ids embargoed terms (i .store) (holding noTally ids₀ counts₀) (answers i k))
+  counts-all zero = subst (Counts ids₀ (answers i 0)) (sym (fold-none Ids embargoed terms (i .store) (holding noTally ids₀ counts₀) i)) counts-none
   counts-all (suc k) =
-      subst (Counts ids₀ (answers i (suc k))) (sym (fold-call Ids terms (i .store) (holding noTally ids₀ counts₀) i k))
-      (counts-next k (folded Ids terms (i .store) (holding noTally ids₀ counts₀) (answers i k)) (counts-all k))
+      subst (Counts ids₀ (answers i (suc k))) (sym (fold-call Ids embargoed terms (i .store) (holding noTally ids₀ counts₀) i k))
+      (counts-next k (folded Ids embargoed terms (i .store) (holding noTally ids₀ counts₀) (answers i k)) (counts-all k))

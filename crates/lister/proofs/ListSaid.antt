@@ -27,7 +27,7 @@ use Rattle.lister.specs.Says.{listing, Whole, ListSays, listingOf}
 use Rattle.lister.proofs.SetDown.{put-down-all}
 use Rattle.lister.proofs.Ids.{Counts, counts-all}
 
-module _ {i : Input} {m : Lent} {d : Driven} {l : Listing} {m′ : Lent} {terms ids counts ids′ counts′ : List ℕ} (s : Drives Ids terms i m ids counts d m′ ids′ counts′) (b : l ≡ listingOf d) where
+module _ {i : Input} {m : Lent} {d : Driven} {l : Listing} {m′ : Lent} {embargoed terms ids counts ids′ counts′ : List ℕ} (s : Drives Ids embargoed terms i m ids counts d m′ ids′ counts′) (b : l ≡ listingOf d) where
   refused : (r : Refusal) → openWalk i (roomFor i (lengthsOf m)) ≡ closed r → (l ≡ listing (NotOpened r) closedRecord) × (m′ ≡ m) × (ids′ ≡ ids)
   refused r e = let u = s .refused-open r e in (b ∙ ap listingOf (u .0), u .1, u .2)
 
@@ -36,9 +36,9 @@ module _ {i : Input} {m : Lent} {d : Driven} {l : Listing} {m′ : Lent} {terms 
   accepted st e =
       let v = s .accepted-open st e in
       let h : Held = holding noTally ids (zeros (length counts)) in
-      let a : Made Ids (goodPart terms) i h (m .parents) (P i + 2) d m′ ids′ counts′ =
-      subst (λ (k : ℕ). Made Ids (goodPart terms) i h (m .parents) k d m′ ids′ counts′) (v .whole refl) (v .made) in
-      let c : Counts ids (answers i (P i + 2)) (holding (d .tally) ids′ counts′) = subst (Counts ids (answers i (P i + 2))) (sym (a .held)) (counts-all i ids (goodPart terms) (zeros (length counts)) (P i + 2)) in
+      let a : Made Ids embargoed (goodPart terms) i h (m .parents) (P i + 2) d m′ ids′ counts′ =
+      subst (λ (k : ℕ). Made Ids embargoed (goodPart terms) i h (m .parents) k d m′ ids′ counts′) (v .whole refl) (v .made) in
+      let c : Counts ids (answers i (P i + 2)) (holding (d .tally) ids′ counts′) = subst (Counts ids (answers i (P i + 2))) (sym (a .held)) (counts-all i ids embargoed (goodPart terms) (zeros (length counts)) (P i + 2)) in
       let w = opens i (roomFor i (lengthsOf m)) (sym (ap checkedBy e)) in
       let y : idBytes * 0 ≡ 0 = omega arith in
       let z : length ids / idBytes - 0 ≡ length ids / idBytes = omega arith in

@@ -60,7 +60,8 @@ pub fn list(
 ) -> Listing
     ensures { λ l. ⌜ ListSays (inputOf (now (store .entry)) (now (graph .entry)) (now (tips .entry)) (now (hidden .entry)) (now (excluded .entry)) settings) (lentOf (now (names .entry)) (now (marks .entry)) (now (levels .entry)) (now (times .entry)) (now (line .entry)) (now (parents .entry))) (now (ids .entry)) l (lentOf (now (names .exit)) (now (marks .exit)) (now (levels .exit)) (now (times .exit)) (now (line .exit)) (now (parents .exit))) (now (ids .exit)) ⌝ }
 {
-    // Nothing is counted by terms.
+    // No reading is withheld, and nothing is counted by terms.
+    let embargoed = [0u8; 1];
     let terms = [0u32; 1];
     let mut counts = [0u64; 1];
     listing_of(driver::drive(
@@ -78,6 +79,7 @@ pub fn list(
         line,
         parents,
         ids,
+        &embargoed,
         &terms,
         &mut counts,
     ))

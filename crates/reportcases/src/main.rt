@@ -1,8 +1,9 @@
 // Makes the report of each case of standard input, and prints it: `whole` or `refused` and the number, then the report's numbers.
-// A case is the report's letter, the settings, the lengths of the six buffers to lend and the parts; before it stands its own length, at most 65,536.
+// A case is the reader's letter, the settings, the lengths of the six buffers to lend and the parts; before it stands its own length, at most 65,536.
 // tools/make_reports.py says where each stands, and makes them.
 use libc::STDOUT_FILENO;
 use reports::FeedReport;
+use reports::Reader;
 use reports::Reported;
 use walk::Settings;
 ghost use Prim.Native.Nat.{_≤_, _<_};
@@ -87,6 +88,15 @@ fn settings(head: &[u8]) -> Settings {
     )
 }
 
+// Who the report of a case is for.
+fn reader(head: &[u8]) -> Reader {
+    if 0 < head.len() && head[0] == b'o' {
+        Reader::Outside
+    } else {
+        Reader::Shop
+    }
+}
+
 // The feed report of a case.
 fn run_feed(
     input: &[u8],
@@ -102,6 +112,7 @@ fn run_feed(
     let t = number_at(input, 53);
     let h = number_at(input, 57);
     let e = number_at(input, 61);
+    let b = number_at(input, 65);
     print_feed(reports::feed_report(
         hash::part(input, 69, s),
         hash::part(input, 69 + s, g),
@@ -109,6 +120,8 @@ fn run_feed(
         hash::part(input, 69 + s + g + t, h),
         hash::part(input, 69 + s + g + t + h, e),
         settings(input),
+        hash::part(input, 69 + s + g + t + h + e, b),
+        reader(input),
         names,
         marks,
         levels,

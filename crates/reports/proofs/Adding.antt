@@ -13,7 +13,7 @@ use Rattle.feed.specs.declared.FeedOutcome.{FeedOutcome}
 use Rattle.feed.specs.declared.FeedOutcome.the-variants.{Read, Faulty}
 use Rattle.walk.specs.declared.Refusal.{Refusal}
 use Rattle.tally.specs.declared.feeds.Feeds.{Feeds}
-use Rattle.tally.specs.Feeds.{feedAt, noFeeds, feedsOf, feedsIn, plus, feedsOver}
+use Rattle.tally.specs.Feeds.{noFeeds, feedsOf, feedsIn, plus, feedsOver}
 use Rattle.reports.specs.Report.{faultIn}
 use Rattle.reports.specs.Demand.{faultOver}
 
@@ -32,10 +32,10 @@ plus-assoc : (a b c : Feeds) → plus a (plus b c) ≡ plus (plus a b) c
 plus-assoc a b c = same-feeds (plus a (plus b c)) (plus (plus a b) c) (omega arith) (omega arith) (omega arith) (omega arith) (omega arith) (omega arith) (omega arith) (omega arith)
 
 -- one commit more
-pub over-more : (w : ℕ) (s : List ℕ) (l : List Id) (x : Id) → feedsOver w s (l ++ (x ∷ [])) ≡ plus (feedsOver w s l) (feedsIn (feedAt w s x))
+pub over-more : (f : Id → FeedOutcome) (l : List Id) (x : Id) → feedsOver f (l ++ (x ∷ [])) ≡ plus (feedsOver f l) (feedsIn (f x))
 unfolding feedsOver
-over-more w s [] x = plus-last (feedsIn (feedAt w s x)) noFeeds
-over-more w s (y ∷ l) x = ap (plus (feedsIn (feedAt w s y))) (over-more w s l x) ∙ plus-assoc (feedsIn (feedAt w s y)) (feedsOver w s l) (feedsIn (feedAt w s x))
+over-more f [] x = plus-last (feedsIn (f x)) noFeeds
+over-more f (y ∷ l) x = ap (plus (feedsIn (f y))) (over-more f l x) ∙ plus-assoc (feedsIn (f y)) (feedsOver f l) (feedsIn (f x))
 
 -- ---- four numbers
 
@@ -57,9 +57,9 @@ two-none none q e = (refl, e)
 two-none (some r) q e = no-some (sym e)
 
 -- each commit that is not faulty is in one of them
-pub four-all : (w : ℕ) (s : List ℕ) (l : List Id) → faultOver w s l ≡ none → four (feedsOver w s l) ≡ length l
+pub four-all : (f : Id → FeedOutcome) (l : List Id) → faultOver f l ≡ none → four (feedsOver f l) ≡ length l
 unfolding feedsOver faultOver
-four-all w s [] e = refl
-four-all w s (x ∷ l) e =
-    let k = two-none (faultIn (feedAt w s x)) (faultOver w s l) e in
-    omega (arith, one-in (feedAt w s x) (k .0), four-all w s l (k .1))
+four-all f [] e = refl
+four-all f (x ∷ l) e =
+    let k = two-none (faultIn (f x)) (faultOver f l) e in
+    omega (arith, one-in (f x) (k .0), four-all f l (k .1))

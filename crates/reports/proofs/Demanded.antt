@@ -1,5 +1,5 @@
 -- The four numbers add up, since each commit that is not faulty is in one of them; and under the premises the report is that of the third demand's
--- list, which the whole walk hands out. Assumes nothing.
+-- list, which the whole walk hands out. The shop's reader has nothing withheld, an outside one the embargoed readings. Assumes nothing.
 use mathlib.Core.Path.{_≡_, refl, sym, _∙_, ap}
 use Prim.Native.Nat.{ℕ, _+_, _≤_}
 use mathlib.Core.Bool.{true}
@@ -7,7 +7,8 @@ use mathlib.Core.Option.{Option, none, some}
 use mathlib.Core.List.{List}
 use native.Mathlib.Omega.{arith}
 use lib.ListN.{length}
-use Rattle.hash.specs.Bytes.{Id, idBytes}
+use Rattle.hash.specs.Bytes.{Id, idBytes, among, idsOf}
+use Rattle.feed.specs.declared.FeedOutcome.{FeedOutcome}
 use Rattle.walk.specs.declared.Refusal.{Refusal}
 use Rattle.walk.specs.Opening.{Input, walkOf, listIds, refusal, P, roomFor, Opening, closed, opened, openWalk}
 use Rattle.walk.specs.Next.{Answer}
@@ -16,16 +17,20 @@ use Rattle.walk.specs.Demand.{Premises}
 use Rattle.walk.proofs.Calls.{answers-at}
 use Rattle.traverse.specs.Contract.{Lent, lengthsOf}
 use Rattle.traverse.proofs.Numbered.{length-upTo}
-use Rattle.tally.specs.Feeds.{feedsOver}
+use Rattle.tally.specs.Feeds.{noReading, feedAt, feedsOver}
+use Rattle.tally.proofs.Steps.{held-back, none-held}
 use Rattle.driver.specs.Walked.{allAnswers, wholeList}
 use Rattle.driver.proofs.Whole.{listed-whole}
+use Rattle.reports.specs.declared.Reader.{Reader}
+use Rattle.reports.specs.declared.Reader.the-variants.{Shop, Outside}
 use Rattle.reports.specs.declared.Reported.{Reported}
 use Rattle.reports.specs.declared.Reported.the-variants.{Whole, Refused}
 use Rattle.reports.specs.declared.FeedReport.{FeedReport}
-use Rattle.reports.specs.Report.{refusedReport, firstFault, reportFrom, feedReport, FeedSays}
-use Rattle.reports.specs.Demand.{faultOver, OfListed, FeedDemand}
+use Rattle.reports.specs.Report.{refusedReport, faultIn, firstFault, reportFrom, reportBy, readingsFor, feedReport, goodList, openEmbargoed, FeedSays}
+use Rattle.reports.specs.Demand.{faultOver, OfListed, ShopSays, FeedDemand, ReadersGiven}
 use Rattle.reports.proofs.Adding.{four-all}
 use Rattle.reports.proofs.Faults.{none-faulty, hands-fault}
+use Rattle.reports.proofs.Embargoed.{good-opens}
 
 abbrev four : FeedReport → ℕ
 four r = r .both + r .cone + r .bed + r .neither
@@ -34,27 +39,31 @@ not-whole {ℓ} : {X : Type ℓ} (q : Refusal) → Refused q ≡ Whole → X
 not-whole q e = let z : _≡_ {A = ℕ} 0 1 = cc in absurd (omega arith)
 
 -- a whole report of a walk
-whole-four : (i : Input) → feedReport i .outcome ≡ Whole → four (feedReport i) ≡ length (wholeList i)
-unfolding feedReport wholeList
-whole-four i o = go (firstFault idBytes (i .store) (allAnswers i)) refl o
+whole-four : (f : Id → FeedOutcome) (i : Input) → reportBy f i .outcome ≡ Whole → four (reportBy f i) ≡ length (wholeList i)
+unfolding reportBy wholeList
+whole-four f i o = go (firstFault f (allAnswers i)) refl o
   where
-    go : (f : Option Refusal) → firstFault idBytes (i .store) (allAnswers i) ≡ f → reportFrom f (feedsOver idBytes (i .store) (wholeList i)) .outcome ≡ Whole
-        → four (reportFrom f (feedsOver idBytes (i .store) (wholeList i))) ≡ length (wholeList i)
-    go none h w = four-all idBytes (i .store) (wholeList i) (none-faulty idBytes (i .store) (allAnswers i) h)
+    go : (q : Option Refusal) → firstFault f (allAnswers i) ≡ q → reportFrom q (feedsOver f (wholeList i)) .outcome ≡ Whole
+        → four (reportFrom q (feedsOver f (wholeList i))) ≡ length (wholeList i)
+    go none h w = four-all f (wholeList i) (none-faulty f (allAnswers i) h)
     go (some q) h w = not-whole q w
 
-module _ (i : Input) (m : Lent) (r : FeedReport) (m′ : Lent) (s : FeedSays i m r m′) where
+module _ (reader : Reader) (e : List ℕ) (i : Input) (m : Lent) (r : FeedReport) (m′ : Lent) (s : FeedSays reader e i m r m′) where
   adds : r .outcome ≡ Whole → four r ≡ length (wholeList i)
-  adds o = go (openWalk i (roomFor i (lengthsOf m))) refl
-    where
-      go : (w : Opening) → openWalk i (roomFor i (lengthsOf m)) ≡ w → four r ≡ length (wholeList i)
-      go (closed q) e = not-whole q (sym (ap (λ (x : FeedReport). x .outcome) (s .refused-open q e .0)) ∙ o)
-      go (opened st) e = let k = s .accepted-open st e in ap four k ∙ whole-four i (sym (ap (λ (x : FeedReport). x .outcome) k) ∙ o)
-
-  of-listed : refusal i ≡ none → roomFor i (lengthsOf m) ≡ true → Premises (walkOf i) (listIds (i .tips)) → OfListed i r
   unfolding feedReport
-  of-listed e room pre =
-      let q = listed-whole i e pre in
+  adds o = go (openEmbargoed i e (roomFor i (lengthsOf m))) refl
+    where
+      go : (w : Opening) → openEmbargoed i e (roomFor i (lengthsOf m)) ≡ w → four r ≡ length (wholeList i)
+      go (closed q) h = not-whole q (sym (ap (λ (x : FeedReport). x .outcome) (s .refused-open q h .0)) ∙ o)
+      go (opened st) h =
+          let k = s .accepted-open st h in
+          ap four k ∙ whole-four (readingsFor reader e (i .store)) i (sym (ap (λ (x : FeedReport). x .outcome) k) ∙ o)
+
+  of-listed : goodList e ≡ true → refusal i ≡ none → roomFor i (lengthsOf m) ≡ true → Premises (walkOf i) (listIds (i .tips)) → OfListed reader e i r
+  unfolding feedReport reportBy
+  of-listed good none-refused room pre =
+      let q = listed-whole i none-refused pre in
+      let f : Id → FeedOutcome = readingsFor reader e (i .store) in
       let d = q .0 in
       let n : length (allAnswers i) ≡ P i + 2 = ap (λ (x : List Answer). length x) (answers-at i (P i + 2)) ∙ length-upTo (answerAt i) (P i + 2) in
       record {
@@ -62,10 +71,32 @@ module _ (i : Input) (m : Lent) (r : FeedReport) (m′ : Lent) (s : FeedSays i m
         no-repeats = d .different;
         exactly = d .exactly;
         is =
-            s .accepted-open (d .state) (ap (openWalk i) room ∙ d .accepted)
-            ∙ ap (λ (f : Option Refusal). reportFrom f (feedsOver idBytes (i .store) (wholeList i))) (hands-fault idBytes (i .store) (allAnswers i) (d .handed-out (P i + 2)) (omega (arith, n, d .within)))
-            ∙ ap (λ (l : List Id). reportFrom (faultOver idBytes (i .store) (d .list)) (feedsOver idBytes (i .store) l)) (q .1);
+            s .accepted-open (d .state) (good-opens i e (roomFor i (lengthsOf m)) good ∙ ap (openWalk i) room ∙ d .accepted)
+            ∙ ap (λ (z : Option Refusal). reportFrom z (feedsOver f (wholeList i))) (hands-fault f (allAnswers i) (d .handed-out (P i + 2)) (omega (arith, n, d .within)))
+            ∙ ap (λ (l : List Id). reportFrom (faultOver f (d .list)) (feedsOver f l)) (q .1);
       }
 
-pub feed-demand : (i : Input) (m : Lent) → FeedDemand i m
-feed-demand i m = record { adds-up = λ r m′ s. adds i m r m′ s; demanded = λ r m′ s. of-listed i m r m′ s }
+pub feed-demand : (reader : Reader) (e : List ℕ) (i : Input) (m : Lent) → FeedDemand reader e i m
+feed-demand reader e i m = record { adds-up = λ r m′ s. adds reader e i m r m′ s; demanded = λ r m′ s. of-listed reader e i m r m′ s }
+
+-- ---- what each reader is given
+
+shop-readings : (e s : List ℕ) → readingsFor Shop e s ≡ feedAt idBytes s
+unfolding listIds idsOf
+shop-readings e s = λ j x. none-held idBytes s x j
+
+shop-says : (e : List ℕ) (i : Input) (m : Lent) (r : FeedReport) (m′ : Lent) → goodList e ≡ true → FeedSays Shop e i m r m′ → ShopSays i m r m′
+unfolding feedReport
+shop-says e i m r m′ good s =
+    let o = good-opens i e (roomFor i (lengthsOf m)) good in
+    record {
+      refused-open = λ q h. s .refused-open q (o ∙ h);
+      accepted-open = λ st h. s .accepted-open st (o ∙ h) ∙ ap (λ (f : Id → FeedOutcome). reportBy f i) (shop-readings e (i .store));
+      same-lengths = s .same-lengths;
+    }
+
+pub readers-given : (e : List ℕ) (i : Input) → ReadersGiven e i
+unfolding feedReport
+readers-given e i =
+    let held : (x : Id) → among x (listIds e) ≡ true → readingsFor Outside e (i .store) x ≡ noReading = λ x h. sym (held-back idBytes (listIds e) (i .store) x h) in
+    record { shop = shop-says e i; neither = held; no-fault = λ x h. ap faultIn (held x h); none-embargoed = refl }

@@ -13,7 +13,7 @@ use Rattle.walk.specs.Next.{Kind, end, refused, handed, Answer}
 use Rattle.walk.specs.Calls.{answerAt, answers}
 use Rattle.walk.specs.AnyInput.{handedBy, handedIds}
 use Rattle.walk.specs.Demand.{Hands, no-more-calls, hands, ends}
-use Rattle.tally.specs.Feeds.{feedAt}
+use Rattle.feed.specs.declared.FeedOutcome.{FeedOutcome}
 use Rattle.driver.proofs.OneMore.{answers-more}
 use Rattle.reports.specs.Report.{faultIn, faultBy, firstFault}
 use Rattle.reports.specs.Demand.{faultOver}
@@ -30,24 +30,24 @@ pub first-last : (p : Option Refusal) → firstOf p none ≡ p
 first-last none = refl
 first-last (some r) = refl
 
-pub fault-more : (w : ℕ) (s : List ℕ) (l : List Answer) (a : Answer) → firstFault w s (l ++ (a ∷ [])) ≡ firstOf (firstFault w s l) (faultBy w s (a .kind))
+pub fault-more : (f : Id → FeedOutcome) (l : List Answer) (a : Answer) → firstFault f (l ++ (a ∷ [])) ≡ firstOf (firstFault f l) (faultBy f (a .kind))
 unfolding firstFault
-fault-more w s [] a = first-last (faultBy w s (a .kind))
-fault-more w s (b ∷ l) a = ap (firstOf (faultBy w s (b .kind))) (fault-more w s l a) ∙ first-assoc (faultBy w s (b .kind)) (firstFault w s l) (faultBy w s (a .kind))
+fault-more f [] a = first-last (faultBy f (a .kind))
+fault-more f (b ∷ l) a = ap (firstOf (faultBy f (b .kind))) (fault-more f l a) ∙ first-assoc (faultBy f (b .kind)) (firstFault f l) (faultBy f (a .kind))
 
-pub fault-call : (w : ℕ) (s : List ℕ) (i : Input) (k : ℕ) → firstFault w s (answers i (suc k)) ≡ firstOf (firstFault w s (answers i k)) (faultBy w s (answerAt i k .kind))
-fault-call w s i k = ap (firstFault w s) (answers-more i k) ∙ fault-more w s (answers i k) (answerAt i k)
+pub fault-call : (f : Id → FeedOutcome) (i : Input) (k : ℕ) → firstFault f (answers i (suc k)) ≡ firstOf (firstFault f (answers i k)) (faultBy f (answerAt i k .kind))
+fault-call f i k = ap (firstFault f) (answers-more i k) ∙ fault-more f (answers i k) (answerAt i k)
 
-fault-on : (w : ℕ) (s : List ℕ) (i : Input) (r : Refusal) (k d : ℕ) → firstFault w s (answers i k) ≡ some r → firstFault w s (answers i (k + d)) ≡ some r
-fault-on w s i r k zero e = let z : k ≡ k + 0 = omega arith in subst (λ (n : ℕ). firstFault w s (answers i n) ≡ some r) z e
-fault-on w s i r k (suc d) e =
+fault-on : (f : Id → FeedOutcome) (i : Input) (r : Refusal) (k d : ℕ) → firstFault f (answers i k) ≡ some r → firstFault f (answers i (k + d)) ≡ some r
+fault-on f i r k zero e = let z : k ≡ k + 0 = omega arith in subst (λ (n : ℕ). firstFault f (answers i n) ≡ some r) z e
+fault-on f i r k (suc d) e =
     let z : suc (k + d) ≡ k + suc d = omega arith in
-    subst (λ (n : ℕ). firstFault w s (answers i n) ≡ some r) z
-    (fault-call w s i (k + d) ∙ ap (λ (p : Option Refusal). firstOf p (faultBy w s (answerAt i (k + d) .kind))) (fault-on w s i r k d e))
+    subst (λ (n : ℕ). firstFault f (answers i n) ≡ some r) z
+    (fault-call f i (k + d) ∙ ap (λ (p : Option Refusal). firstOf p (faultBy f (answerAt i (k + d) .kind))) (fault-on f i r k d e))
 
 -- a fault among k answers is the first among any more
-pub fault-stays : (w : ℕ) (s : List ℕ) (i : Input) (r : Refusal) (k n : ℕ) → k ≤ n → firstFault w s (answers i k) ≡ some r → firstFault w s (answers i n) ≡ some r
-fault-stays w s i r k n h e = let z : k + (n - k) ≡ n = omega arith in subst (λ (j : ℕ). firstFault w s (answers i j) ≡ some r) z (fault-on w s i r k (n - k) e)
+pub fault-stays : (f : Id → FeedOutcome) (i : Input) (r : Refusal) (k n : ℕ) → k ≤ n → firstFault f (answers i k) ≡ some r → firstFault f (answers i n) ≡ some r
+fault-stays f i r k n h e = let z : k + (n - k) ≡ n = omega arith in subst (λ (j : ℕ). firstFault f (answers i j) ≡ some r) z (fault-on f i r k (n - k) e)
 
 -- ---- over the commits handed out
 
@@ -56,24 +56,24 @@ two-none none q e = (refl, e)
 two-none (some r) q e = no-some (sym e)
 
 -- where there is none, no commit handed out is faulty
-pub none-faulty : (w : ℕ) (s : List ℕ) (l : List Answer) → firstFault w s l ≡ none → faultOver w s (handedIds l) ≡ none
+pub none-faulty : (f : Id → FeedOutcome) (l : List Answer) → firstFault f l ≡ none → faultOver f (handedIds l) ≡ none
 unfolding firstFault faultOver handedIds handedBy
-none-faulty w s [] e = refl
-none-faulty w s (a ∷ l) e = let k = two-none (faultBy w s (a .kind)) (firstFault w s l) e in go (a .kind) (k .0) (none-faulty w s l (k .1))
+none-faulty f [] e = refl
+none-faulty f (a ∷ l) e = let k = two-none (faultBy f (a .kind)) (firstFault f l) e in go (a .kind) (k .0) (none-faulty f l (k .1))
   where
-    go : (q : Kind) → faultBy w s q ≡ none → faultOver w s (handedIds l) ≡ none → faultOver w s (handedBy q ++ handedIds l) ≡ none
-    go end f h = h
-    go (refused r) f h = h
-    go (handed x g t) f h = ap (λ (p : Option Refusal). firstOf p (faultOver w s (handedIds l))) f ∙ h
+    go : (q : Kind) → faultBy f q ≡ none → faultOver f (handedIds l) ≡ none → faultOver f (handedBy q ++ handedIds l) ≡ none
+    go end b h = h
+    go (refused r) b h = h
+    go (handed x g t) b h = ap (λ (p : Option Refusal). firstOf p (faultOver f (handedIds l))) b ∙ h
 
 -- where the answers hand out a list and then say end, the first fault is that of the list
-pub hands-fault : (w : ℕ) (s : List ℕ) {l : List Id} (qs : List Answer) → Hands l qs → length l ≤ length qs → firstFault w s qs ≡ faultOver w s l
+pub hands-fault : (f : Id → FeedOutcome) {l : List Id} (qs : List Answer) → Hands l qs → length l ≤ length qs → firstFault f qs ≡ faultOver f l
 unfolding firstFault faultOver
-hands-fault w s {l} [] h n = go l n
+hands-fault f {l} [] h n = go l n
   where
-    go : (k : List Id) → length k ≤ 0 → none ≡ faultOver w s k
+    go : (k : List Id) → length k ≤ 0 → none ≡ faultOver f k
     go [] g = refl
     go (x ∷ k) g = absurd (omega (arith, g))
-hands-fault w s (a ∷ qs) (hands {x = x} g t e r) n =
-    ap (λ (k : Kind). firstOf (faultBy w s k) (firstFault w s qs)) e ∙ ap (firstOf (faultIn (feedAt w s x))) (hands-fault w s qs r (omega (arith, n)))
-hands-fault w s (a ∷ qs) (ends e r) n = ap (λ (k : Kind). firstOf (faultBy w s k) (firstFault w s qs)) e ∙ hands-fault w s qs r (omega arith)
+hands-fault f (a ∷ qs) (hands {x = x} g t e r) n =
+    ap (λ (k : Kind). firstOf (faultBy f k) (firstFault f qs)) e ∙ ap (firstOf (faultIn (f x))) (hands-fault f qs r (omega (arith, n)))
+hands-fault f (a ∷ qs) (ends e r) n = ap (λ (k : Kind). firstOf (faultBy f k) (firstFault f qs)) e ∙ hands-fault f qs r (omega arith)

@@ -1,5 +1,8 @@
-// Reports over a whole walk (document 02, card 5): the readings of its commits, counted and added up.
+// Reports over a whole walk (document 02, cards 5 and 10): the readings of its commits, counted and added up, for the shop's reader and for an
+// outside one, from whom the readings of embargoed ids are withheld.
 use driver::Driven;
+use hash::Kind;
+use opening::Checked;
 use tally::Task;
 use tally::feeds::Feeds;
 use walk::OpenOutcome;
@@ -7,12 +10,23 @@ use walk::Outcome;
 use walk::Refusal;
 use walk::Settings;
 ghost use mathlib.Core.Path.{_≡_};
+ghost use lib.Dec.{leb};
 ghost use lib.IntN.{pos, _-ℤ_};
+ghost use lib.ListN.{length};
 ghost use Prim.Native.Nat.{_<_};
-ghost use Rattle.opening.specs.Checks.{inputOf};
+ghost use Rattle.walk.specs.Opening.{listLimit};
+ghost use Rattle.opening.specs.Checks.{inputOf, checkedOf};
 ghost use Rattle.traverse.specs.Open.{lentOf};
 ghost use Rattle.tally.specs.Feeds.{LowFeeds};
-ghost use Rattle.reports.specs.Report.{refusedReport, wholeReport, reportBy, reportOf, FeedSays};
+ghost use Rattle.reports.specs.Report.{refusedReport, wholeReport, withheld, embargoFault, reportAfter, reportOf, FeedSays};
+
+// Who a report is for.
+pub enum Reader {
+    // The shop's reader, who sees all.
+    Shop,
+    // An outside reader, from whom the readings of embargoed commits are withheld.
+    Outside,
+}
 
 // Whether a report is whole.
 pub enum Reported {
@@ -77,9 +91,9 @@ fn whole_report(f: Feeds) -> FeedReport
 }
 
 // The report of a walk whose opening was accepted, by its first refusal.
-fn report_by(reason: Outcome, f: Feeds) -> FeedReport
+fn report_after(reason: Outcome, f: Feeds) -> FeedReport
     requires { ⌜ LowFeeds f ⌝ }
-    ensures { λ r. ⌜ r ≡ reportBy reason f ⌝ }
+    ensures { λ r. ⌜ r ≡ reportAfter reason f ⌝ }
 {
     match reason {
         Outcome::Refused(r) => refused_report(r),
@@ -99,11 +113,56 @@ fn report_of(d: Driven) -> FeedReport
     let feeds = tally.feeds;
     match outcome {
         OpenOutcome::NotOpened(r) => refused_report(r),
-        OpenOutcome::Accepted => report_by(reason, feeds),
+        OpenOutcome::Accepted => report_after(reason, feeds),
     }
 }
 
-// The feed report of a whole walk. A refusal of 1 to 8 alters no lent byte; else all lent memory is free afterwards.
+// The most ids of a list.
+const MOST_IDS: usize = 1024;
+
+// Whether a list has at most the bytes of 1,024 ids.
+fn list_fits(list: &[u8]) -> bool
+    ensures { λ r. ⌜ r ≡ leb (length (now (list .entry))) listLimit ⌝ }
+{
+    list.len() <= MOST_IDS * hash::width(Kind::Sha1)
+}
+
+// Refusals 2 and 3 of the embargoed list, in their places among the opening's. 3 comes after every 2, so with a list that is not of whole ids the others
+// are tested for 2: by the opening's own tests, with this list in the place of the excluded ids, where they end with 2 or 3.
+fn check_embargoed(
+    store: &[u8],
+    graph: &[u8],
+    tips: &[u8],
+    hidden: &[u8],
+    excluded: &[u8],
+    embargoed: &[u8],
+) -> Checked
+    ensures { λ r. ⌜ ((s : Settings) → r ≡ checkedOf (embargoFault (inputOf (now (store .entry)) (now (graph .entry)) (now (tips .entry)) (now (hidden .entry)) (now (excluded .entry)) s) (now (embargoed .entry)))) ⌝ }
+{
+    if !list_fits(embargoed) {
+        return Checked::Refused(Refusal::InputTooLarge);
+    }
+    if hash::whole(Kind::Sha1, embargoed.len()) {
+        return Checked::Fine;
+    }
+    if !list_fits(excluded) {
+        return Checked::Refused(Refusal::InputTooLarge);
+    }
+    opening::check_input(store, graph, tips, hidden, embargoed)
+}
+
+// The ids whose readings a reader is not given.
+fn withheld(embargoed: &[u8], reader: Reader) -> &[u8]
+    ensures { λ r. ⌜ now r ≡ withheld reader (now (embargoed .entry)) ⌝ }
+{
+    match reader {
+        Reader::Shop => &embargoed[..0],
+        Reader::Outside => embargoed,
+    }
+}
+
+// The feed report of a whole walk, for a reader. A refusal of 1 to 8, which the embargoed list has a part in for either reader, alters no lent byte; else
+// all lent memory is free afterwards.
 pub fn feed_report(
     store: &[u8],
     graph: &[u8],
@@ -111,6 +170,8 @@ pub fn feed_report(
     hidden: &[u8],
     excluded: &[u8],
     settings: Settings,
+    embargoed: &[u8],
+    reader: Reader,
     names: &mut [u8],
     marks: &mut [u8],
     levels: &mut [u32],
@@ -118,29 +179,32 @@ pub fn feed_report(
     line: &mut [u32],
     parents: &mut [u8],
 ) -> FeedReport
-    ensures { λ r. ⌜ FeedSays (inputOf (now (store .entry)) (now (graph .entry)) (now (tips .entry)) (now (hidden .entry)) (now (excluded .entry)) settings) (lentOf (now (names .entry)) (now (marks .entry)) (now (levels .entry)) (now (times .entry)) (now (line .entry)) (now (parents .entry))) r (lentOf (now (names .exit)) (now (marks .exit)) (now (levels .exit)) (now (times .exit)) (now (line .exit)) (now (parents .exit))) ⌝ }
+    ensures { λ r. ⌜ FeedSays reader (now (embargoed .entry)) (inputOf (now (store .entry)) (now (graph .entry)) (now (tips .entry)) (now (hidden .entry)) (now (excluded .entry)) settings) (lentOf (now (names .entry)) (now (marks .entry)) (now (levels .entry)) (now (times .entry)) (now (line .entry)) (now (parents .entry))) r (lentOf (now (names .exit)) (now (marks .exit)) (now (levels .exit)) (now (times .exit)) (now (line .exit)) (now (parents .exit))) ⌝ }
 {
-    // No id is set down.
+    // No id is set down, and nothing is counted by terms.
     let mut ids = [0u8; 1];
-    // Nor is anything counted by terms.
     let terms = [0u32; 1];
     let mut counts = [0u64; 1];
-    report_of(driver::drive(
-        Task::Feed,
-        store,
-        graph,
-        tips,
-        hidden,
-        excluded,
-        settings,
-        names,
-        marks,
-        levels,
-        times,
-        line,
-        parents,
-        &mut ids,
-        &terms,
-        &mut counts,
-    ))
+    match check_embargoed(store, graph, tips, hidden, excluded, embargoed) {
+        Checked::Refused(r) => refused_report(r),
+        Checked::Fine => report_of(driver::drive(
+            Task::Feed,
+            store,
+            graph,
+            tips,
+            hidden,
+            excluded,
+            settings,
+            names,
+            marks,
+            levels,
+            times,
+            line,
+            parents,
+            &mut ids,
+            withheld(embargoed, reader),
+            &terms,
+            &mut counts,
+        )),
+    }
 }

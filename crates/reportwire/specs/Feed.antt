@@ -1,15 +1,17 @@
--- What the library says of a feed report (document 02, card 5), set down in lent buffers. Assumes nothing.
+-- What the library says of a feed report (document 02, cards 5 and 10), set down in lent buffers. Assumes nothing.
 use Prim.Native.Nat.{ℕ}
 use mathlib.Core.Path.{_≡_}
-use mathlib.Core.Bool.{Bool, true, false, _&&_}
+use mathlib.Core.Bool.{Bool, true, false, cond, _&&_}
 use mathlib.Core.List.{List, [], _∷_}
 use lib.ListN.{length, set}
-use lib.Dec.{leb}
+use lib.Dec.{eqb, leb}
 use lib.IntN.{ℤ}
 use Rattle.hash.specs.Bytes.{setDown}
 use Rattle.walk.specs.Refusals.{numberOf}
 use Rattle.walk.specs.Opening.{Input}
 use Rattle.traverse.specs.Contract.{Lent}
+use Rattle.reports.specs.declared.Reader.{Reader}
+use Rattle.reports.specs.declared.Reader.the-variants.{Shop, Outside}
 use Rattle.reports.specs.declared.Reported.{Reported}
 use Rattle.reports.specs.declared.Reported.the-variants.{Whole, Refused}
 use Rattle.reports.specs.declared.FeedReport.{FeedReport}
@@ -38,13 +40,17 @@ pub record PutsFeed (r : FeedReport) (numbers numbers′ : List ℕ) (difference
   pub numbers-are : numbers′ ≡ setDown numbers 0 (feedWords r)
   pub difference-is : difference′ ≡ set difference 0 (r .difference)
 
+-- who the report is for, as a number: 0 is the shop's reader, any other an outside one
+abbrev pub readerOf : ℕ → Reader
+readerOf n = cond (eqb n 0) Shop Outside
+
 -- a report that was made: what it says, set down
-pub record Feeding (i : Input) (m m′ : Lent) (numbers numbers′ : List ℕ) (difference difference′ : List ℤ) (n : ℕ) : Type 0 where
+pub record Feeding (reader : Reader) (e : List ℕ) (i : Input) (m m′ : Lent) (numbers numbers′ : List ℕ) (difference difference′ : List ℤ) (n : ℕ) : Type 0 where
   pub report : FeedReport
-  pub says : FeedSays i m report m′
+  pub says : FeedSays reader e i m report m′
   pub puts : PutsFeed report numbers numbers′ difference difference′ n
 
--- linenhatch_feed, with its result n. Without room that is said before all else, and nothing is altered
-pub record LibraryFeed (i : Input) (m m′ : Lent) (numbers numbers′ : List ℕ) (difference difference′ : List ℤ) (n : ℕ) : Type 0 where
+-- linenhatch_feed, with the embargoed list e and its result n. Without room that is said before all else, and nothing is altered
+pub record LibraryFeed (reader : Reader) (e : List ℕ) (i : Input) (m m′ : Lent) (numbers numbers′ : List ℕ) (difference difference′ : List ℤ) (n : ℕ) : Type 0 where
   pub no-room : roomForFeed numbers difference ≡ false → (n ≡ noRoom) × (m′ ≡ m) × (numbers′ ≡ numbers) × (difference′ ≡ difference)
-  pub made : roomForFeed numbers difference ≡ true → Feeding i m m′ numbers numbers′ difference difference′ n
+  pub made : roomForFeed numbers difference ≡ true → Feeding reader e i m m′ numbers numbers′ difference difference′ n

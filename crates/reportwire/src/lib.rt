@@ -3,12 +3,13 @@
 pub mod terms;
 
 use reports::FeedReport;
+use reports::Reader;
 use reports::Reported;
 ghost use mathlib.Core.Path.{_≡_};
 ghost use Rattle.opening.specs.Checks.{inputOf};
 ghost use Rattle.traverse.specs.Open.{lentOf};
 ghost use Rattle.wire.specs.Numbers.{settingsOf};
-ghost use Rattle.reportwire.specs.Feed.{reportedNumber, feedWords, roomForFeed, PutsFeed, LibraryFeed};
+ghost use Rattle.reportwire.specs.Feed.{reportedNumber, feedWords, roomForFeed, readerOf, PutsFeed, LibraryFeed};
 
 // The library's result where there is no room for a report: none of document 01's numbers.
 const NO_ROOM: u32 = 101;
@@ -60,7 +61,18 @@ fn put_feed(r: FeedReport, numbers: &mut [u64], difference: &mut [i64]) -> u32
     number(o)
 }
 
-// The feed report of a whole walk, set down; without room for it nothing is altered and the result is 101.
+// Who a report is for.
+fn reader_of(outside: u32) -> Reader
+    ensures { λ r. ⌜ r ≡ readerOf outside ⌝ }
+{
+    if outside == 0 {
+        Reader::Shop
+    } else {
+        Reader::Outside
+    }
+}
+
+// The feed report of a whole walk for a reader, set down; without room for it nothing is altered and the result is 101.
 pub fn feed(
     store: &[u8],
     graph: &[u8],
@@ -71,6 +83,8 @@ pub fn feed(
     limited: u32,
     cutoff: i64,
     first: u32,
+    embargoed: &[u8],
+    outside: u32,
     names: &mut [u8],
     marks: &mut [u8],
     levels: &mut [u32],
@@ -80,12 +94,13 @@ pub fn feed(
     numbers: &mut [u64],
     difference: &mut [i64],
 ) -> u32
-    ensures { λ n. ⌜ LibraryFeed (inputOf (now (store .entry)) (now (graph .entry)) (now (tips .entry)) (now (hidden .entry)) (now (excluded .entry)) (settingsOf sorting limited cutoff first)) (lentOf (now (names .entry)) (now (marks .entry)) (now (levels .entry)) (now (times .entry)) (now (line .entry)) (now (parents .entry))) (lentOf (now (names .exit)) (now (marks .exit)) (now (levels .exit)) (now (times .exit)) (now (line .exit)) (now (parents .exit))) (now (numbers .entry)) (now (numbers .exit)) (now (difference .entry)) (now (difference .exit)) n ⌝ }
+    ensures { λ n. ⌜ LibraryFeed (readerOf outside) (now (embargoed .entry)) (inputOf (now (store .entry)) (now (graph .entry)) (now (tips .entry)) (now (hidden .entry)) (now (excluded .entry)) (settingsOf sorting limited cutoff first)) (lentOf (now (names .entry)) (now (marks .entry)) (now (levels .entry)) (now (times .entry)) (now (line .entry)) (now (parents .entry))) (lentOf (now (names .exit)) (now (marks .exit)) (now (levels .exit)) (now (times .exit)) (now (line .exit)) (now (parents .exit))) (now (numbers .entry)) (now (numbers .exit)) (now (difference .entry)) (now (difference .exit)) n ⌝ }
 {
     if !can_feed(numbers, difference) {
         return NO_ROOM;
     }
     let settings = wire::settings_of(sorting, limited, cutoff, first);
+    let reader = reader_of(outside);
     let r = reports::feed_report(
         store,
         graph,
@@ -93,6 +108,8 @@ pub fn feed(
         hidden,
         excluded,
         settings,
+        embargoed,
+        reader,
         names,
         marks,
         levels,

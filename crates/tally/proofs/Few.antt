@@ -1,11 +1,11 @@
 -- The numbers of n calls stay small: each call adds one to a count and a reading, of at most 1,000,000,000, to a sum. Assumes nothing.
 use mathlib.Core.Path.{_≡_, refl, _∙_}
 use Prim.Native.Nat.{ℕ, suc, _+_, _*_, _≤_}
-use mathlib.Core.Bool.{Bool, true, false}
+use mathlib.Core.Bool.{Bool, true, false, cond}
 use mathlib.Core.Option.{Option, none, some}
 use mathlib.Core.List.{List, []}
 use native.Mathlib.Omega.{arith}
-use Rattle.hash.specs.Bytes.{Id, idBytes, ifSome}
+use Rattle.hash.specs.Bytes.{Id, idBytes, among, ifSome}
 use Rattle.odb.specs.Store.{storeFind}
 use Rattle.feed.specs.declared.Reading.{Reading}
 use Rattle.feed.specs.declared.Reading.the-variants.{Absent, Given}
@@ -14,13 +14,14 @@ use Rattle.feed.specs.declared.FeedOutcome.{FeedOutcome}
 use Rattle.feed.specs.declared.FeedOutcome.the-variants.{Read, Faulty}
 use Rattle.feed.specs.Feed.{feedOf, mostMillimetres}
 use Rattle.feed.proofs.Small.{cone-small, bed-small}
+use Rattle.walk.specs.Opening.{listIds}
 use Rattle.walk.specs.declared.Outcome.{Outcome}
 use Rattle.walk.specs.declared.Outcome.the-variants.{Commit, End, Refused}
 use Rattle.tally.specs.declared.feeds.Feeds.{Feeds}
 use Rattle.tally.specs.declared.Task.{Task}
 use Rattle.tally.specs.declared.Task.the-variants as tasks
 use Rattle.tally.specs.declared.Tally.{Tally}
-use Rattle.tally.specs.Feeds.{feedAt, feedsOf, plus, FewFeeds, LowFeeds, Small, SmallIn}
+use Rattle.tally.specs.Feeds.{noReading, feedAt, feedFor, feedsOf, plus, FewFeeds, LowFeeds, Small, SmallIn}
 use Rattle.tally.specs.declared.terms.Spot.{Spot}
 use Rattle.tally.specs.declared.terms.Spot.the-variants.{Term, Outside}
 use Rattle.tally.specs.Terms.{termOf}
@@ -86,9 +87,18 @@ pub at-small : (w : ℕ) (s : List ℕ) (x : Id) → SmallIn (feedAt w s x)
 unfolding feedAt
 at-small w s x = go (storeFind w s x)
   where
-    go : (o : Option (List ℕ)) → SmallIn (ifSome o (Read (record { cone = Absent; bed = Absent })) (λ b. feedOf b))
+    go : (o : Option (List ℕ)) → SmallIn (ifSome o noReading (λ b. feedOf b))
     go none f e = in-small false [] f e
     go (some b) f e = in-small true b f e
+
+-- and of one that may be withheld
+for-small : (w : ℕ) (l : List Id) (s : List ℕ) (x : Id) → SmallIn (feedFor w l s x)
+unfolding feedFor
+for-small w l s x = go (among x l)
+  where
+    go : (b : Bool) → SmallIn (cond b noReading (feedAt w s x))
+    go true f e = in-small false [] f e
+    go false f e = at-small w s x f e
 
 -- ---- of one call more
 
@@ -163,7 +173,7 @@ few-by n t Commit p h = few-placed n t p h
 few-by n t End p h = few-up n (suc n) t (omega arith) h
 few-by n t (Refused r) p h = few-same n t (Refused r) h
 
-pub few-step : (task : Task) (terms s : List ℕ) (n : ℕ) (t : Tally) (o : Outcome) (x : Id) → Few n t → Few (suc n) (stepOf task terms s t o x)
-few-step tasks.Ids terms s n t o x h = few-same n t o h
-few-step tasks.Feed terms s n t o x h = few-fed n t o (feedAt idBytes s x) (at-small idBytes s x) h
-few-step tasks.Terms terms s n t o x h = few-by n t o (termOf terms s x) h
+pub few-step : (task : Task) (embargoed terms s : List ℕ) (n : ℕ) (t : Tally) (o : Outcome) (x : Id) → Few n t → Few (suc n) (stepOf task embargoed terms s t o x)
+few-step tasks.Ids embargoed terms s n t o x h = few-same n t o h
+few-step tasks.Feed embargoed terms s n t o x h = few-fed n t o (feedFor idBytes (listIds embargoed) s x) (for-small idBytes (listIds embargoed) s x) h
+few-step tasks.Terms embargoed terms s n t o x h = few-by n t o (termOf terms s x) h

@@ -1,8 +1,9 @@
--- The numbers of a feed report (document 02, card 5), over any list of commits. Assumes nothing.
+-- The numbers of a feed report (document 02, cards 5 and 10), over any list of commits. Assumes nothing.
 use Prim.Native.Nat.{ℕ, _+_, _*_, _≤_}
 use mathlib.Core.Path.{_≡_}
+use mathlib.Core.Bool.{cond}
 use mathlib.Core.List.{List, [], _∷_}
-use Rattle.hash.specs.Bytes.{Id, ifSome}
+use Rattle.hash.specs.Bytes.{Id, among, ifSome}
 use Rattle.odb.specs.Store.{storeFind}
 use Rattle.feed.specs.declared.Reading.{Reading}
 use Rattle.feed.specs.declared.Reading.the-variants.{Absent, Given}
@@ -14,9 +15,18 @@ use Rattle.tally.specs.declared.feeds.Feeds.{Feeds}
 
 -- ---- one commit
 
+-- neither reading, and no fault
+abbrev pub noReading : FeedOutcome
+noReading = Read (record { cone = Absent; bed = Absent })
+
 -- "A commit found only in the graph has no message and counts as neither": the readings of a commit, by its body in the store
 unfoldable pub feedAt : ℕ → List ℕ → Id → FeedOutcome
-feedAt w s x = ifSome (storeFind w s x) (Read (record { cone = Absent; bed = Absent })) (λ b. feedOf b)
+feedAt w s x = ifSome (storeFind w s x) noReading (λ b. feedOf b)
+
+-- the same for a reader from whom the readings of some ids are withheld (card 10): "its feed counts as neither reading", and they "never cause 21
+-- or 22"
+unfoldable pub feedFor : ℕ → List Id → List ℕ → Id → FeedOutcome
+feedFor w withheld s x = cond (among x withheld) noReading (feedAt w s x)
 
 abbrev pub noFeeds : Feeds
 noFeeds = record { both = 0; cone = 0; bed = 0; neither = 0; «cone_sum» = 0; «bed_sum» = 0; «paired_cone» = 0; «paired_bed» = 0 }
@@ -47,10 +57,10 @@ plus a b = record {
   «paired_bed» = a .«paired_bed» + b .«paired_bed»;
 }
 
--- the numbers of a list of commits
-unfoldable pub feedsOver : ℕ → List ℕ → List Id → Feeds
-feedsOver w s [] = noFeeds
-feedsOver w s (x ∷ xs) = plus (feedsIn (feedAt w s x)) (feedsOver w s xs)
+-- the numbers of a list of commits whose readings f gives
+unfoldable pub feedsOver : (Id → FeedOutcome) → List Id → Feeds
+feedsOver f [] = noFeeds
+feedsOver f (x ∷ xs) = plus (feedsIn (f x)) (feedsOver f xs)
 
 -- ---- how great they are
 

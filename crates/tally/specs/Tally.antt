@@ -8,10 +8,10 @@ use Rattle.odb.specs.Store.{storeOk}
 use Rattle.calendar.specs.Terms.{goodTerms}
 use Rattle.feed.specs.declared.FeedOutcome.{FeedOutcome}
 use Rattle.feed.specs.declared.FeedOutcome.the-variants.{Read, Faulty}
-use Rattle.feed.specs.declared.Reading.the-variants.{Absent}
 use Rattle.feed.specs.Feed.{feedOf}
 use Rattle.walk.specs.declared.Outcome.{Outcome}
 use Rattle.walk.specs.declared.Outcome.the-variants.{Commit, End, Refused}
+use Rattle.walk.specs.Opening.{listIds}
 use Rattle.walk.specs.Next.{Kind, Answer}
 use Rattle.walk.specs.Given.{outcomeOf, idOfKind, callsAfter}
 use Rattle.tally.specs.declared.feeds.Feeds.{Feeds}
@@ -20,7 +20,7 @@ use Rattle.tally.specs.declared.Task.the-variants.{Ids, Feed, Terms}
 use Rattle.tally.specs.declared.Tally.{Tally}
 use Rattle.tally.specs.declared.terms.Spot.{Spot}
 use Rattle.tally.specs.Terms.{termOf, countsAt, outsideAt, FewCounts}
-use Rattle.tally.specs.Feeds.{feedAt, feedsOf, noFeeds, plus, FewFeeds}
+use Rattle.tally.specs.Feeds.{noReading, feedFor, feedsOf, noFeeds, plus, FewFeeds}
 
 -- ---- counted from one call to the next, by the outcome of a call
 
@@ -76,7 +76,7 @@ counted t o f = record {
 -- the readings of a body, where one was found
 abbrev pub readIn : Bool → List ℕ → FeedOutcome
 readIn true b = feedOf b
-readIn false b = Read (record { cone = Absent; bed = Absent })
+readIn false b = noReading
 
 -- a faulty commit counts as a refusal
 abbrev pub fedBy : Tally → Outcome → FeedOutcome → Tally
@@ -99,11 +99,11 @@ countsAfter c Commit p = countsAt c p
 countsAfter c End p = c
 countsAfter c (Refused r) p = c
 
--- the tally after an answer that came out so and named the id x; s is the store
-abbrev pub stepOf : Task → List ℕ → List ℕ → Tally → Outcome → Id → Tally
-stepOf Ids terms s t o x = counted t o (t .feeds)
-stepOf Feed terms s t o x = fedBy t o (feedAt idBytes s x)
-stepOf Terms terms s t o x = placedBy t o (termOf terms s x)
+-- the tally after an answer that came out so and named the id x; s is the store, and the readings of the embargoed ids are withheld
+abbrev pub stepOf : Task → List ℕ → List ℕ → List ℕ → Tally → Outcome → Id → Tally
+stepOf Ids embargoed terms s t o x = counted t o (t .feeds)
+stepOf Feed embargoed terms s t o x = fedBy t o (feedFor idBytes (listIds embargoed) s x)
+stepOf Terms embargoed terms s t o x = placedBy t o (termOf terms s x)
 
 -- and the caller's buffer of ids
 abbrev pub idsBy : Task → List ℕ → ℕ → Outcome → Id → List ℕ
@@ -143,15 +143,15 @@ pub record Held : Type 0 where
 abbrev pub holding : Tally → List ℕ → List ℕ → Held
 holding t b c = record { tally = t; ids = b; counts = c }
 
-abbrev pub stepped : Task → List ℕ → List ℕ → Held → Kind → Held
-stepped task terms s h k =
-    holding (stepOf task terms s (h .tally) (outcomeOf k) (idOfKind k)) (idsBy task (h .ids) (h .tally .commits) (outcomeOf k) (idOfKind k))
+abbrev pub stepped : Task → List ℕ → List ℕ → List ℕ → Held → Kind → Held
+stepped task embargoed terms s h k =
+    holding (stepOf task embargoed terms s (h .tally) (outcomeOf k) (idOfKind k)) (idsBy task (h .ids) (h .tally .commits) (outcomeOf k) (idOfKind k))
     (countsBy task terms s (h .counts) (outcomeOf k) (idOfKind k))
 
 -- the step folded over a list of answers
-unfoldable pub folded : Task → List ℕ → List ℕ → Held → List Answer → Held
-folded task terms s h [] = h
-folded task terms s h (a ∷ rest) = folded task terms s (stepped task terms s h (a .kind)) rest
+unfoldable pub folded : Task → List ℕ → List ℕ → List ℕ → Held → List Answer → Held
+folded task embargoed terms s h [] = h
+folded task embargoed terms s h (a ∷ rest) = folded task embargoed terms s (stepped task embargoed terms s h (a .kind)) rest
 
 -- ---- how great the numbers are
 

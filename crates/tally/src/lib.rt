@@ -16,8 +16,9 @@ ghost use mathlib.Core.Logic.{_↔_};
 ghost use Prim.Native.Nat.{_+_, _≤_, _<_};
 ghost use Rattle.hash.specs.Bytes.{idBytes};
 ghost use Rattle.odb.specs.Store.{storeOk};
+ghost use Rattle.walk.specs.Opening.{listIds};
 ghost use Rattle.walk.specs.declared.Outcome.the-variants.{Commit};
-ghost use Rattle.tally.specs.Feeds.{feedAt, SmallIn};
+ghost use Rattle.tally.specs.Feeds.{noReading, feedAt, feedFor, SmallIn};
 ghost use Rattle.tally.specs.Terms.{termOf, countsAt, FewCounts};
 ghost use Rattle.tally.specs.Tally.{commitsAfter, refusedAfter, reasonOr, reasonAfter, noTally, counted, readIn, fedBy, idsAfter, placed, placedBy, countsAfter, stepOf, idsBy, countsBy, Low, Ready, isRefusal, halted, callsLeft};
 
@@ -140,11 +141,18 @@ fn read_in(found: bool, body: &[u8]) -> FeedOutcome
     if found {
         feed::read(body)
     } else {
-        FeedOutcome::Read(Feed {
-            cone: Reading::Absent,
-            bed: Reading::Absent,
-        })
+        no_reading()
     }
+}
+
+// Neither reading.
+fn no_reading() -> FeedOutcome
+    ensures { λ r. ⌜ r ≡ noReading ⌝ }
+{
+    FeedOutcome::Read(Feed {
+        cone: Reading::Absent,
+        bed: Reading::Absent,
+    })
 }
 
 // The readings of a commit, by its body in the store.
@@ -154,6 +162,17 @@ fn feed_at(store: &[u8], id: &[u8]) -> FeedOutcome
     let mut found = false;
     let body = odb::try_find(Kind::Sha1, store, id, &mut found);
     read_in(found, body)
+}
+
+// The readings of a commit; those of an embargoed one are withheld.
+fn feed_for(embargoed: &[u8], store: &[u8], id: &[u8]) -> FeedOutcome
+    ensures { λ r. ⌜ (storeOk idBytes (now (store .entry)) ≡ true → r ≡ feedFor idBytes (listIds (now (embargoed .entry))) (now (store .entry)) (now (id .entry))) × SmallIn r ⌝ }
+{
+    if reading::is_among(embargoed, id) {
+        no_reading()
+    } else {
+        feed_at(store, id)
+    }
 }
 
 // A tally with a commit more that has these readings.
@@ -169,15 +188,15 @@ fn add_commit(t: Tally, read: FeedOutcome) -> Tally
 }
 
 // A tally with an answer more, for the feed report.
-fn feed_step(t: Tally, answer: Answer, store: &[u8]) -> Tally
+fn feed_step(t: Tally, answer: Answer, embargoed: &[u8], store: &[u8]) -> Tally
     requires { ⌜ Low t ⌝ }
-    ensures { λ r. ⌜ (storeOk idBytes (now (store .entry)) ≡ true → r ≡ fedBy t (answer .outcome) (feedAt idBytes (now (store .entry)) (answer .info .id))) ⌝ }
+    ensures { λ r. ⌜ (storeOk idBytes (now (store .entry)) ≡ true → r ≡ fedBy t (answer .outcome) (feedFor idBytes (listIds (now (embargoed .entry))) (now (store .entry)) (answer .info .id))) ⌝ }
 {
     let outcome = answer.outcome;
     let info = answer.info;
     let had = t.feeds;
     match outcome {
-        Outcome::Commit => add_commit(t, feed_at(store, &info.id)),
+        Outcome::Commit => add_commit(t, feed_for(embargoed, store, &info.id)),
         Outcome::End => t,
         Outcome::Refused(_) => count(t, outcome, had),
     }
@@ -247,15 +266,16 @@ fn fold_low(
     answer: Answer,
     store: &[u8],
     ids: &mut [u8],
+    embargoed: &[u8],
     terms: &[u32],
     counts: &mut [u64],
 ) -> Tally
     requires { ⌜ Low t ⌝ }
-    ensures { λ r. ⌜ (Ready (now (terms .entry)) (now (store .entry)) t (now (counts .entry)) → (r ≡ stepOf task (now (terms .entry)) (now (store .entry)) t (answer .outcome) (answer .info .id)) × (now (ids .exit) ≡ idsBy task (now (ids .entry)) (t .commits) (answer .outcome) (answer .info .id)) × (now (counts .exit) ≡ countsBy task (now (terms .entry)) (now (store .entry)) (now (counts .entry)) (answer .outcome) (answer .info .id))) ⌝ }
+    ensures { λ r. ⌜ (Ready (now (terms .entry)) (now (store .entry)) t (now (counts .entry)) → (r ≡ stepOf task (now (embargoed .entry)) (now (terms .entry)) (now (store .entry)) t (answer .outcome) (answer .info .id)) × (now (ids .exit) ≡ idsBy task (now (ids .entry)) (t .commits) (answer .outcome) (answer .info .id)) × (now (counts .exit) ≡ countsBy task (now (terms .entry)) (now (store .entry)) (now (counts .entry)) (answer .outcome) (answer .info .id))) ⌝ }
 {
     match task {
         Task::Ids => ids_step(t, answer, ids),
-        Task::Feed => feed_step(t, answer, store),
+        Task::Feed => feed_step(t, answer, embargoed, store),
         Task::Terms => terms_step(t, answer, store, terms, counts),
     }
 }
@@ -284,13 +304,14 @@ pub fn fold(
     answer: Answer,
     store: &[u8],
     ids: &mut [u8],
+    embargoed: &[u8],
     terms: &[u32],
     counts: &mut [u64],
 ) -> Tally
-    ensures { λ r. ⌜ (Ready (now (terms .entry)) (now (store .entry)) t (now (counts .entry)) → (r ≡ stepOf task (now (terms .entry)) (now (store .entry)) t (answer .outcome) (answer .info .id)) × (now (ids .exit) ≡ idsBy task (now (ids .entry)) (t .commits) (answer .outcome) (answer .info .id)) × (now (counts .exit) ≡ countsBy task (now (terms .entry)) (now (store .entry)) (now (counts .entry)) (answer .outcome) (answer .info .id))) ⌝ }
+    ensures { λ r. ⌜ (Ready (now (terms .entry)) (now (store .entry)) t (now (counts .entry)) → (r ≡ stepOf task (now (embargoed .entry)) (now (terms .entry)) (now (store .entry)) t (answer .outcome) (answer .info .id)) × (now (ids .exit) ≡ idsBy task (now (ids .entry)) (t .commits) (answer .outcome) (answer .info .id)) × (now (counts .exit) ≡ countsBy task (now (terms .entry)) (now (store .entry)) (now (counts .entry)) (answer .outcome) (answer .info .id))) ⌝ }
 {
     if is_low(t) {
-        fold_low(task, t, answer, store, ids, terms, counts)
+        fold_low(task, t, answer, store, ids, embargoed, terms, counts)
     } else {
         t
     }

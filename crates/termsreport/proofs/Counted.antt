@@ -28,17 +28,17 @@ pub record Counted (terms s : List ℕ) (n : ℕ) (l : List Answer) (h : Held) :
 
 -- ---- what one answer adds
 
-reason-on : (terms s : List ℕ) (t : Tally) (k : Kind) → stepOf Terms terms s t (outcomeOf k) (idOfKind k) .reason ≡ reasonAfter (t .reason) (outcomeOf k)
-reason-on terms s t end = refl
-reason-on terms s t (refused r) = refl
-reason-on terms s t (handed x g u) = refl
+reason-on : (embargoed terms s : List ℕ) (t : Tally) (k : Kind) → stepOf Terms embargoed terms s t (outcomeOf k) (idOfKind k) .reason ≡ reasonAfter (t .reason) (outcomeOf k)
+reason-on embargoed terms s t end = refl
+reason-on embargoed terms s t (refused r) = refl
+reason-on embargoed terms s t (handed x g u) = refl
 
-outside-on : (terms s : List ℕ) (t : Tally) (l : List Id) (k : Kind) → t .outside ≡ countOutside terms s l
-    → stepOf Terms terms s t (outcomeOf k) (idOfKind k) .outside ≡ countOutside terms s (l ++ handedBy k)
+outside-on : (embargoed terms s : List ℕ) (t : Tally) (l : List Id) (k : Kind) → t .outside ≡ countOutside terms s l
+    → stepOf Terms embargoed terms s t (outcomeOf k) (idOfKind k) .outside ≡ countOutside terms s (l ++ handedBy k)
 unfolding handedBy
-outside-on terms s t l end e = e ∙ ap (countOutside terms s) (sym (append-nil l))
-outside-on terms s t l (refused r) e = e ∙ ap (countOutside terms s) (sym (append-nil l))
-outside-on terms s t l (handed x g u) e = ap (λ (n : ℕ). outsideAt n (termOf terms s x)) e ∙ outside-at terms s l x
+outside-on embargoed terms s t l end e = e ∙ ap (countOutside terms s) (sym (append-nil l))
+outside-on embargoed terms s t l (refused r) e = e ∙ ap (countOutside terms s) (sym (append-nil l))
+outside-on embargoed terms s t l (handed x g u) e = ap (λ (n : ℕ). outsideAt n (termOf terms s x)) e ∙ outside-at terms s l x
 
 counts-on : (terms s c : List ℕ) (n : ℕ) (l : List Id) (k : Kind) → c ≡ countsIn terms s l n
     → countsBy Terms terms s c (outcomeOf k) (idOfKind k) ≡ countsIn terms s (l ++ handedBy k) n
@@ -49,7 +49,7 @@ counts-on terms s c n l (handed x g u) e = ap (λ (z : List ℕ). countsAt z (te
 
 -- ---- all answers
 
-module _ (i : Input) (terms ids₀ : List ℕ) (n : ℕ) where
+module _ (i : Input) (embargoed terms ids₀ : List ℕ) (n : ℕ) where
   handed-call : (k : ℕ) → handedIds (answers i (suc k)) ≡ handedIds (answers i k) ++ handedBy (answerAt i k .kind)
   handed-call k = ap handedIds (answers-more i k) ∙ handed-more (answers i k) (answerAt i k)
 
@@ -61,22 +61,22 @@ module _ (i : Input) (terms ids₀ : List ℕ) (n : ℕ) where
     counts = none-counted terms (i .store) n ∙ ap (λ (l : List Answer). countsIn terms (i .store) (handedIds l) n) (sym (no-answers i));
   }
 
-  counted-next : (k : ℕ) (h : Held) → Counted terms (i .store) n (answers i k) h → Counted terms (i .store) n (answers i (suc k)) (stepped Terms terms (i .store) h (answerAt i k .kind))
+  counted-next : (k : ℕ) (h : Held) → Counted terms (i .store) n (answers i k) h → Counted terms (i .store) n (answers i (suc k)) (stepped Terms embargoed terms (i .store) h (answerAt i k .kind))
   counted-next k h d = record {
     reason =
-        reason-on terms (i .store) (h .tally) (answerAt i k .kind)
+        reason-on embargoed terms (i .store) (h .tally) (answerAt i k .kind)
         ∙ ap (λ (o : Outcome). reasonAfter o (outcomeOf (answerAt i k .kind))) (d .reason)
         ∙ sym (first-call i k);
     outside =
-        outside-on terms (i .store) (h .tally) (handedIds (answers i k)) (answerAt i k .kind) (d .outside)
+        outside-on embargoed terms (i .store) (h .tally) (handedIds (answers i k)) (answerAt i k .kind) (d .outside)
         ∙ ap (countOutside terms (i .store)) (sym (handed-call k));
     counts =
         counts-on terms (i .store) (h .counts) n (handedIds (answers i k)) (answerAt i k .kind) (d .counts)
         ∙ ap (λ (z : List Id). countsIn terms (i .store) z n) (sym (handed-call k));
   }
 
-  pub counted-all : (k : ℕ) → Counted terms (i .store) n (answers i k) (folded Terms terms (i .store) (holding noTally ids₀ (zeros n)) (answers i k))
-  counted-all zero = subst (Counted terms (i .store) n (answers i 0)) (sym (fold-none Terms terms (i .store) (holding noTally ids₀ (zeros n)) i)) counted-none
+  pub counted-all : (k : ℕ) → Counted terms (i .store) n (answers i k) (folded Terms embargoed terms (i .store) (holding noTally ids₀ (zeros n)) (answers i k))
+  counted-all zero = subst (Counted terms (i .store) n (answers i 0)) (sym (fold-none Terms embargoed terms (i .store) (holding noTally ids₀ (zeros n)) i)) counted-none
   counted-all (suc k) =
-      subst (Counted terms (i .store) n (answers i (suc k))) (sym (fold-call Terms terms (i .store) (holding noTally ids₀ (zeros n)) i k))
-      (counted-next k (folded Terms terms (i .store) (holding noTally ids₀ (zeros n)) (answers i k)) (counted-all k))
+      subst (Counted terms (i .store) n (answers i (suc k))) (sym (fold-call Terms embargoed terms (i .store) (holding noTally ids₀ (zeros n)) i k))
+      (counted-next k (folded Terms embargoed terms (i .store) (holding noTally ids₀ (zeros n)) (answers i k)) (counted-all k))

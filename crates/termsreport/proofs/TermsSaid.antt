@@ -42,7 +42,7 @@ bad-says b e z = record {
   same-lengths = refl;
 }
 
-module _ {i : Input} {m : Lent} {d : Driven} {m′ : Lent} {terms ids counts ids′ counts₁ : List ℕ} (good : goodTerms terms ≡ true) (s : Drives Terms terms i m ids counts d m′ ids′ counts₁) where
+module _ {i : Input} {m : Lent} {d : Driven} {m′ : Lent} {embargoed terms ids counts ids′ counts₁ : List ℕ} (good : goodTerms terms ≡ true) (s : Drives Terms embargoed terms i m ids counts d m′ ids′ counts₁) where
   -- the same counts and outside, by how many calls were made
   abbrev said : ℕ → Outcome → TermsReport
   said k o = termsBy o (countOutside terms (i .store) (handedIds (answers i k)))
@@ -54,11 +54,11 @@ module _ {i : Input} {m : Lent} {d : Driven} {m′ : Lent} {terms ids counts ids
   unfolding termsReport termsCounts wholeList
   accepted st e = go (firstRefusal (answers i (v .calls))) refl
     where
-      v : Drove Terms terms i (holding noTally ids (zeros (length counts))) (m .parents) d m′ ids′ counts₁
-      v = subst (λ (x : List ℕ). Drove Terms x i (holding noTally ids (zeros (length counts))) (m .parents) d m′ ids′ counts₁) (sym (good-is terms good)) (s .accepted-open st e)
+      v : Drove Terms embargoed terms i (holding noTally ids (zeros (length counts))) (m .parents) d m′ ids′ counts₁
+      v = subst (λ (x : List ℕ). Drove Terms embargoed x i (holding noTally ids (zeros (length counts))) (m .parents) d m′ ids′ counts₁) (sym (good-is terms good)) (s .accepted-open st e)
 
       t : Counted terms (i .store) (length counts) (answers i (v .calls)) (holding (d .tally) ids′ counts₁)
-      t = subst (Counted terms (i .store) (length counts) (answers i (v .calls))) (sym (v .made .held)) (counted-all i terms ids (length counts) (v .calls))
+      t = subst (Counted terms (i .store) (length counts) (answers i (v .calls))) (sym (v .made .held)) (counted-all i embargoed terms ids (length counts) (v .calls))
 
       one : reportOf d ≡ said (v .calls) (firstRefusal (answers i (v .calls)))
       one =

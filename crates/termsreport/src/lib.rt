@@ -90,8 +90,9 @@ pub fn terms_report(
         tally::terms::clear(counts);
         return refused_terms(Refusal::BadTerms);
     }
-    // No id is set down.
+    // No id is set down, and no reading is withheld.
     let mut ids = [0u8; 1];
+    let embargoed = [0u8; 1];
     let d = driver::drive(
         Task::Terms,
         store,
@@ -107,6 +108,7 @@ pub fn terms_report(
         line,
         parents,
         &mut ids,
+        &embargoed,
         terms,
         counts,
     );

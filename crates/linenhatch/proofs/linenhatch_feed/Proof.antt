@@ -7,7 +7,7 @@ use mir.Facts.{toZ-ofZ}
 use Rattle.opening.specs.Checks.{inputOf}
 use Rattle.traverse.specs.Open.{lentOf}
 use Rattle.wire.specs.Numbers.{settingsOf}
-use Rattle.reportwire.specs.Feed.{LibraryFeed}
+use Rattle.reportwire.specs.Feed.{readerOf, LibraryFeed}
 use borrow.Author.Needs.{needs}
 use Rattle.linenhatch.proofs.linenhatch_feed.Statement.{statement}
 use Rattle.linenhatch.proofs.linenhatch_feed.Tie as tie
@@ -42,14 +42,14 @@ same-length-8 c = search needs
 returns : tie.Need-returns
 returns c =
     let f = c .before .before .before .before .before .before .before .before .before .before .before .before .before .before in
-    let s = f .before .before .before .before .before .before .before .before .before .before .before .before .before .before .before .before .before .before .before .before in
+    let s = f .before .before .before .before .before .before .before .before .before .before .before .before .before .before .before .before .before .before .before .before .before in
     let x = s .args in
     let l = f .feed .last in
     let told : toZ w64 (ofZ w64 (x .cutoff)) ≡ x .cutoff = toZ-ofZ (s .fits .cutoff) in
-    subst (λ (z : ℤ). LibraryFeed (inputOf (x .store .now) (x .graph .now) (x .tips .now) (x .hidden .now) (x .excluded .now) (settingsOf (x .sorting) (x .limited) z (x .first)))
+    subst (λ (z : ℤ). LibraryFeed (readerOf (x .outside)) (x .embargoed .now) (inputOf (x .store .now) (x .graph .now) (x .tips .now) (x .hidden .now) (x .excluded .now) (settingsOf (x .sorting) (x .limited) z (x .first)))
     (lentOf (x .names .now) (x .marks .now) (x .levels .now) (x .times .now) (x .line .now) (x .parents .now))
-    (lentOf (l .1 .1 .1 .1 .1 .1 .1 .1 .1 .0) (l .1 .1 .1 .1 .1 .1 .1 .1 .1 .1 .0) (l .1 .1 .1 .1 .1 .1 .1 .1 .1 .1 .1 .0) (l .1 .1 .1 .1 .1 .1 .1 .1 .1 .1 .1 .1 .0) (l .1 .1 .1 .1 .1 .1 .1 .1 .1 .1 .1 .1 .1 .0) (l .1 .1 .1 .1 .1 .1 .1 .1 .1 .1 .1 .1 .1 .1 .0))
-    (x .numbers .now) (l .1 .1 .1 .1 .1 .1 .1 .1 .1 .1 .1 .1 .1 .1 .1 .0) (x .difference .now) (l .1 .1 .1 .1 .1 .1 .1 .1 .1 .1 .1 .1 .1 .1 .1 .1 .0) (f .feed .result)) told (f .feed .ensures)
+    (lentOf (l .1 .1 .1 .1 .1 .1 .1 .1 .1 .1 .1 .0) (l .1 .1 .1 .1 .1 .1 .1 .1 .1 .1 .1 .1 .0) (l .1 .1 .1 .1 .1 .1 .1 .1 .1 .1 .1 .1 .1 .0) (l .1 .1 .1 .1 .1 .1 .1 .1 .1 .1 .1 .1 .1 .1 .0) (l .1 .1 .1 .1 .1 .1 .1 .1 .1 .1 .1 .1 .1 .1 .1 .0) (l .1 .1 .1 .1 .1 .1 .1 .1 .1 .1 .1 .1 .1 .1 .1 .1 .0))
+    (x .numbers .now) (l .1 .1 .1 .1 .1 .1 .1 .1 .1 .1 .1 .1 .1 .1 .1 .1 .1 .0) (x .difference .now) (l .1 .1 .1 .1 .1 .1 .1 .1 .1 .1 .1 .1 .1 .1 .1 .1 .1 .1 .0) (f .feed .result)) told (f .feed .ensures)
 
 pub linenhatch-feed-spec : {M : Type 1} → statement M
 linenhatch-feed-spec =

@@ -12,6 +12,9 @@ slice-aggregate-drive c = search needs
 slice-aggregate-drive-2 : tie.Need-slice-aggregate-drive-2
 slice-aggregate-drive-2 c = search needs
 
+slice-aggregate-drive-3 : tie.Need-slice-aggregate-drive-3
+slice-aggregate-drive-3 c = search needs
+
 drive-requires : tie.Need-drive-requires
 drive-requires c κs = search needs
 
@@ -48,6 +51,7 @@ list-spec =
     (tie.spec
     slice-aggregate-drive
     slice-aggregate-drive-2
+    slice-aggregate-drive-3
     drive-requires
     listing-of-requires
     same-length

@@ -6,7 +6,7 @@ use borrow.Author.Needs.{needs}
 use Rattle.reports.proofs.report_of.Statement.{statement}
 use Rattle.reports.proofs.report_of.Tie as tie
 use Rattle.reports.proofs.refused_report.Reads as refused-report-reads
-use Rattle.reports.proofs.report_by.Reads as report-by-reads
+use Rattle.reports.proofs.report_after.Reads as report-after-reads
 
 enum-known-outcome : tie.Need-enum-known-outcome
 enum-known-outcome c = search needs
@@ -17,14 +17,14 @@ refused-report-requires c κs = search needs
 enum-told : tie.Need-enum-told
 enum-told c = search needs
 
-report-by-requires : tie.Need-report-by-requires
-report-by-requires c κs = search needs
+report-after-requires : tie.Need-report-after-requires
+report-after-requires c κs = search needs
 
 returns : tie.Need-returns
 returns c = let d = c .before .before .before .before .before .before .args .d in c .refused-report .ensures ∙ ap (λ (o : OpenOutcome). openedBy o (d .tally .reason) (d .tally .feeds)) (sym (c .before .before .outcome .given .1))
 
 returns-2 : tie.Need-returns-2
-returns-2 c = let d = c .before .before .before .before .before .args .d in c .report-by .ensures ∙ ap (λ (o : OpenOutcome). openedBy o (d .tally .reason) (d .tally .feeds)) (sym (c .before .enum-told .given .1))
+returns-2 c = let d = c .before .before .before .before .before .args .d in c .report-after .ensures ∙ ap (λ (o : OpenOutcome). openedBy o (d .tally .reason) (d .tally .feeds)) (sym (c .before .enum-told .given .1))
 
 pub report-of-spec : {M : Type 1} → statement M
 report-of-spec =
@@ -33,6 +33,6 @@ report-of-spec =
     enum-known-outcome
     refused-report-requires
     enum-told
-    report-by-requires
+    report-after-requires
     returns
     returns-2)

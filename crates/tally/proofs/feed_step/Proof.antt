@@ -1,25 +1,26 @@
 -- `feed_step` meets its contract: by the cases of the outcome. Assumes nothing.
 use mathlib.Core.Path.{sym, _∙_, ap}
 use Rattle.hash.specs.Bytes.{idBytes}
+use Rattle.walk.specs.Opening.{listIds}
 use Rattle.walk.specs.declared.Outcome.{Outcome}
 use Rattle.walk.specs.declared.Outcome.the-variants.{Commit}
-use Rattle.tally.specs.Feeds.{feedAt}
+use Rattle.tally.specs.Feeds.{feedFor}
 use Rattle.tally.specs.Tally.{counted, fedBy}
 use borrow.Author.Needs.{needs}
 use Rattle.tally.proofs.feed_step.Statement.{statement}
 use Rattle.tally.proofs.feed_step.Tie as tie
 use Rattle.tally.proofs.add_commit.Reads as add-commit-reads
 use Rattle.tally.proofs.count.Reads as count-reads
-use Rattle.tally.proofs.feed_at.Reads as feed-at-reads
+use Rattle.tally.proofs.feed_for.Reads as feed-for-reads
 
 enum-told : tie.Need-enum-told
 enum-told c = search needs
 
-feed-at-requires : tie.Need-feed-at-requires
-feed-at-requires c κs = search needs
+feed-for-requires : tie.Need-feed-for-requires
+feed-for-requires c κs = search needs
 
 add-commit-requires : tie.Need-add-commit-requires
-add-commit-requires c κs = (c .before .before .before .before .before .before .before .before .before .pre, c .feed-at .ensures .1)
+add-commit-requires c κs = (c .before .before .before .before .before .before .before .before .before .before .pre, c .feed-for .ensures .1)
 
 enum-told-2 : tie.Need-enum-told-2
 enum-told-2 c = search needs
@@ -31,20 +32,20 @@ count-requires : tie.Need-count-requires
 count-requires c κs = search needs
 
 returns : tie.Need-returns
-returns c = λ ok. let x = c .before .before .before .before .before .before .before .before .before .before .args in c .add-commit .ensures ∙ ap (fedBy (x .t) Commit) (c .before .feed-at .ensures .0 ok) ∙ ap (λ (o : Outcome). fedBy (x .t) o (feedAt idBytes (x .store .now) (x .answer .info .id))) (sym (c .before .before .before .before .before .enum-told .given .1))
+returns c = λ ok. let x = c .before .before .before .before .before .before .before .before .before .before .before .args in c .add-commit .ensures ∙ ap (fedBy (x .t) Commit) (c .before .feed-for .ensures .0 ok) ∙ ap (λ (o : Outcome). fedBy (x .t) o (feedFor idBytes (listIds (x .embargoed .now)) (x .store .now) (x .answer .info .id))) (sym (c .before .before .before .before .before .enum-told .given .1))
 
 returns-2 : tie.Need-returns-2
-returns-2 c = λ ok. let x = c .before .before .before .before .before .args in ap (λ (o : Outcome). fedBy (x .t) o (feedAt idBytes (x .store .now) (x .answer .info .id))) (sym (c .enum-told2 .given .1))
+returns-2 c = λ ok. let x = c .before .before .before .before .before .before .args in ap (λ (o : Outcome). fedBy (x .t) o (feedFor idBytes (listIds (x .embargoed .now)) (x .store .now) (x .answer .info .id))) (sym (c .enum-told2 .given .1))
 
 returns-3 : tie.Need-returns-3
-returns-3 c = λ ok. let x = c .before .before .before .before .before .before .args in c .count .ensures ∙ ap (λ (o : Outcome). counted (x .t) o (x .t .feeds)) (c .before .enum-told3 .given .1) ∙ ap (λ (o : Outcome). fedBy (x .t) o (feedAt idBytes (x .store .now) (x .answer .info .id))) (sym (c .before .enum-told3 .given .1))
+returns-3 c = λ ok. let x = c .before .before .before .before .before .before .before .args in c .count .ensures ∙ ap (λ (o : Outcome). counted (x .t) o (x .t .feeds)) (c .before .enum-told3 .given .1) ∙ ap (λ (o : Outcome). fedBy (x .t) o (feedFor idBytes (listIds (x .embargoed .now)) (x .store .now) (x .answer .info .id))) (sym (c .before .enum-told3 .given .1))
 
 pub feed-step-spec : {M : Type 1} → statement M
 feed-step-spec =
     tie.close
     (tie.spec
     enum-told
-    feed-at-requires
+    feed-for-requires
     add-commit-requires
     enum-told-2
     enum-told-3

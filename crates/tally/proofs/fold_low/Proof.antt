@@ -8,19 +8,19 @@ enum-told : tie.Need-enum-told
 enum-told c = search needs
 
 ids-step-requires : tie.Need-ids-step-requires
-ids-step-requires c κs = c .before .before .before .before .before .before .before .pre
+ids-step-requires c κs = c .before .before .before .before .before .before .before .before .pre
 
 enum-told-2 : tie.Need-enum-told-2
 enum-told-2 c = search needs
 
 feed-step-requires : tie.Need-feed-step-requires
-feed-step-requires c κs = c .before .before .before .before .before .before .pre
+feed-step-requires c κs = c .before .before .before .before .before .before .before .pre
 
 enum-told-3 : tie.Need-enum-told-3
 enum-told-3 c = search needs
 
 terms-step-requires : tie.Need-terms-step-requires
-terms-step-requires c κs = c .before .before .before .before .before .before .before .pre
+terms-step-requires c κs = c .before .before .before .before .before .before .before .before .pre
 
 same-length : tie.Need-same-length
 same-length c = search needs

@@ -24,6 +24,9 @@ returns c = bad-says (not-true _ (sym (c .before .before .before .before .before
 slice-aggregate-drive : tie.Need-slice-aggregate-drive
 slice-aggregate-drive c = search needs
 
+slice-aggregate-drive-2 : tie.Need-slice-aggregate-drive-2
+slice-aggregate-drive-2 c = search needs
+
 drive-requires : tie.Need-drive-requires
 drive-requires c κs = search needs
 
@@ -52,7 +55,7 @@ same-length-8 : tie.Need-same-length-8
 same-length-8 c = search needs
 
 returns-2 : tie.Need-returns-2
-returns-2 c = terms-says (not-false _ (sym (c .before .before .before .before .before .before .before .before .before .before .before .before .before .before .before .before .before .before .before .before .before .before .before .before .before .before .before .before .bad-terms .ensures) ∙ c .before .before .before .before .before .before .before .before .before .before .before .before .before .before .before .before .before .before .before .before .before .before .before .before .before .before .before .if1 .left)) (c .before .before .before .before .before .before .before .before .before .before .before .before .before .before .before .before .before .before .drive .ensures) (c .before .before .settle .ensures .0) (c .before .before .settle .ensures .1)
+returns-2 c = terms-says (not-false _ (sym (c .before .before .before .before .before .before .before .before .before .before .before .before .before .before .before .before .before .before .before .before .before .before .before .before .before .before .before .before .before .bad-terms .ensures) ∙ c .before .before .before .before .before .before .before .before .before .before .before .before .before .before .before .before .before .before .before .before .before .before .before .before .before .before .before .before .if1 .left)) (c .before .before .before .before .before .before .before .before .before .before .before .before .before .before .before .before .before .before .drive .ensures) (c .before .before .settle .ensures .0) (c .before .before .settle .ensures .1)
 
 pub terms-report-spec : {M : Type 1} → statement M
 terms-report-spec =
@@ -64,6 +67,7 @@ terms-report-spec =
     same-length
     returns
     slice-aggregate-drive
+    slice-aggregate-drive-2
     drive-requires
     settle-requires
     same-length-2

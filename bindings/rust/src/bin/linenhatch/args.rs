@@ -79,6 +79,9 @@ pub struct Args {
     /// Of a report by terms.
     pub terms: Vec<Term>,
     pub csv: bool,
+    /// Of a feed report: a file of embargoed ids, and whether the report is for an outside reader.
+    pub embargo: Option<PathBuf>,
+    pub outside: bool,
     pub revs: Vec<OsString>,
 }
 
@@ -178,6 +181,8 @@ fn plain(report: Option<Report>) -> Args {
         report,
         terms: Vec::new(),
         csv: false,
+        embargo: None,
+        outside: false,
         revs: Vec::new(),
     }
 }
@@ -200,6 +205,7 @@ fn parse_list(words: Vec<OsString>, report: Option<Report>) -> Result<Task, Stri
         match option.as_str() {
             "--help" | "-h" => return Ok(Task::Help(report.map_or(HELP, Report::help))),
             "--version" | "-V" => return Ok(Task::Version),
+            "--embargo" if report != Some(Report::Feed) => return Err(unknown(&word)),
             of_lists if report.is_some() && OF_LISTS.contains(&of_lists) => return Err(format!("a report has no option {option}")),
             _ => {}
         }
@@ -225,6 +231,7 @@ fn needs(option: &str, report: Option<Report>) -> Option<&'static str> {
         "--cutoff" => Some("a number of seconds"),
         "--hide" | "--exclude" => Some("a commit"),
         "--term" if report == Some(Report::Terms) => Some("a term, as 2024-09..2025-01"),
+        "--embargo" => Some("a file of ids"),
         _ => None,
     }
 }
@@ -349,6 +356,7 @@ impl Args {
             "--cutoff" => self.cutoff = Some(seconds_of(&value)?),
             "--hide" => self.hide.push(name(value)?),
             "--term" => self.terms.push(term_of(&value)?),
+            "--embargo" => self.embargo = Some(value.into()),
             _ => self.exclude.push(name(value)?),
         }
         Ok(())
@@ -371,6 +379,7 @@ impl Args {
             "--zone" => self.zone = true,
             "--progress" => self.progress = true,
             "--csv" if self.report.is_some() => self.csv = true,
+            "--outside" if self.report == Some(Report::Feed) => self.outside = true,
             "--check-names" if self.report.is_none() => self.check_names = true,
             _ => return false,
         }

@@ -1,0 +1,4 @@
+pub mod Embargo
+pub mod Outside
+pub mod Instance
+pub mod Tested
