@@ -1,3 +1,4 @@
 pub mod Passes
 pub mod Whole
 pub mod Instances
+pub mod Ahead

@@ -1,4 +1,5 @@
 // One commit of the line is read: its body once, its row beside it, its parents noted, and their cells lowered by its pair.
+use crate::ahead;
 use commit::Cache;
 use commitgraph::Layout;
 use date::Seconds;
@@ -128,6 +129,19 @@ pub fn read_at(
 {
     let slot = falling::slot_after(line, from, k);
     let near = falling::hint_of(line, slot);
+    let words = ahead::words_ahead(
+        names,
+        marks,
+        line,
+        cap,
+        from,
+        n,
+        k,
+        cache,
+        graph,
+        store,
+        near,
+    );
     let body = body_in(names, slot, store, near);
     match object::readable(Kind::Sha1, body) {
         Reading::Readable { parents, stamp } => {
@@ -158,7 +172,7 @@ pub fn read_at(
                     parents,
                     graph,
                     reading::layout_of(cache),
-                    position,
+                    ahead::kept_beside(words, position),
                 ),
                 Judged::AtOdds => Step::AtOdds,
             }

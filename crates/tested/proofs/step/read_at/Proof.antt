@@ -1,4 +1,4 @@
--- `step::read_at` meets its contract: the body of the commit in hand says whether it is readable, its row beside it whether the file agrees. Assumes nothing.
+-- `step::read_at` meets its contract: the body of the commit in hand says whether it is readable, its row beside it whether the file agrees; what is read ahead decides nothing. Assumes nothing.
 use mathlib.Core.Path.{sym, _∙_}
 use Rattle.tested.specs.Passes.{held}
 use Rattle.tested.proofs.Steps.{step-bad, step-crowded, step-odd, step-taken}
@@ -11,6 +11,9 @@ slot-after-requires c κs = search needs
 
 hint-of-requires : tie.Need-hint-of-requires
 hint-of-requires c κs = search needs
+
+words-ahead-requires : tie.Need-words-ahead-requires
+words-ahead-requires c κs = search needs
 
 body-in-requires : tie.Need-body-in-requires
 body-in-requires c κs = search needs
@@ -29,6 +32,9 @@ enum-known-position c = search needs
 
 layout-of-requires : tie.Need-layout-of-requires
 layout-of-requires c κs = search needs
+
+kept-beside-requires : tie.Need-kept-beside-requires
+kept-beside-requires c κs = search needs
 
 take-requires : tie.Need-take-requires
 take-requires c κs = search needs
@@ -58,7 +64,7 @@ same-length-5 : tie.Need-same-length-5
 same-length-5 c = search needs
 
 returns : tie.Need-returns
-returns c = let x = c .before .before .before .before .before .before .before .before .before .before .before .before .before .before .before .before .before .before .before .before .before .before .before .before .before .before .before .before .before .before .before .before .before .before .before .before .before .before .args in step-taken (x .cache) (x .graph .now) (x .cap) (x .from) (held (x .names .now) (x .marks .now) (x .levels .now) (x .times .now) (x .line .now)) (x .n) (x .k) (c .before .before .before .before .before .before .before .before .before .before .before .before .before .before .before .before .before .before .before .before .before .before .before .before .before .before .before .before .before .before .slot-after .ensures) (c .before .before .before .before .before .before .before .before .before .before .before .before .before .before .before .before .before .before .before .before .before .before .before .before .before .before .body-in .ensures) _ _ (sym (c .before .before .before .before .before .before .before .before .before .before .before .before .before .before .before .before .before .before .before .before .before .before .before .before .before .readable .ensures) ∙ c .before .before .before .before .before .before .before .before .before .before .before .before .before .before .before .before .before .before .before .before .before .before .before .parents .given .1) (c .before .before .before .before .before .before .before .before .before .before .before .before .before .before .before .before .before .before .before .judge-in .ensures) _ _ (c .before .before .before .before .before .before .before .before .before .before .before .before .before .before .before .before .before .position .given .1) (c .before .before .before .before .before .before .before .before .before .take .ensures)
+returns c = let x = c .before .before .before .before .before .before .before .before .before .before .before .before .before .before .before .before .before .before .before .before .before .before .before .before .before .before .before .before .before .before .before .before .before .before .before .before .before .before .before .before .before .before .before .args in step-taken (x .cache) (x .graph .now) (x .cap) (x .from) (held (x .names .now) (x .marks .now) (x .levels .now) (x .times .now) (x .line .now)) (x .n) (x .k) (c .before .before .before .before .before .before .before .before .before .before .before .before .before .before .before .before .before .before .before .before .before .before .before .before .before .before .before .before .before .before .before .before .before .before .before .slot-after .ensures) (c .before .before .before .before .before .before .before .before .before .before .before .before .before .before .before .before .before .before .before .before .before .before .before .before .before .before .before .body-in .ensures) _ _ (sym (c .before .before .before .before .before .before .before .before .before .before .before .before .before .before .before .before .before .before .before .before .before .before .before .before .before .before .readable .ensures) ∙ c .before .before .before .before .before .before .before .before .before .before .before .before .before .before .before .before .before .before .before .before .before .before .before .before .parents .given .1) (c .before .before .before .before .before .before .before .before .before .before .before .before .before .before .before .before .before .before .before .before .judge-in .ensures) _ _ (c .before .before .before .before .before .before .before .before .before .before .before .before .before .before .before .before .before .before .position .given .1) (c .before .before .before .before .before .before .before .before .before .take .ensures)
 
 same-length-6 : tie.Need-same-length-6
 same-length-6 c = search needs
@@ -66,17 +72,14 @@ same-length-6 c = search needs
 same-length-7 : tie.Need-same-length-7
 same-length-7 c = search needs
 
-returns-2 : tie.Need-returns-2
-returns-2 c = let x = c .before .before .before .before .before .before .before .before .before .before .before .before .before .before .before .before .before .before .before .before .before .args in step-odd (x .cache) (x .graph .now) (x .cap) (x .from) (held (x .names .now) (x .marks .now) (x .levels .now) (x .times .now) (x .line .now)) (x .n) (x .k) (c .before .before .before .before .before .before .before .before .before .before .before .before .before .slot-after .ensures) (c .before .before .before .before .before .before .before .before .before .body-in .ensures) _ _ (sym (c .before .before .before .before .before .before .before .before .readable .ensures) ∙ c .before .before .before .before .before .before .parents .given .1) (c .before .before .judge-in .ensures) (c .enum-told .given .1)
-
 same-length-8 : tie.Need-same-length-8
 same-length-8 c = search needs
 
+returns-2 : tie.Need-returns-2
+returns-2 c = let x = c .before .before .before .before .before .before .before .before .before .before .before .before .before .before .before .before .before .before .before .before .before .before .before .before .before .args in step-odd (x .cache) (x .graph .now) (x .cap) (x .from) (held (x .names .now) (x .marks .now) (x .levels .now) (x .times .now) (x .line .now)) (x .n) (x .k) (c .before .before .before .before .before .before .before .before .before .before .before .before .before .before .before .before .before .slot-after .ensures) (c .before .before .before .before .before .before .before .before .before .body-in .ensures) _ _ (sym (c .before .before .before .before .before .before .before .before .readable .ensures) ∙ c .before .before .before .before .before .before .parents .given .1) (c .before .before .judge-in .ensures) (c .enum-told .given .1)
+
 same-length-9 : tie.Need-same-length-9
 same-length-9 c = search needs
-
-returns-3 : tie.Need-returns-3
-returns-3 c = let x = c .before .before .before .before .before .before .before .before .before .before .before .before .before .before .before .args in step-bad (x .cache) (x .graph .now) (x .cap) (x .from) (held (x .names .now) (x .marks .now) (x .levels .now) (x .times .now) (x .line .now)) (x .n) (x .k) (c .before .before .before .before .before .before .before .slot-after .ensures) (c .before .before .before .body-in .ensures) (sym (c .before .before .readable .ensures) ∙ c .enum-told2 .given .1)
 
 same-length-10 : tie.Need-same-length-10
 same-length-10 c = search needs
@@ -84,8 +87,20 @@ same-length-10 c = search needs
 same-length-11 : tie.Need-same-length-11
 same-length-11 c = search needs
 
+returns-3 : tie.Need-returns-3
+returns-3 c = let x = c .before .before .before .before .before .before .before .before .before .before .before .before .before .before .before .before .before .before .before .args in step-bad (x .cache) (x .graph .now) (x .cap) (x .from) (held (x .names .now) (x .marks .now) (x .levels .now) (x .times .now) (x .line .now)) (x .n) (x .k) (c .before .before .before .before .before .before .before .before .before .before .before .slot-after .ensures) (c .before .before .before .body-in .ensures) (sym (c .before .before .readable .ensures) ∙ c .enum-told2 .given .1)
+
+same-length-12 : tie.Need-same-length-12
+same-length-12 c = search needs
+
+same-length-13 : tie.Need-same-length-13
+same-length-13 c = search needs
+
+same-length-14 : tie.Need-same-length-14
+same-length-14 c = search needs
+
 returns-4 : tie.Need-returns-4
-returns-4 c = let x = c .before .before .before .before .before .before .before .before .before .before .before .before .before .before .before .args in step-crowded (x .cache) (x .graph .now) (x .cap) (x .from) (held (x .names .now) (x .marks .now) (x .levels .now) (x .times .now) (x .line .now)) (x .n) (x .k) (c .before .before .before .before .before .before .before .slot-after .ensures) (c .before .before .before .body-in .ensures) (sym (c .before .before .readable .ensures) ∙ c .enum-told3 .given .1)
+returns-4 c = let x = c .before .before .before .before .before .before .before .before .before .before .before .before .before .before .before .before .before .before .before .args in step-crowded (x .cache) (x .graph .now) (x .cap) (x .from) (held (x .names .now) (x .marks .now) (x .levels .now) (x .times .now) (x .line .now)) (x .n) (x .k) (c .before .before .before .before .before .before .before .before .before .before .before .slot-after .ensures) (c .before .before .before .body-in .ensures) (sym (c .before .before .readable .ensures) ∙ c .enum-told3 .given .1)
 
 pub read-at-spec : {M : Type 1} → statement M
 read-at-spec =
@@ -93,12 +108,14 @@ read-at-spec =
     (tie.spec
     slot-after-requires
     hint-of-requires
+    words-ahead-requires
     body-in-requires
     readable-requires
     enum-known-parents
     judge-in-requires
     enum-known-position
     layout-of-requires
+    kept-beside-requires
     take-requires
     enum-told
     enum-told-2
@@ -111,10 +128,13 @@ read-at-spec =
     returns
     same-length-6
     same-length-7
-    returns-2
     same-length-8
+    returns-2
     same-length-9
-    returns-3
     same-length-10
     same-length-11
+    returns-3
+    same-length-12
+    same-length-13
+    same-length-14
     returns-4)
