@@ -1,6 +1,7 @@
 // The id table: open addressing with linear probing. A slot is empty (mark 0), live, or free to reuse (another mark that is not
 // live). From the home of a live slot's id to the slot no slot is empty, so a search may stop at an empty one.
 use crate::marks::is_live;
+use crate::words;
 use hash::Kind;
 ghost use mathlib.Core.Path.{_≡_};
 ghost use Prim.Native.Nat.{_+_, _<_};
@@ -121,7 +122,7 @@ pub fn find_slot(
             return Slot::Vacant(first_of(cap, spare, k));
         }
         if is_live(painted, m) {
-            if hash::same_id(kind, id_of(kind, names, k), id) {
+            if words::same_at(kind, names, hash::width(kind) * k, id) {
                 return Slot::Found(k);
             }
         } else {

@@ -1,7 +1,8 @@
 // The parents of a commit from the commit-graph file.
+use crate::ahead;
+use crate::numbers;
 use commitgraph::Layout;
 use commitgraph::Level;
-use commitgraph::parents;
 use commitgraph::rows;
 use hash::Kind;
 use links::insert_into_seen_and_queue_cached;
@@ -10,6 +11,7 @@ use reading::RowRead;
 use state::Record;
 use walk::Settings;
 ghost use Rattle.state.specs.Steps.{mem};
+ghost use Rattle.rowvisit.specs.Numbers.{Numbers};
 ghost use Rattle.rowvisit.specs.Row.{Follows, SetsParent, VisitsRowParent, VisitsRow, VisitsCached};
 
 // The parents of a row that were visited, how many they are, and the row's level; or its list is corrupt.
@@ -40,6 +42,8 @@ fn visit_row_parent(
     graph: &[u8],
     l: Layout,
     position: usize,
+    first: u32,
+    second: u32,
     k: usize,
     names: &mut [u8],
     marks: &mut [u8],
@@ -50,9 +54,10 @@ fn visit_row_parent(
     excluded: &[u8],
     settings: Settings,
 ) -> Record
+    requires { ⌜ Numbers (now graph) l position first second ⌝ }
     ensures { λ a. ⌜ VisitsRowParent (now (excluded .entry)) settings (now (graph .entry)) l position k r (mem (now (names .entry)) (now (marks .entry)) (now (times .entry)) (now (line .entry))) (mem (now (names .exit)) (now (marks .exit)) (now (times .exit)) (now (line .exit))) (now (parents .entry)) (now (parents .exit)) a ⌝ }
 {
-    let parent = parents::parent(Kind::Sha1, graph, l, position, k);
+    let parent = numbers::parent(graph, l, position, first, second, k);
     let id = rows::id_at(Kind::Sha1, graph, l, parent);
     set_parent(parents, k, id);
     insert_into_seen_and_queue_cached(
@@ -77,6 +82,8 @@ fn visit_row(
     graph: &[u8],
     l: Layout,
     position: usize,
+    first: u32,
+    second: u32,
     n: usize,
     names: &mut [u8],
     marks: &mut [u8],
@@ -87,6 +94,7 @@ fn visit_row(
     excluded: &[u8],
     settings: Settings,
 ) -> Record
+    requires { ⌜ Numbers (now graph) l position first second ⌝ }
     ensures { λ a. ⌜ VisitsRow (now (excluded .entry)) settings (now (graph .entry)) l position n r (mem (now (names .entry)) (now (marks .entry)) (now (times .entry)) (now (line .entry))) (mem (now (names .exit)) (now (marks .exit)) (now (times .exit)) (now (line .exit))) (now (parents .entry)) (now (parents .exit)) a ⌝ }
 {
     let mut at = r;
@@ -97,6 +105,8 @@ fn visit_row(
             graph,
             l,
             position,
+            first,
+            second,
             k,
             names,
             marks,
@@ -142,17 +152,25 @@ pub fn visit_cached(
 ) -> RowVisited
     ensures { λ a. ⌜ VisitsCached (now (excluded .entry)) settings (now (graph .entry)) l position r (mem (now (names .entry)) (now (marks .entry)) (now (times .entry)) (now (line .entry))) (mem (now (names .exit)) (now (marks .exit)) (now (times .exit)) (now (line .exit))) (now (levels .entry)) (now (levels .exit)) (now (parents .entry)) (now (parents .exit)) a ⌝ }
 {
-    match reading::collect_parents(graph, l, position) {
+    let row = rows::row(Kind::Sha1, graph, l, position);
+    let first = hash::be32(row, 20);
+    let second = hash::be32(row, 24);
+    let third = hash::be32(row, 28);
+    match numbers::collect_parents(graph, l, position, first, second, third) {
         RowRead::Row {
             parents: count,
             level,
         } => {
             let n = followed_count(settings, count);
+            let q = r.queue;
+            ahead::look_ahead(graph, l, first, names, marks, q.cap, levels);
             let at = visit_row(
                 r,
                 graph,
                 l,
                 position,
+                first,
+                second,
                 n,
                 names,
                 marks,

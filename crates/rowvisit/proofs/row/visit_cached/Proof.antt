@@ -1,16 +1,29 @@
 -- `rowvisit::row::visit_cached` meets its contract: what the list is found to be decides, and where it is corrupt no call was made that changes anything.
 -- Assumes nothing.
+use mathlib.Core.Path.{_∙_, ap}
+use Prim.Native.Nat.{ℕ}
+use mathlib.Core.List.{List}
+use Rattle.hash.specs.Bytes.{u32At}
 use borrow.Author.Needs.{needs}
+use Rattle.rowvisit.proofs.Plain.{numbers-read}
 use Rattle.rowvisit.proofs.Rows.{judged-good, judged-corrupt}
 use Rattle.rowvisit.proofs.row.visit_cached.Statement.{statement}
 use Rattle.rowvisit.proofs.row.visit_cached.Tie as tie
 
--- nothing is set down or admitted before the list is found good: where it is corrupt, every lent byte is as it was
-returns-2 : tie.Need-returns-2
-returns-2 c = judged-corrupt (c .before .before .collect-parents .ensures) (c .enum-told .given .1)
+row-requires : tie.Need-row-requires
+row-requires c κs = search needs
+
+be32-requires : tie.Need-be32-requires
+be32-requires c κs = search needs
+
+be32-requires-2 : tie.Need-be32-requires-2
+be32-requires-2 c κs = search needs
+
+be32-requires-3 : tie.Need-be32-requires-3
+be32-requires-3 c κs = search needs
 
 collect-parents-requires : tie.Need-collect-parents-requires
-collect-parents-requires c κs = search needs
+collect-parents-requires c κs = (numbers-read (c .before .before .before .row .ensures) (c .before .before .be32 .ensures) (c .before .be322 .ensures), c .be323 .ensures ∙ ap (λ (z : List ℕ). u32At z 28) (c .before .before .before .row .ensures))
 
 enum-known-count : tie.Need-enum-known-count
 enum-known-count c = search needs
@@ -18,8 +31,11 @@ enum-known-count c = search needs
 followed-count-requires : tie.Need-followed-count-requires
 followed-count-requires c κs = search needs
 
+look-ahead-requires : tie.Need-look-ahead-requires
+look-ahead-requires c κs = search needs
+
 visit-row-requires : tie.Need-visit-row-requires
-visit-row-requires c κs = search needs
+visit-row-requires c κs = numbers-read (c .before .before .before .before .before .before .before .before .before .before .before .before .before .before .before .before .before .before .before .before .before .row .ensures) (c .before .before .before .before .before .before .before .before .before .before .before .before .before .before .before .before .before .before .before .before .be32 .ensures) (c .before .before .before .before .before .before .before .before .before .before .before .before .before .before .before .before .before .before .before .be322 .ensures)
 
 enum-told : tie.Need-enum-told
 enum-told c = search needs
@@ -43,15 +59,24 @@ same-length-6 : tie.Need-same-length-6
 same-length-6 c = search needs
 
 returns : tie.Need-returns
-returns c = judged-good (c .before .before .before .before .before .before .before .before .before .before .before .before .before .before .before .before .before .before .before .before .before .before .collect-parents .ensures) (c .before .before .before .before .before .before .before .before .before .before .before .before .before .before .before .before .before .before .before .before .count .given .1) (c .before .before .before .before .before .before .before .before .before .before .before .before .before .before .before .before .before .before .followed-count .ensures) (c .before .before .before .before .before .before .before .before .before .before .before .visit-row .ensures)
+returns c = judged-good (c .before .before .before .before .before .before .before .before .before .before .before .before .before .before .before .before .before .before .before .before .before .before .before .before .before .before .before .before .before .collect-parents .ensures) (c .before .before .before .before .before .before .before .before .before .before .before .before .before .before .before .before .before .before .before .before .before .before .before .before .before .before .before .count .given .1) (c .before .before .before .before .before .before .before .before .before .before .before .before .before .before .before .before .before .before .before .before .before .before .before .before .before .followed-count .ensures) (c .before .before .before .before .before .before .before .before .before .before .before .visit-row .ensures)
+
+-- nothing is set down or admitted before the list is found good: where it is corrupt, every lent byte is as it was
+returns-2 : tie.Need-returns-2
+returns-2 c = judged-corrupt (c .before .before .collect-parents .ensures) (c .enum-told .given .1)
 
 pub visit-cached-spec : {M : Type 1} → statement M
 visit-cached-spec =
     tie.close
     (tie.spec
+    row-requires
+    be32-requires
+    be32-requires-2
+    be32-requires-3
     collect-parents-requires
     enum-known-count
     followed-count-requires
+    look-ahead-requires
     visit-row-requires
     enum-told
     same-length

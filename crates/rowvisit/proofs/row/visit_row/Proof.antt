@@ -11,10 +11,10 @@ use Rattle.rowvisit.proofs.row.visit_row.Statement.{statement}
 use Rattle.rowvisit.proofs.row.visit_row.Tie as tie
 
 abbrev Inv-loop : tie.InvT-loop
-Inv-loop graph l position n names₀ marks₀ levels₀ times₀ line₀ parents₀ excluded settings at₀ k₀ names marks levels times line parents at k = (k ≤ n) × (length levels ≡ length levels₀) × Lengths names₀ marks₀ times₀ line₀ parents₀ names marks times line parents × RowRun excluded settings graph l position k at₀ (mem names₀ marks₀ times₀ line₀) (mem names marks times line) parents₀ parents at
+Inv-loop graph l position first second n names₀ marks₀ levels₀ times₀ line₀ parents₀ excluded settings at₀ k₀ names marks levels times line parents at k = (k ≤ n) × (length levels ≡ length levels₀) × Lengths names₀ marks₀ times₀ line₀ parents₀ names marks times line parents × RowRun excluded settings graph l position k at₀ (mem names₀ marks₀ times₀ line₀) (mem names marks times line) parents₀ parents at
 
 abbrev μ-loop : tie.MeasureT-loop
-μ-loop graph l position n names₀ marks₀ levels₀ times₀ line₀ parents₀ excluded settings at₀ k₀ names marks levels times line parents at k = n - k
+μ-loop graph l position first second n names₀ marks₀ levels₀ times₀ line₀ parents₀ excluded settings at₀ k₀ names marks levels times line parents at k = n - k
 
 loop-holds : tie.Need-loop-holds Inv-loop μ-loop
 loop-holds c = (search needs, refl, record { for-names = refl; for-marks = refl; for-times = refl; for-line = refl; for-parents = refl }, row-start)
@@ -34,8 +34,8 @@ loop-again c =
     let k = c .before .before .before .before .before .before .before .before .before .before .before .visit-row-parent .kept in
     let v = l .loop .inv .2 in (
       omega (arith, c .before .before .before .before .before .before .before .before .before .before .before .before .before .before .before .before .before .before .loop-test .taken),
-      k .1 .1 .1 .1 .1 .1 .1 .0 ∙ l .loop .inv .1,
-      record { for-names = k .1 .1 .1 .1 .1 .0 ∙ v .for-names; for-marks = k .1 .1 .1 .1 .1 .1 .0 ∙ v .for-marks; for-times = k .1 .1 .1 .1 .1 .1 .1 .1 .0 ∙ v .for-times; for-line = k .1 .1 .1 .1 .1 .1 .1 .1 .1 .0 ∙ v .for-line; for-parents = k .1 .1 .1 .1 .1 .1 .1 .1 .1 .1 .0 ∙ v .for-parents },
+      k .1 .1 .1 .1 .1 .1 .1 .1 .1 .0 ∙ l .loop .inv .1,
+      record { for-names = k .1 .1 .1 .1 .1 .1 .1 .0 ∙ v .for-names; for-marks = k .1 .1 .1 .1 .1 .1 .1 .1 .0 ∙ v .for-marks; for-times = k .1 .1 .1 .1 .1 .1 .1 .1 .1 .1 .0 ∙ v .for-times; for-line = k .1 .1 .1 .1 .1 .1 .1 .1 .1 .1 .1 .0 ∙ v .for-line; for-parents = k .1 .1 .1 .1 .1 .1 .1 .1 .1 .1 .1 .1 .0 ∙ v .for-parents },
       row-next (l .loop .inv .3) (c .before .before .before .before .before .before .before .before .before .before .before .visit-row-parent .ensures),
     )
 
