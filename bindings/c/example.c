@@ -1,41 +1,50 @@
-/* Lists the commits of the smallest commit store: one commit, without parents. Each line is an id and a number of parents, or a refusal
- * with its number; the last is `end`.
+/* Lists the commits of a small history, newest first: a store is written, a walk over it opened, and called until the end. Two benches each
+ * made a run on the first commit, and a merge joins them. Each line is a commit's id, how many parents it has, its committer time and its zone
+ * in minutes ahead of UTC; the last is the end, with how many commits ever waited. A refusal would be a line with its number.
  *
  *     rt staticlib linenhatch
  *     make -C bindings/c run
  */
 #include "linenhatch.h"
+#include "store.h"
 
 #include <inttypes.h>
 #include <stdio.h>
 #include <stdlib.h>
 #include <string.h>
 
-static const char body[] =
-    "tree 0000000000000000000000000000000000000000\n"
-    "author A <a> 5 +0000\n"
-    "committer A <a> 5 +0000\n"
-    "\n";
+#define COMMITS 4
+#define STORE_ROOM 2048
+#define TREE "tree 0000000000000000000000000000000000000000\n"
+#define WHO(seconds) "author Bench <bench@example.org> " seconds " +0100\ncommitter Bench <bench@example.org> " seconds " +0100\n\n"
 
-#define BODY (sizeof body - 1)
-#define STORE (BODY + LINENHATCH_ID_BYTES + 4 + 8)
+/* What `git cat-file commit` prints of each. The id of commit k is its digit 40 times, which git would not give it: no walk looks at that, the
+ * check of names does. */
+static const char *const bodies[COMMITS] = {
+    TREE WHO("100") "Set up\n",
+    TREE "parent 1111111111111111111111111111111111111111\n" WHO("200") "Cone bench\n",
+    TREE "parent 1111111111111111111111111111111111111111\n" WHO("300") "Needle bed\n",
+    TREE "parent 2222222222222222222222222222222222222222\n"
+         "parent 3333333333333333333333333333333333333333\n" WHO("400") "Both readings\n",
+};
 
-static void be32(uint8_t *at, uint32_t n)
+/* The commits may come in any order: the writer sorts them. The result is the store's length. */
+static size_t make_store(uint8_t ids[COMMITS][LINENHATCH_ID_BYTES], uint8_t *store)
 {
-    at[0] = (uint8_t)(n >> 24);
-    at[1] = (uint8_t)(n >> 16);
-    at[2] = (uint8_t)(n >> 8);
-    at[3] = (uint8_t)n;
-}
-
-/* The bodies, an entry for each (its id and where it ends), where the entries start, and how many they are. */
-static void make_store(uint8_t *store, const uint8_t *id)
-{
-    memcpy(store, body, BODY);
-    memcpy(store + BODY, id, LINENHATCH_ID_BYTES);
-    be32(store + BODY + LINENHATCH_ID_BYTES, BODY);
-    be32(store + BODY + LINENHATCH_ID_BYTES + 4, BODY);
-    be32(store + BODY + LINENHATCH_ID_BYTES + 8, 1);
+    linenhatch_commit commits[COMMITS];
+    linenhatch_store_size size;
+    for (size_t k = 0; k < COMMITS; k++) {
+        memset(ids[k], 0x11 * (int)(k + 1), LINENHATCH_ID_BYTES);
+        commits[k].id = ids[k];
+        commits[k].body = bodies[k];
+        commits[k].body_len = strlen(bodies[k]);
+    }
+    uint32_t result = linenhatch_write_store(LINENHATCH_ID_BYTES, commits, COMMITS, store, STORE_ROOM, &size);
+    if (result != LINENHATCH_STORE_WRITTEN) {
+        fprintf(stderr, "the store is not written: %" PRIu32 "\n", result);
+        exit(1);
+    }
+    return (size_t)size.bytes;
 }
 
 static void *lend(size_t n, size_t size)
@@ -48,15 +57,27 @@ static void *lend(size_t n, size_t size)
     return p;
 }
 
+static void print_commit(const uint8_t *id, const uint64_t *numbers, const int64_t *seconds)
+{
+    for (size_t i = 0; i < LINENHATCH_ID_BYTES; i++)
+        printf("%02x", id[i]);
+    printf(" parents %" PRIu64, numbers[LINENHATCH_PARENT_IDS]);
+    if (numbers[LINENHATCH_HAS_TIME])
+        printf(" seconds %" PRId64, seconds[LINENHATCH_TIME]);
+    if (numbers[LINENHATCH_HAS_ZONE])
+        printf(" zone %" PRId64, seconds[LINENHATCH_ZONE]);
+    printf("\n");
+}
+
 int main(void)
 {
-    static const uint8_t none[1];
-    uint8_t tip[LINENHATCH_ID_BYTES];
-    uint8_t store[STORE];
-    memset(tip, 0x11, sizeof tip);
-    make_store(store, tip);
+    static const uint8_t none[1]; /* for what there is none of: a pointer is never null */
+    uint8_t ids[COMMITS][LINENHATCH_ID_BYTES], store[STORE_ROOM];
+    size_t store_len = make_store(ids, store);
+    const uint8_t *tips = ids[COMMITS - 1];
+    size_t tips_len = LINENHATCH_ID_BYTES;
 
-    size_t places = linenhatch_places(store, sizeof store, none, 0, tip, sizeof tip, none, 0);
+    size_t places = linenhatch_places(store, store_len, none, 0, tips, tips_len, none, 0);
     uint8_t *names = lend(LINENHATCH_NAMES(places), sizeof *names);
     uint8_t *marks = lend(LINENHATCH_MARKS(places), sizeof *marks);
     uint32_t *generations = lend(LINENHATCH_GENERATIONS(places), sizeof *generations);
@@ -69,8 +90,8 @@ int main(void)
     int64_t seconds[LINENHATCH_SECONDS];
 
     uint32_t result = linenhatch_open(
-        store, sizeof store, none, 0, tip, sizeof tip, none, 0, none, 0,
-        LINENHATCH_BREADTH, 0, 0, 0,
+        store, store_len, none, 0, tips, tips_len, none, 0, none, 0,
+        LINENHATCH_NEWEST, 0, 0, 0,
         names, LINENHATCH_NAMES(places),
         marks, LINENHATCH_MARKS(places),
         generations, LINENHATCH_GENERATIONS(places),
@@ -79,35 +100,33 @@ int main(void)
         parents, LINENHATCH_PARENTS,
         record, LINENHATCH_RECORD,
         numbers, LINENHATCH_NUMBERS);
-
     if (result != LINENHATCH_ACCEPTED) {
-        printf("! %" PRIu32 "\n", result);
+        fprintf(stderr, "the walk is not opened: %" PRIu32 "\n", result);
         return 1;
     }
+
+    /* The same files, lists, settings and memory for every call, and nobody writes to the memory in between. */
     do {
         result = linenhatch_next(
             record, LINENHATCH_RECORD,
-            store, sizeof store, none, 0, none, 0, none, 0,
-            LINENHATCH_BREADTH, 0, 0, 0,
+            store, store_len, none, 0, none, 0, none, 0,
+            LINENHATCH_NEWEST, 0, 0, 0,
             names, LINENHATCH_NAMES(places),
             marks, LINENHATCH_MARKS(places),
             generations, LINENHATCH_GENERATIONS(places),
             times, LINENHATCH_TIMES(places),
             line, LINENHATCH_LINE(places),
             parents, LINENHATCH_PARENTS,
-            id, sizeof id,
+            id, LINENHATCH_ID_BYTES,
             numbers, LINENHATCH_NUMBERS,
             seconds, LINENHATCH_SECONDS);
-        if (result == LINENHATCH_COMMIT) {
-            for (size_t i = 0; i < sizeof id; i++)
-                printf("%02x", id[i]);
-            printf(" %" PRIu64 "\n", numbers[LINENHATCH_PARENT_IDS]);
-        } else if (result != LINENHATCH_END) {
-            printf("! %" PRIu32 "\n", result);
-        }
+        if (result == LINENHATCH_COMMIT)
+            print_commit(id, numbers, seconds);
+        else if (result != LINENHATCH_END)
+            printf("refused %" PRIu32 "\n", result); /* after 9 to 11 the walk goes on with the next commit */
     } while (result != LINENHATCH_END && result != LINENHATCH_CLOSED && result != LINENHATCH_NO_ROOM);
     if (result == LINENHATCH_END)
-        printf("end\n");
+        printf("end admitted %" PRIu64 "\n", numbers[LINENHATCH_ADMITTED]);
 
     free(names);
     free(marks);
