@@ -24,6 +24,13 @@ pub struct ObjectId(pub [u8; ID_BYTES]);
 
 impl ObjectId {
     /// The id in 40 hexadecimal digits, as they stand in a commit's header; `None` for anything else.
+    ///
+    /// ```
+    /// use linenhatch::ObjectId;
+    ///
+    /// assert_eq!(ObjectId::from_hex(&[b'1'; 40]), Some(ObjectId([0x11; 20])));
+    /// assert_eq!(ObjectId::from_hex(b"main"), None);
+    /// ```
     pub fn from_hex(digits: &[u8]) -> Option<ObjectId> {
         if digits.len() != 2 * ID_BYTES {
             return None;
@@ -36,6 +43,10 @@ impl ObjectId {
     }
 
     /// The 20 bytes.
+    ///
+    /// ```
+    /// assert_eq!(linenhatch::ObjectId([7; 20]).as_bytes(), &[7; 20]);
+    /// ```
     pub fn as_bytes(&self) -> &[u8; ID_BYTES] {
         &self.0
     }

@@ -28,10 +28,13 @@
 #![deny(unsafe_code)]
 #![warn(missing_docs)]
 
+mod error;
 #[cfg(feature = "walk")]
 mod ffi;
 #[cfg(feature = "walk")]
 mod graph;
+#[cfg(feature = "walk")]
+mod history;
 mod id;
 #[cfg(feature = "walk")]
 mod merge_base;
@@ -41,15 +44,22 @@ mod order;
 mod refusal;
 #[cfg(feature = "walk")]
 mod reports;
+mod repository;
+mod revs;
 mod store;
+#[cfg(feature = "walk")]
+mod survey;
 mod terms;
 #[cfg(feature = "walk")]
 mod trace;
 #[cfg(feature = "walk")]
 mod walk;
 
+pub use error::{Error, Refused};
 #[cfg(feature = "walk")]
 pub use graph::{graph_length, write_graph};
+#[cfg(feature = "walk")]
+pub use history::History;
 pub use id::{ObjectId, ParseIdError, ID_BYTES};
 #[cfg(feature = "walk")]
 pub use merge_base::merge_base;
@@ -59,9 +69,13 @@ pub use order::Order;
 pub use refusal::{NoRoom, Refusal};
 #[cfg(feature = "walk")]
 pub use reports::{FeedReport, Reader, TermsReport};
-pub use store::{header, parents, store_from_commits, StoreBuilder, TooLarge, MAX_FILE_BYTES, MAX_IDS};
+pub use repository::{Commits, References, Repository};
+pub use revs::Revs;
+pub use store::{entries, header, parents, store_from_commits, StoreBuilder, TooLarge, MAX_FILE_BYTES, MAX_IDS};
+#[cfg(feature = "walk")]
+pub use survey::survey;
 pub use terms::{Month, ParseTermError, Term, MAX_TERMS};
 #[cfg(feature = "walk")]
 pub use trace::{trace, Prospect, MAX_MOVES};
 #[cfg(feature = "walk")]
-pub use walk::{Commit, Lister, Numbers, Walk};
+pub use walk::{Commit, Info, Infos, Lister, Numbers, Walk};

@@ -99,11 +99,21 @@ impl Refusal {
     ];
 
     /// The refusal with a number, if one has it.
+    ///
+    /// ```
+    /// use linenhatch::Refusal;
+    ///
+    /// assert_eq!((Refusal::from_number(13), Refusal::from_number(100)), (Some(Refusal::UnreadableReach), None));
+    /// ```
     pub fn from_number(number: u32) -> Option<Refusal> {
         Refusal::ALL.into_iter().find(|refusal| refusal.number() == number)
     }
 
     /// Its number: 1 to 25.
+    ///
+    /// ```
+    /// assert_eq!(linenhatch::Refusal::UnreadableReach.number(), 13);
+    /// ```
     pub fn number(self) -> u32 {
         match self {
             Refusal::BufferTooSmall => 1,
@@ -135,6 +145,10 @@ impl Refusal {
     }
 
     /// Its name, in words.
+    ///
+    /// ```
+    /// assert_eq!(linenhatch::Refusal::UnreadableReach.name(), "unreadable reach");
+    /// ```
     pub fn name(self) -> &'static str {
         match self {
             Refusal::BufferTooSmall => "buffer too small",

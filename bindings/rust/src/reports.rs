@@ -40,21 +40,46 @@ pub struct FeedReport {
 
 impl FeedReport {
     /// How many commits the walk handed out: the sum of the first four numbers.
+    ///
+    /// ```
+    /// use linenhatch::FeedReport;
+    ///
+    /// assert_eq!(FeedReport { both: 2, neither: 1, ..FeedReport::default() }.commits(), 3);
+    /// ```
     pub fn commits(&self) -> u64 {
         self.both + self.cone_alone + self.bed_alone + self.neither
     }
 
     /// The mean of all cone readings, if there is one.
+    ///
+    /// ```
+    /// use linenhatch::FeedReport;
+    ///
+    /// assert_eq!(FeedReport { both: 1, cone_alone: 1, cone_sum: 2401, ..FeedReport::default() }.cone_mean(), Some(1200.5));
+    /// assert_eq!(FeedReport::default().cone_mean(), None);
+    /// ```
     pub fn cone_mean(&self) -> Option<f64> {
         mean(self.cone_sum as f64, self.both + self.cone_alone)
     }
 
     /// The mean of all bed readings, if there is one.
+    ///
+    /// ```
+    /// use linenhatch::FeedReport;
+    ///
+    /// assert_eq!(FeedReport { both: 1, bed_alone: 1, bed_sum: 2500, ..FeedReport::default() }.bed_mean(), Some(1250.0));
+    /// ```
     pub fn bed_mean(&self) -> Option<f64> {
         mean(self.bed_sum as f64, self.both + self.bed_alone)
     }
 
     /// The mean of cone less bed, if a commit has both.
+    ///
+    /// ```
+    /// use linenhatch::FeedReport;
+    ///
+    /// assert_eq!(FeedReport { both: 2, difference: -99, ..FeedReport::default() }.difference_mean(), Some(-49.5));
+    /// ```
     pub fn difference_mean(&self) -> Option<f64> {
         mean(self.difference as f64, self.both)
     }

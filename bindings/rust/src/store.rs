@@ -41,6 +41,10 @@ pub struct StoreBuilder {
 
 impl StoreBuilder {
     /// A store without commits.
+    ///
+    /// ```
+    /// assert_eq!(linenhatch::StoreBuilder::new().finish(), Ok(vec![0; 8]));
+    /// ```
     pub fn new() -> StoreBuilder {
         StoreBuilder::default()
     }
@@ -48,6 +52,16 @@ impl StoreBuilder {
     /// Adds a commit: its id and its body, the bytes that `git cat-file commit ID` prints. If the id is there already its first body stays.
     ///
     /// Once the store would be too large bodies are no longer kept, only counted, so memory stays bounded.
+    ///
+    /// ```
+    /// use linenhatch::{ObjectId, StoreBuilder};
+    ///
+    /// let mut store = StoreBuilder::new();
+    /// store.add(ObjectId([1; 20]), b"first");
+    /// store.add(ObjectId([1; 20]), b"other");
+    /// assert!(store.finish()?.starts_with(b"first"));
+    /// # Ok::<(), linenhatch::TooLarge>(())
+    /// ```
     pub fn add(&mut self, id: ObjectId, body: &[u8]) {
         if self.parts.contains_key(&id) {
             return;
@@ -63,11 +77,21 @@ impl StoreBuilder {
     }
 
     /// How many commits were added.
+    ///
+    /// ```
+    /// assert_eq!(linenhatch::StoreBuilder::new().commits(), 0);
+    /// ```
     pub fn commits(&self) -> usize {
         self.parts.len()
     }
 
     /// How many bytes the store needs.
+    ///
+    /// ```
+    /// let mut store = linenhatch::StoreBuilder::new();
+    /// store.add(linenhatch::ObjectId([1; 20]), b"first");
+    /// assert_eq!(store.bytes(), 5 + 24 + 8);
+    /// ```
     pub fn bytes(&self) -> u64 {
         self.body_bytes + ENTRY_BYTES * self.parts.len() as u64 + TRAILER_BYTES
     }
@@ -77,6 +101,12 @@ impl StoreBuilder {
     }
 
     /// The store's bytes.
+    ///
+    /// ```
+    /// let mut store = linenhatch::StoreBuilder::new();
+    /// store.add(linenhatch::ObjectId([1; 20]), &vec![0; 16_777_216]);
+    /// assert_eq!(store.finish().unwrap_err().needed, 16_777_216 + 24 + 8);
+    /// ```
     pub fn finish(self) -> Result<Vec<u8>, TooLarge> {
         if self.is_too_large() {
             return Err(TooLarge { needed: self.bytes() });
@@ -107,10 +137,50 @@ impl<B: AsRef<[u8]>> Extend<(ObjectId, B)> for StoreBuilder {
 }
 
 /// The commit store of some commits, in any order: each an id and its body, the bytes that `git cat-file commit ID` prints.
+///
+/// ```
+/// use linenhatch::{store_from_commits, ObjectId};
+///
+/// let store = store_from_commits([(ObjectId([0x22; 20]), "second"), (ObjectId([0x11; 20]), "first ")])?;
+/// assert!(store.starts_with(b"first second"));
+/// # Ok::<(), linenhatch::TooLarge>(())
+/// ```
 pub fn store_from_commits<B: AsRef<[u8]>>(commits: impl IntoIterator<Item = (ObjectId, B)>) -> Result<Vec<u8>, TooLarge> {
     let mut store = StoreBuilder::new();
     store.extend(commits);
     store.finish()
+}
+
+/// The commits of a store in the order of their ids, each with its body: what [`StoreBuilder`] was given. Of bytes that are no store there are none.
+///
+/// ```
+/// use linenhatch::{entries, store_from_commits, ObjectId};
+///
+/// let store = store_from_commits([(ObjectId([2; 20]), "second"), (ObjectId([1; 20]), "first")])?;
+/// let all: Vec<_> = entries(&store).collect();
+/// assert_eq!(all, [(ObjectId([1; 20]), &b"first"[..]), (ObjectId([2; 20]), b"second")]);
+/// assert_eq!(entries(b"no store").count(), 0);
+/// # Ok::<(), linenhatch::TooLarge>(())
+/// ```
+pub fn entries(store: &[u8]) -> impl Iterator<Item = (ObjectId, &[u8])> {
+    let table = entry_table(store).unwrap_or_default();
+    let mut from = 0;
+    table.chunks_exact(ENTRY_BYTES as usize).map_while(move |entry| {
+        let (id, end) = entry.split_at(ID_BYTES);
+        let end = u32::from_be_bytes(end.try_into().ok()?) as usize;
+        let body = store.get(from..end)?;
+        from = end;
+        Some((ObjectId(id.try_into().ok()?), body))
+    })
+}
+
+/// The bytes between the bodies and the trailer, where the trailer says that they are entries.
+fn entry_table(store: &[u8]) -> Option<&[u8]> {
+    let (rest, trailer) = store.split_last_chunk::<{ TRAILER_BYTES as usize }>()?;
+    let (start, count) = trailer.split_at(4);
+    let number = |bytes: &[u8]| bytes.iter().fold(0u64, |number, &byte| number << 8 | u64::from(byte));
+    let table = rest.get(number(start) as usize..)?;
+    (table.len() as u64 == ENTRY_BYTES * number(count)).then_some(table)
 }
 
 /// The commit store would have over [`MAX_FILE_BYTES`] bytes, and no opening would take it.
@@ -167,6 +237,13 @@ fn line_end(body: &[u8], at: usize, word: &[u8]) -> Option<usize> {
 /// The parents that a commit's body names: the good parent lines after its tree line.
 ///
 /// This is for whoever gathers the commits of a store. What a walk takes for the parents of a commit is its own reading.
+///
+/// ```
+/// use linenhatch::{parents, ObjectId};
+///
+/// let body = format!("tree 4b825dc6\nparent {}\nauthor A <a> 5 +0000\ncommitter A <a> 5 +0000\n\n", "11".repeat(20));
+/// assert_eq!(parents(body.as_bytes()).collect::<Vec<_>>(), [ObjectId([0x11; 20])]);
+/// ```
 pub fn parents(body: &[u8]) -> impl Iterator<Item = ObjectId> + '_ {
     let mut at = line_end(body, 0, b"tree ");
     std::iter::from_fn(move || {
@@ -210,6 +287,20 @@ mod tests {
         }
         expected.extend([0, 0, 0, 4, 0, 0, 0, 3]);
         assert_eq!(store, expected);
+    }
+
+    #[test]
+    fn entries_of_any_bytes() {
+        let commits = [(ObjectId([1; 20]), &b"a"[..]), (ObjectId([2; 20]), b""), (ObjectId([3; 20]), b"ccc")];
+        let store = store_from_commits(commits).unwrap();
+        assert_eq!(entries(&store).collect::<Vec<_>>(), commits);
+        for at in 0..store.len() {
+            assert!(entries(&store[at..]).count() <= 3 && entries(&store[..at]).count() <= 3);
+            let mut other = store.clone();
+            other[at] ^= 0x81;
+            assert!(entries(&other).count() <= 3);
+        }
+        assert_eq!(entries(&[0xff; 100]).count(), 0);
     }
 
     #[test]

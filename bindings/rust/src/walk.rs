@@ -27,10 +27,10 @@ const PARENT_BYTES: usize = 256 * ID_BYTES;
 #[derive(Clone, Debug)]
 #[must_use = "nothing is listed before `open`"]
 pub struct Lister<'a> {
-    store: &'a [u8],
-    graph: &'a [u8],
-    tips: Vec<ObjectId>,
-    hidden: Vec<ObjectId>,
+    pub(crate) store: &'a [u8],
+    pub(crate) graph: &'a [u8],
+    pub(crate) tips: Vec<ObjectId>,
+    pub(crate) hidden: Vec<ObjectId>,
     excluded: Vec<ObjectId>,
     order: Order,
     cutoff: Option<i64>,
@@ -40,6 +40,19 @@ pub struct Lister<'a> {
 impl<'a> Lister<'a> {
     /// A lister over a commit store, which a [`StoreBuilder`](crate::StoreBuilder) writes: no graph file, no tips, nothing hidden or excluded,
     /// breadth order, no cutoff, all parents.
+    ///
+    /// ```
+    /// # fn main() -> Result<(), Box<dyn std::error::Error>> {
+    /// use linenhatch::{store_from_commits, Lister, ObjectId};
+    ///
+    /// # let body = |parents: &str, seconds: i64| format!("tree {}\n{parents}author A <a> 5 +0000\ncommitter A <a> {seconds} +0000\n\n", "0".repeat(40));
+    /// # let [old, new] = [1, 2].map(|n| ObjectId([n; 20]));
+    /// # let store = store_from_commits([(old, body("", 5)), (new, body(&format!("parent {old}\n"), 6))])?;
+    /// // a store of two commits, `new` with the parent `old`
+    /// assert_eq!(Lister::new(&store).list()?.count(), 0); // no tips, no commits
+    /// # Ok(())
+    /// # }
+    /// ```
     pub fn new(store: &'a [u8]) -> Lister<'a> {
         Lister {
             store,
@@ -54,12 +67,40 @@ impl<'a> Lister<'a> {
     }
 
     /// Git's commit-graph file (`objects/info/commit-graph`). A commit is looked up there before the store. No bytes mean no file.
+    ///
+    /// ```
+    /// # fn main() -> Result<(), Box<dyn std::error::Error>> {
+    /// use linenhatch::{store_from_commits, Lister, ObjectId, write_graph};
+    ///
+    /// # let body = |parents: &str, seconds: i64| format!("tree {}\n{parents}author A <a> 5 +0000\ncommitter A <a> {seconds} +0000\n\n", "0".repeat(40));
+    /// # let [old, new] = [1, 2].map(|n| ObjectId([n; 20]));
+    /// # let store = store_from_commits([(old, body("", 5)), (new, body(&format!("parent {old}\n"), 6))])?;
+    /// // a store of two commits, `new` with the parent `old`
+    /// let graph = write_graph(&store)?;
+    /// let mut list = Lister::new(&store).graph(&graph).tips(&[new]).list()?;
+    /// assert_eq!(list.next().and_then(|info| info.generation), Some(2));
+    /// # Ok(())
+    /// # }
+    /// ```
     pub fn graph(mut self, graph: &'a [u8]) -> Lister<'a> {
         self.graph = graph;
         self
     }
 
     /// Adds commits to start from. Repeats are dropped.
+    ///
+    /// ```
+    /// # fn main() -> Result<(), Box<dyn std::error::Error>> {
+    /// use linenhatch::{store_from_commits, Lister, ObjectId};
+    ///
+    /// # let body = |parents: &str, seconds: i64| format!("tree {}\n{parents}author A <a> 5 +0000\ncommitter A <a> {seconds} +0000\n\n", "0".repeat(40));
+    /// # let [old, new] = [1, 2].map(|n| ObjectId([n; 20]));
+    /// # let store = store_from_commits([(old, body("", 5)), (new, body(&format!("parent {old}\n"), 6))])?;
+    /// // a store of two commits, `new` with the parent `old`
+    /// assert_eq!(Lister::new(&store).tips(&[new, old]).tips(&[new]).list()?.count(), 2);
+    /// # Ok(())
+    /// # }
+    /// ```
     pub fn tips(mut self, ids: &[ObjectId]) -> Lister<'a> {
         self.tips.extend_from_slice(ids);
         self
@@ -70,18 +111,60 @@ impl<'a> Lister<'a> {
     /// This holds where the pair of generation and committer time falls from each commit to its parents: always for commits that git's
     /// commit-graph file has with generations, and for others where clocks do not run backwards. Elsewhere some of what they reach may still be listed,
     /// and [`open_tested`](Lister::open_tested) refuses.
+    ///
+    /// ```
+    /// # fn main() -> Result<(), Box<dyn std::error::Error>> {
+    /// use linenhatch::{store_from_commits, Lister, ObjectId};
+    ///
+    /// # let body = |parents: &str, seconds: i64| format!("tree {}\n{parents}author A <a> 5 +0000\ncommitter A <a> {seconds} +0000\n\n", "0".repeat(40));
+    /// # let [old, new] = [1, 2].map(|n| ObjectId([n; 20]));
+    /// # let store = store_from_commits([(old, body("", 5)), (new, body(&format!("parent {old}\n"), 6))])?;
+    /// // a store of two commits, `new` with the parent `old`
+    /// let list = Lister::new(&store).tips(&[new]).hide(&[old]).list()?;
+    /// assert_eq!(list.map(|info| info.id).collect::<Vec<_>>(), [new]);
+    /// # Ok(())
+    /// # }
+    /// ```
     pub fn hide(mut self, ids: &[ObjectId]) -> Lister<'a> {
         self.hidden.extend_from_slice(ids);
         self
     }
 
     /// Adds excluded ids: the walk neither hands them out nor goes on from them. What is reached another way is still listed.
+    ///
+    /// ```
+    /// # fn main() -> Result<(), Box<dyn std::error::Error>> {
+    /// use linenhatch::{store_from_commits, Lister, ObjectId};
+    ///
+    /// # let body = |parents: &str, seconds: i64| format!("tree {}\n{parents}author A <a> 5 +0000\ncommitter A <a> {seconds} +0000\n\n", "0".repeat(40));
+    /// # let [old, new] = [1, 2].map(|n| ObjectId([n; 20]));
+    /// # let store = store_from_commits([(old, body("", 5)), (new, body(&format!("parent {old}\n"), 6))])?;
+    /// // a store of two commits, `new` with the parent `old`
+    /// let list = Lister::new(&store).tips(&[new, old]).exclude(&[new]).list()?;
+    /// assert_eq!(list.map(|info| info.id).collect::<Vec<_>>(), [old]);
+    /// # Ok(())
+    /// # }
+    /// ```
     pub fn exclude(mut self, ids: &[ObjectId]) -> Lister<'a> {
         self.excluded.extend_from_slice(ids);
         self
     }
 
     /// The order in which commits are handed out.
+    ///
+    /// ```
+    /// # fn main() -> Result<(), Box<dyn std::error::Error>> {
+    /// use linenhatch::{store_from_commits, Lister, ObjectId, Order};
+    ///
+    /// # let body = |parents: &str, seconds: i64| format!("tree {}\n{parents}author A <a> 5 +0000\ncommitter A <a> {seconds} +0000\n\n", "0".repeat(40));
+    /// # let [old, new] = [1, 2].map(|n| ObjectId([n; 20]));
+    /// # let store = store_from_commits([(old, body("", 5)), (new, body(&format!("parent {old}\n"), 6))])?;
+    /// // a store of two commits, `new` with the parent `old`
+    /// let list = Lister::new(&store).tips(&[old, new]).order(Order::Newest).list()?;
+    /// assert_eq!(list.map(|info| info.id).collect::<Vec<_>>(), [new, old]);
+    /// # Ok(())
+    /// # }
+    /// ```
     pub fn order(mut self, order: Order) -> Lister<'a> {
         self.order = order;
         self
@@ -89,12 +172,39 @@ impl<'a> Lister<'a> {
 
     /// Leaves out commits whose committer time is below these seconds, and goes on from none of them. It counts in the orders by time alone;
     /// with [`first_parent`](Lister::first_parent) it counts for the tips alone.
+    ///
+    /// ```
+    /// # fn main() -> Result<(), Box<dyn std::error::Error>> {
+    /// use linenhatch::{store_from_commits, Lister, ObjectId, Order};
+    ///
+    /// # let body = |parents: &str, seconds: i64| format!("tree {}\n{parents}author A <a> 5 +0000\ncommitter A <a> {seconds} +0000\n\n", "0".repeat(40));
+    /// # let [old, new] = [1, 2].map(|n| ObjectId([n; 20]));
+    /// # let store = store_from_commits([(old, body("", 5)), (new, body(&format!("parent {old}\n"), 6))])?;
+    /// // a store of two commits, `new` with the parent `old`
+    /// let list = Lister::new(&store).tips(&[new]).order(Order::Newest).cutoff(6).list()?;
+    /// assert_eq!(list.map(|info| info.id).collect::<Vec<_>>(), [new]);
+    /// # Ok(())
+    /// # }
+    /// ```
     pub fn cutoff(mut self, seconds: i64) -> Lister<'a> {
         self.cutoff = Some(seconds);
         self
     }
 
     /// Follows only the first parent of each commit; the commits wait in list order. Hidden tips still hide all that they reach.
+    ///
+    /// ```
+    /// # fn main() -> Result<(), Box<dyn std::error::Error>> {
+    /// use linenhatch::{store_from_commits, Lister, ObjectId};
+    ///
+    /// # let body = |parents: &str, seconds: i64| format!("tree {}\n{parents}author A <a> 5 +0000\ncommitter A <a> {seconds} +0000\n\n", "0".repeat(40));
+    /// # let [old, new] = [1, 2].map(|n| ObjectId([n; 20]));
+    /// # let store = store_from_commits([(old, body("", 5)), (new, body(&format!("parent {old}\n"), 6))])?;
+    /// // a store of two commits, `new` with the parent `old`
+    /// assert_eq!(Lister::new(&store).tips(&[new]).first_parent().list()?.count(), 2);
+    /// # Ok(())
+    /// # }
+    /// ```
     pub fn first_parent(mut self) -> Lister<'a> {
         self.first_parent = true;
         self
@@ -102,6 +212,21 @@ impl<'a> Lister<'a> {
 
     /// Tests files and lists, and opens the walk with memory of its own; or says which of refusals 2 and 4 to 8 comes first, in the order 2,
     /// 4 to 8.
+    ///
+    /// ```
+    /// # fn main() -> Result<(), Box<dyn std::error::Error>> {
+    /// use linenhatch::{store_from_commits, Lister, ObjectId};
+    ///
+    /// # let body = |parents: &str, seconds: i64| format!("tree {}\n{parents}author A <a> 5 +0000\ncommitter A <a> {seconds} +0000\n\n", "0".repeat(40));
+    /// # let [old, new] = [1, 2].map(|n| ObjectId([n; 20]));
+    /// # let store = store_from_commits([(old, body("", 5)), (new, body(&format!("parent {old}\n"), 6))])?;
+    /// // a store of two commits, `new` with the parent `old`
+    /// for commit in Lister::new(&store).tips(&[new]).open()? {
+    ///     println!("{}", commit?.id);
+    /// }
+    /// # Ok(())
+    /// # }
+    /// ```
     pub fn open(&self) -> Result<Walk<'a>, Refusal> {
         self.opened(Opening::Plain)
     }
@@ -135,6 +260,21 @@ impl<'a> Lister<'a> {
     /// ```
     pub fn open_tested(&self) -> Result<Walk<'a>, Refusal> {
         self.opened(Opening::Tested)
+    }
+
+    /// Opens tested, and hands out the commits themselves: after [`open_tested`](Lister::open_tested) no call meets a refusal.
+    ///
+    /// ```
+    /// use linenhatch::{store_from_commits, Lister, ObjectId};
+    ///
+    /// let body = "tree 0000000000000000000000000000000000000000\nauthor A <a> 5 +0000\ncommitter A <a> 5 +0000\n\n";
+    /// let id = ObjectId([0x11; 20]);
+    /// let store = store_from_commits([(id, body)])?;
+    /// assert_eq!(Lister::new(&store).tips(&[id]).list()?.map(|info| info.id).collect::<Vec<_>>(), [id]);
+    /// # Ok::<(), Box<dyn std::error::Error>>(())
+    /// ```
+    pub fn list(&self) -> Result<Infos<'a>, Refusal> {
+        self.open_tested().map(|walk| Infos { walk })
     }
 
     fn opened(&self, how: Opening) -> Result<Walk<'a>, Refusal> {
@@ -234,11 +374,41 @@ pub struct Walk<'a> {
 
 impl Walk<'_> {
     /// The running numbers, after the opening or the last call.
+    ///
+    /// ```
+    /// # fn main() -> Result<(), Box<dyn std::error::Error>> {
+    /// use linenhatch::{store_from_commits, Lister, ObjectId};
+    ///
+    /// # let body = |parents: &str, seconds: i64| format!("tree {}\n{parents}author A <a> 5 +0000\ncommitter A <a> {seconds} +0000\n\n", "0".repeat(40));
+    /// # let [old, new] = [1, 2].map(|n| ObjectId([n; 20]));
+    /// # let store = store_from_commits([(old, body("", 5)), (new, body(&format!("parent {old}\n"), 6))])?;
+    /// // a store of two commits, `new` with the parent `old`
+    /// let mut walk = Lister::new(&store).tips(&[new]).open()?;
+    /// assert_eq!(walk.by_ref().count(), 2);
+    /// assert_eq!((walk.numbers().admitted, walk.numbers().waiting), (2, 0));
+    /// # Ok(())
+    /// # }
+    /// ```
     pub fn numbers(&self) -> Numbers {
         self.numbers
     }
 
     /// The ids that the last call set down: the parents of its commit, or after refusals 10 and 11 those that were read before the bad line.
+    ///
+    /// ```
+    /// # fn main() -> Result<(), Box<dyn std::error::Error>> {
+    /// use linenhatch::{store_from_commits, Lister, ObjectId};
+    ///
+    /// # let body = |parents: &str, seconds: i64| format!("tree {}\n{parents}author A <a> 5 +0000\ncommitter A <a> {seconds} +0000\n\n", "0".repeat(40));
+    /// # let [old, new] = [1, 2].map(|n| ObjectId([n; 20]));
+    /// # let store = store_from_commits([(old, body("", 5)), (new, body(&format!("parent {old}\n"), 6))])?;
+    /// // a store of two commits, `new` with the parent `old`
+    /// let mut walk = Lister::new(&store).tips(&[new]).open()?;
+    /// walk.next();
+    /// assert_eq!(walk.parents().collect::<Vec<_>>(), [old]);
+    /// # Ok(())
+    /// # }
+    /// ```
     pub fn parents(&self) -> impl ExactSizeIterator<Item = ObjectId> + '_ {
         let count = self.answer.numbers[3] as usize;
         self.memory.parents.chunks_exact(ID_BYTES).take(count).map(|bytes| {
@@ -248,10 +418,10 @@ impl Walk<'_> {
         })
     }
 
-    fn commit(&self) -> Commit {
+    fn info(&self) -> Info {
         let [.., has_generation, generation, has_time, has_zone] = self.answer.numbers;
         let [time, zone] = self.answer.seconds;
-        Commit {
+        Info {
             id: ObjectId(self.answer.id),
             parents: self.parents().collect(),
             generation: (has_generation != 0).then_some(generation as u32),
@@ -262,9 +432,9 @@ impl Walk<'_> {
 }
 
 impl Iterator for Walk<'_> {
-    type Item = Result<Commit, Refusal>;
+    type Item = Result<Info, Refusal>;
 
-    fn next(&mut self) -> Option<Result<Commit, Refusal>> {
+    fn next(&mut self) -> Option<Result<Info, Refusal>> {
         const COMMIT: u32 = 0;
         const END: u32 = 100;
         if self.ended {
@@ -274,7 +444,7 @@ impl Iterator for Walk<'_> {
         let [admitted, struck, waiting, ..] = self.answer.numbers;
         self.numbers = Numbers { admitted, struck, waiting };
         match result {
-            COMMIT => Some(Ok(self.commit())),
+            COMMIT => Some(Ok(self.info())),
             END => {
                 self.ended = true;
                 None
@@ -296,9 +466,42 @@ impl fmt::Debug for Walk<'_> {
     }
 }
 
+/// The commits of a tested walk, one after another; [`Lister::list`] makes it.
+#[derive(Debug)]
+pub struct Infos<'a> {
+    walk: Walk<'a>,
+}
+
+impl Infos<'_> {
+    /// The running numbers, after the opening or the last commit.
+    ///
+    /// ```
+    /// let mut infos = linenhatch::Lister::new(&[0; 8]).list()?; // a store without commits
+    /// assert_eq!((infos.next(), infos.numbers().admitted), (None, 0));
+    /// # Ok::<(), linenhatch::Refusal>(())
+    /// ```
+    pub fn numbers(&self) -> Numbers {
+        self.walk.numbers()
+    }
+}
+
+impl Iterator for Infos<'_> {
+    type Item = Info;
+
+    fn next(&mut self) -> Option<Info> {
+        let answer = self.walk.next()?;
+        Some(answer.unwrap_or_else(|refusal| unreachable!("a walk that was opened tested meets no refusal: {refusal}")))
+    }
+}
+
+impl FusedIterator for Infos<'_> {}
+
+/// The name that [`Info`] had at first.
+pub type Commit = Info;
+
 /// One commit that a walk handed out.
 #[derive(Clone, Debug, PartialEq, Eq, Hash)]
-pub struct Commit {
+pub struct Info {
     /// Its name.
     pub id: ObjectId,
     /// Its parents in order; with [`first_parent`](Lister::first_parent) the first alone.

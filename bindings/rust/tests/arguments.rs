@@ -187,9 +187,19 @@ fn help_and_version() {
     ] {
         assert!(args::HELP.contains(option), "{option}");
     }
-    for help in [args::HELP, args::FEED_HELP, args::MERGE_BASE_HELP, args::TRACE_HELP, args::WRITE_GRAPH_HELP] {
+    for help in [
+        args::HELP,
+        args::FEED_HELP,
+        args::TERMS_HELP,
+        args::MERGE_BASE_HELP,
+        args::TRACE_HELP,
+        args::WRITE_GRAPH_HELP,
+        args::REPORT_HELP,
+        args::VERIFY_HELP,
+        args::COMPLETION_HELP,
+    ] {
         assert!(["\nusage: linenhatch", "\nexample: ", "\nExit status: 0 "].iter().all(|part| help.contains(part)), "{help}");
-        assert!(help.lines().all(|line| line.len() <= 150), "{help}");
+        assert!(help.lines().all(|line| line.len() <= 160), "{help}");
     }
 }
 
@@ -363,4 +373,64 @@ fn a_report_by_terms() {
         assert!(refused(line).contains(said), "{line}");
     }
     assert_eq!(task("terms -h"), Ok(Task::Help(args::TERMS_HELP)));
+}
+
+#[test]
+fn a_page() {
+    let page = |line: &str| match task(line) {
+        Ok(Task::Page(page)) => page,
+        other => panic!("{line}: {other:?}"),
+    };
+    let given = page("-C x report --term 2024-09..2025-01 --hide z -o out.html --term=2025-02 a..b --title Autumn --first-parent -- c");
+    assert_eq!(given.terms.iter().map(ToString::to_string).collect::<Vec<_>>(), ["2024-09..2025-01", "2025-02..2025-02"]);
+    assert_eq!((given.title.as_deref(), given.file.as_deref()), (Some("Autumn"), Some(Path::new("out.html"))));
+    assert_eq!((given.args.report, given.args.first_parent, given.args.dir.as_path()), (Some(Report::Page), true, Path::new("./x")));
+    assert_eq!((given.args.hide, given.args.revs), (vec!["z".into(), "a".into()], vec!["b".into(), "c".into()]));
+    let given = page("report");
+    assert_eq!((given.terms.len(), given.title, given.file, given.args.revs), (0, None, None, vec!["HEAD".into()]));
+    for (line, why) in [
+        ("report --term 2024-9", "'2024-9' is no term"),
+        ("report --term", "--term needs a term"),
+        ("report -o", "-o needs a file"),
+        ("report --hide --term 2024-09", "'--term' is no name of a commit"),
+        ("report --csv", "no option --csv"),
+        ("report -n 3", "a report has no option -n"),
+        ("report --format csv", "a report has no option --format"),
+        ("report --sideways", "no option --sideways"),
+        ("--term 2024-09", "no option --term"),
+    ] {
+        assert!(refused(line).contains(why), "{line}: {}", refused(line));
+    }
+    assert_eq!(task("report --term 2024-09 -h"), Ok(Task::Help(args::REPORT_HELP)));
+    assert_eq!((list("-- report").revs, list("main report").revs), (vec!["report".into()], vec!["main".into(), "report".into()]));
+}
+
+#[test]
+fn what_is_verified() {
+    let verify = |line: &str| match task(line) {
+        Ok(Task::Verify(verify)) => verify,
+        other => panic!("{line}: {other:?}"),
+    };
+    let given = verify("-C x verify --all --tags --progress a b..c ^d -- e");
+    assert_eq!((given.dir.as_path(), given.progress, given.refs), (Path::new("./x"), true, vec!["--all", "--tags"]));
+    assert_eq!(given.revs, ["a", "c", "b", "d", "e"]);
+    assert_eq!(verify("verify").revs, ["HEAD"]);
+    assert!(verify("verify --branches").revs.is_empty());
+    assert!(refused("verify --count").contains("verify has no option --count") && refused("verify -C").contains("-C needs"));
+    assert_eq!(task("verify -h"), Ok(Task::Help(args::VERIFY_HELP)));
+    assert_eq!(task("verify --version"), Ok(Task::Version));
+    assert_eq!(list("-- verify").revs, ["verify"]);
+}
+
+#[test]
+fn completion_and_the_manual() {
+    for (word, shell) in [("bash", args::Shell::Bash), ("zsh", args::Shell::Zsh), ("fish", args::Shell::Fish)] {
+        assert_eq!(task(&format!("completion {word}")), Ok(Task::Completion(shell)));
+    }
+    assert_eq!((task("man"), task("-C x --progress man")), (Ok(Task::Man), Ok(Task::Man)));
+    for line in ["completion", "completion sh", "completion bash zsh"] {
+        assert!(refused(line).contains("bash, zsh or fish"), "{line}");
+    }
+    assert!(refused("man list").contains("takes no words"));
+    assert_eq!((task("completion -h"), task("man --help")), (Ok(Task::Help(args::COMPLETION_HELP)), Ok(Task::Help(args::COMPLETION_HELP))));
 }

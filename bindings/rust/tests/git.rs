@@ -469,7 +469,7 @@ mod tool {
         let id = repository.git_with("hash-object -t commit -w --stdin", late.as_bytes());
         fs::write(repository.dir.join(".git/refs/heads/main"), format!("{}\n", id[0])).unwrap();
         let (_, why) = repository.fails(&format!("write-graph -o {}", file.display()));
-        assert!(why.contains("(refusal 19, unfit seconds)"), "{why}");
+        assert!(why.contains(&format!("(refusal 19, unfit seconds): {}", id[0])), "{why}");
         assert_eq!(fs::read(&file).unwrap(), b"kept");
     }
 
@@ -513,6 +513,8 @@ mod tool {
         assert_eq!(output.status.code(), Some(0), "{said}");
         assert_eq!(lines(&output.stdout), repository.git("rev-list cut"));
         assert!(said.contains("each is cut after its committer line"), "{said}");
+        assert_eq!(repository.list("--check-names cut"), ["5000 commits under the right name"]);
+        assert!(repository.list("verify cut")[1].starts_with("holds: each of them is under the id"));
         let (list, said) = repository.fails("large");
         assert!(list.is_empty());
         assert!(said.contains("its 30000 commits needs ") && said.contains("at most 16777216"), "{said}");

@@ -4,7 +4,7 @@ use std::ffi::{OsStr, OsString};
 use std::os::unix::ffi::OsStrExt;
 use std::path::PathBuf;
 
-use linenhatch::{Order, ParseTermError, Term, MAX_TERMS};
+use linenhatch::{Order, ParseTermError, Revs, Term, MAX_TERMS};
 
 pub const HELP: &str = include_str!("help/list.txt");
 pub const FEED_HELP: &str = include_str!("help/feed.txt");
@@ -12,6 +12,17 @@ pub const TERMS_HELP: &str = include_str!("help/terms.txt");
 pub const MERGE_BASE_HELP: &str = include_str!("help/merge-base.txt");
 pub const TRACE_HELP: &str = include_str!("help/trace.txt");
 pub const WRITE_GRAPH_HELP: &str = include_str!("help/write-graph.txt");
+pub const REPORT_HELP: &str = include_str!("help/report.txt");
+pub const VERIFY_HELP: &str = include_str!("help/verify.txt");
+pub const COMPLETION_HELP: &str = include_str!("help/completion.txt");
+
+#[path = "page_args.rs"]
+mod page_args;
+#[path = "verify_args.rs"]
+mod verify_args;
+
+pub use page_args::Page;
+pub use verify_args::Verify;
 
 /// What is to be done.
 #[derive(Debug, PartialEq)]
@@ -20,6 +31,12 @@ pub enum Task {
     MergeBase(Pair),
     Trace(Start),
     WriteGraph(Output),
+    Page(Page),
+    Verify(Verify),
+    /// The shell, of which is asked how it completes.
+    Completion(Shell),
+    /// The manual page.
+    Man,
     /// The text to print.
     Help(&'static str),
     Version,
@@ -90,13 +107,20 @@ pub struct Args {
 pub enum Report {
     Feed,
     Terms,
+    Page,
 }
 
 impl Report {
+    /// Whether it has readings, which may be embargoed.
+    fn has_feeds(self) -> bool {
+        self != Report::Terms
+    }
+
     fn help(self) -> &'static str {
         match self {
             Report::Feed => FEED_HELP,
             Report::Terms => TERMS_HELP,
+            Report::Page => REPORT_HELP,
         }
     }
 }
@@ -138,6 +162,10 @@ pub fn parse(words: impl IntoIterator<Item = OsString>) -> Result<Task, String> 
         Some("list") => parse_list(without(words, "list"), None),
         Some("feed") => parse_list(without(words, "feed"), Some(Report::Feed)),
         Some("terms") => parse_list(without(words, "terms"), Some(Report::Terms)),
+        Some("report") => page_args::parse_page(without(words, "report")),
+        Some("verify") => verify_args::parse_verify(without(words, "verify")),
+        Some("completion") => parse_completion(&of_no_repository(without(words, "completion"))),
+        Some("man") => parse_man(&of_no_repository(without(words, "man"))),
         _ => parse_list(words, None),
     }
 }
@@ -205,7 +233,7 @@ fn parse_list(words: Vec<OsString>, report: Option<Report>) -> Result<Task, Stri
         match option.as_str() {
             "--help" | "-h" => return Ok(Task::Help(report.map_or(HELP, Report::help))),
             "--version" | "-V" => return Ok(Task::Version),
-            "--embargo" if report != Some(Report::Feed) => return Err(unknown(&word)),
+            "--embargo" if !report.is_some_and(Report::has_feeds) => return Err(unknown(&word)),
             of_lists if report.is_some() && OF_LISTS.contains(&of_lists) => return Err(format!("a report has no option {option}")),
             _ => {}
         }
@@ -335,6 +363,46 @@ fn parse_output(words: Vec<OsString>) -> Result<Task, String> {
     Ok(Task::WriteGraph(Output { dir, progress, file }))
 }
 
+/// A shell that can complete the words of a command line.
+#[derive(Clone, Copy, Debug, PartialEq)]
+pub enum Shell {
+    Bash,
+    Zsh,
+    Fish,
+}
+
+/// The words without those that say where a repository is, which do nothing here.
+fn of_no_repository(words: Vec<OsString>) -> Vec<OsString> {
+    let mut words = words.into_iter();
+    let mut left = Vec::new();
+    while let Some(word) = words.next() {
+        match word.to_str() {
+            Some("-C") => drop(words.next()),
+            Some("--progress") => {}
+            _ => left.push(word),
+        }
+    }
+    left
+}
+
+fn parse_completion(words: &[OsString]) -> Result<Task, String> {
+    match words.iter().map(|word| word.to_str()).collect::<Vec<_>>()[..] {
+        [Some("bash")] => Ok(Task::Completion(Shell::Bash)),
+        [Some("zsh")] => Ok(Task::Completion(Shell::Zsh)),
+        [Some("fish")] => Ok(Task::Completion(Shell::Fish)),
+        [Some("--help" | "-h"), ..] => Ok(Task::Help(COMPLETION_HELP)),
+        _ => Err("completion needs the name of a shell: bash, zsh or fish".into()),
+    }
+}
+
+fn parse_man(words: &[OsString]) -> Result<Task, String> {
+    match words {
+        [] => Ok(Task::Man),
+        [word] if word == "--help" || word == "-h" => Ok(Task::Help(COMPLETION_HELP)),
+        _ => Err("man takes no words: it prints the manual page".into()),
+    }
+}
+
 fn are(count: usize) -> String {
     match count {
         0 => "are none".into(),
@@ -379,7 +447,7 @@ impl Args {
             "--zone" => self.zone = true,
             "--progress" => self.progress = true,
             "--csv" if self.report.is_some() => self.csv = true,
-            "--outside" if self.report == Some(Report::Feed) => self.outside = true,
+            "--outside" if self.report.is_some_and(Report::has_feeds) => self.outside = true,
             "--check-names" if self.report.is_none() => self.check_names = true,
             _ => return false,
         }
@@ -405,19 +473,9 @@ impl Args {
 
     /// A name to list from, or to hide: `A`, `^A`, `A..B`.
     fn add(&mut self, rev: OsString) -> Result<(), String> {
-        let bytes = rev.as_bytes();
-        if let Some(hidden) = bytes.strip_prefix(b"^") {
-            self.hide.push(name(OsStr::from_bytes(hidden).into())?);
-            return Ok(());
-        }
-        let Some(at) = bytes.windows(2).position(|two| two == b"..") else {
-            self.revs.push(name(rev)?);
-            return Ok(());
-        };
-        let or_head = |side: &[u8]| if side.is_empty() { "HEAD".into() } else { OsStr::from_bytes(side).to_os_string() };
-        let (from, to) = (name(or_head(&bytes[..at]))?, name(or_head(&bytes[at + 2..]))?);
-        self.hide.push(from);
-        self.revs.push(to);
+        let Revs { tips, hidden } = Revs::parse([rev]).map_err(|error| error.to_string())?;
+        self.hide.extend(hidden);
+        self.revs.extend(tips);
         Ok(())
     }
 }
@@ -438,14 +496,7 @@ fn unknown(word: &OsStr) -> String {
 
 /// One name of a commit.
 fn name(rev: OsString) -> Result<OsString, String> {
-    let text = rev.to_string_lossy();
-    if text.is_empty() || text.starts_with('-') {
-        return Err(format!("'{text}' is no name of a commit"));
-    }
-    if text.starts_with(['^', '.']) || text.contains("..") {
-        return Err(format!("'{text}' is not the name of one commit; A, ^A and A..B are known, and A...B is not"));
-    }
-    Ok(rev)
+    Revs::one(rev).map_err(|error| error.to_string())
 }
 
 fn order_of(word: &OsStr) -> Result<Order, String> {

@@ -2,14 +2,12 @@
 
 use std::collections::{HashMap, HashSet};
 use std::ffi::OsString;
-use std::io::{self, IsTerminal};
 
 use linenhatch::{write_graph, Lister, ObjectId, Refusal, Walk, MAX_FILE_BYTES, MAX_IDS};
 
 use crate::args::{Args, Graph};
-use crate::progress::Progress;
 use crate::refused::{self, counted, named};
-use crate::repository::{Commits, Repository, Wanted};
+use crate::repository::{self, Commits, Repository, Wanted};
 use crate::{say, survey};
 
 pub struct History {
@@ -28,24 +26,23 @@ pub struct History {
 impl History {
     /// Reads all commits that the names and hidden names reach, once, and writes the commit-graph file that is asked for.
     pub fn read(args: &Args, store: impl FnOnce(Commits) -> Result<Vec<u8>, String>) -> Result<History, String> {
-        let repository = Repository::open(args.dir.clone())?;
+        let repository = repository::open(&args.dir)?;
         let mut tips = tips(&repository, args)?;
         let hidden = resolve(&repository, &args.hide, "hidden names")?;
         let excluded = resolve(&repository, &args.exclude, "excluded names")?;
-        let wanted = Wanted { boundary: repository.boundary()?, subjects: args.format.is_table() && !args.count };
-        let mut progress = Progress::new(args.progress || io::stderr().is_terminal(), "commits read");
-        let commits = repository.read(&[&tips[..], &hidden].concat(), &wanted, &mut progress);
-        progress.make_way();
-        let mut commits = commits?;
+        let boundary = repository.boundary().map_err(|error| error.to_string())?;
+        let subjects = (args.format.is_table() && !args.count).then(HashMap::new);
+        let mut wanted = Wanted { boundary, subjects, progress: args.progress };
+        let mut commits = repository::read(&repository, &[&tips[..], &hidden].concat(), &mut wanted)?;
         note_cut(&commits.cut);
         let absent = std::mem::take(&mut commits.absent);
-        let subjects = std::mem::take(&mut commits.subjects);
+        let subjects = wanted.subjects.unwrap_or_default();
         let store = store(commits)?;
         if tips.len() > MAX_IDS {
             tips = fewer(tips, args, &store)?;
         }
         let graph = match args.graph {
-            Graph::Own => own_graph(&store, &[&tips[..], &hidden].concat()),
+            Graph::Own => own_graph(&store, &tips, &hidden),
             Graph::Git => git_graph(&repository),
             Graph::None => Vec::new(),
         };
@@ -69,30 +66,26 @@ impl History {
     pub fn open(&self, args: &Args) -> Result<Walk<'_>, String> {
         let lister = self.lister(args);
         let opened = if args.untested { lister.open() } else { lister.open_tested() };
-        opened.map_err(|refusal| self.not_opened(refusal, args.graph))
+        opened.map_err(|refusal| self.not_opened(refusal, args))
     }
 
     /// Why no walk was opened, which commits are meant, and what to do.
-    pub fn not_opened(&self, refusal: Refusal, graph: Graph) -> String {
-        let from = [&self.tips[..], &self.hidden].concat();
-        let (which, advice) = match refusal {
+    pub fn not_opened(&self, refusal: Refusal, args: &Args) -> String {
+        let advice = match refusal {
             Refusal::UnreadableReach => return refused::unreadable_reach(&self.store, &self.absent),
             Refusal::UnknownGraph | Refusal::CorruptGraph => {
-                (Vec::new(), "Leave git's commit-graph file out: without --git-graph the list goes by a file of its own.")
+                "Leave git's commit-graph file out: without --git-graph the list goes by a file of its own."
             }
-            Refusal::GraphAtOdds => (
-                survey::at_odds(&self.store, &self.graph, &from),
+            Refusal::GraphAtOdds => {
                 "Git's commit-graph file is stale or damaged (git commit-graph verify). Leave it out: without --git-graph the list goes by a file \
-                 of its own; or have git write it anew with git commit-graph write --reachable.",
-            ),
-            Refusal::PairNotFalling => (survey::not_falling(&self.store, &self.graph, &from), advice_on_clocks(graph)),
-            Refusal::TipUnreadable => {
-                (refused::unreadable_tip(&self.store, &self.tips).into_iter().collect(), "--order breadth needs no committer time.")
+                 of its own; or have git write it anew with git commit-graph write --reachable."
             }
-            _ => (Vec::new(), ""),
+            Refusal::PairNotFalling => advice_on_clocks(args.graph),
+            Refusal::TipUnreadable => "--order breadth needs no committer time.",
+            _ => "",
         };
-        let which = if which.is_empty() { String::new() } else { format!(": {}", named(&which)) };
-        format!("{refusal}{which}{}{advice}", if advice.is_empty() { "" } else { "\n" })
+        let refused = self.lister(args).refused(refusal);
+        format!("{refused}{}{advice}", if advice.is_empty() { "" } else { "\n" })
     }
 }
 
@@ -113,7 +106,7 @@ fn advice_on_clocks(graph: Graph) -> &'static str {
 fn tips(repository: &Repository, args: &Args) -> Result<Vec<ObjectId>, String> {
     let mut tips = resolve(repository, &args.revs, "names")?;
     if !args.refs.is_empty() {
-        tips.extend(repository.tips(&args.refs)?);
+        tips.extend(repository.tips(&repository::references(&args.refs)).map_err(|error| error.to_string())?);
         let mut known = HashSet::new();
         tips.retain(|id| known.insert(*id));
     }
@@ -132,7 +125,7 @@ pub fn resolve(repository: &Repository, names: &[OsString], what: &str) -> Resul
     if names.len() > MAX_IDS {
         return Err(format!("{} {what} are given, and a walk takes at most {MAX_IDS}", names.len()));
     }
-    repository.resolve(names)
+    repository.resolve(names).map_err(|error| error.to_string())
 }
 
 /// Of more tips than a walk takes those that are no parents of others' commits. A parent of a hidden name's commit is hidden, so it may go too; but what
@@ -184,11 +177,11 @@ pub fn store(commits: Commits) -> Result<Vec<u8>, String> {
 }
 
 /// The commit-graph file of the commits that were read. With it a tested opening is accepted whatever the clocks say.
-fn own_graph(store: &[u8], from: &[ObjectId]) -> Vec<u8> {
+fn own_graph(store: &[u8], tips: &[ObjectId], hidden: &[ObjectId]) -> Vec<u8> {
     match write_graph(store) {
         Ok(file) => file,
         Err(Refusal::UnfitSeconds) => {
-            let ids = survey::unfit_seconds(store, from);
+            let ids = Lister::new(store).tips(tips).hide(hidden).refused(Refusal::UnfitSeconds).commits;
             let what = counted(ids.len(), "commit");
             say(
                 "note",

@@ -3,7 +3,7 @@
 use std::collections::HashMap;
 use std::io::{self, BufWriter, IsTerminal, Write};
 
-use linenhatch::{Commit, ObjectId, Refusal, Walk};
+use linenhatch::{Info, ObjectId, Refusal, Walk};
 
 use crate::args::{Args, Format, Graph};
 use crate::history::{store, History};
@@ -41,7 +41,7 @@ pub fn list(args: &Args) -> Result<(), String> {
 /// The seconds of `--since`, or of `--until`.
 fn seconds(history: &History, args: &Args, since: bool) -> Result<Option<i64>, String> {
     let date = if since { &args.since } else { &args.until };
-    date.as_ref().map(|date| history.repository.seconds(date)).transpose()
+    date.as_ref().map(|date| history.repository.seconds(date).map_err(|error| error.to_string())).transpose()
 }
 
 /// Commits that are not there, and that the walk did not come to.
@@ -69,10 +69,10 @@ struct Lines<'a> {
     out: BufWriter<io::StdoutLock<'static>>,
     history: &'a History,
     /// The commits as they stand in the store.
-    stored: HashMap<ObjectId, Commit>,
+    stored: HashMap<ObjectId, Info>,
     since: Option<i64>,
     until: Option<i64>,
-    kept: Vec<Commit>,
+    kept: Vec<Info>,
     count: u64,
     printed: u64,
 }
@@ -104,7 +104,7 @@ impl Lines<'_> {
         written(self.finish(), "list").map(|()| refused)
     }
 
-    fn take(&mut self, mut commit: Commit) -> io::Result<()> {
+    fn take(&mut self, mut commit: Info) -> io::Result<()> {
         if let Some(stored) = self.stored.get(&commit.id) {
             if !self.passes(stored.time) {
                 return Ok(());
@@ -146,7 +146,7 @@ impl Lines<'_> {
         self.out.flush()
     }
 
-    fn print(&mut self, commit: &Commit) -> io::Result<()> {
+    fn print(&mut self, commit: &Info) -> io::Result<()> {
         let subject = self.history.subjects.get(&commit.id).map_or("", String::as_str);
         let first = self.printed == 0;
         self.printed += 1;
@@ -166,7 +166,7 @@ impl Lines<'_> {
     }
 }
 
-fn print_ids(commit: &Commit, args: &Args, out: &mut impl Write) -> io::Result<()> {
+fn print_ids(commit: &Info, args: &Args, out: &mut impl Write) -> io::Result<()> {
     write!(out, "{}", commit.id)?;
     if args.time {
         write!(out, " {}/{}", or_dash(commit.time), or_dash(commit.generation))?;

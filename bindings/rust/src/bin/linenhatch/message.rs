@@ -1,4 +1,4 @@
-//! What the tool itself takes from a commit's body: its subject, and its lines without those of its parents. No list rests on the first.
+//! What the tool itself takes from a commit's body: its subject. No list rests on it.
 
 /// A commit's subject as git has it: the lines of the message up to the first that is blank, joined by spaces.
 pub fn subject(body: &[u8]) -> String {
@@ -20,15 +20,6 @@ fn is_latin(header: &[u8]) -> bool {
     encodings.next().is_some_and(|name| [&b"iso-8859-1"[..], b"iso8859-1", b"latin1", b"latin-1"].contains(&&name.to_ascii_lowercase()[..]))
 }
 
-/// A body without its parent lines, those between the tree line and the author line.
-pub fn without_parents(body: &[u8]) -> Vec<u8> {
-    let mut lines = body.split_inclusive(|&byte| byte == b'\n');
-    let mut left = lines.next().unwrap_or_default().to_vec();
-    let rest: Vec<&[u8]> = lines.skip_while(|line| line.starts_with(b"parent ")).collect();
-    left.extend(rest.concat());
-    left
-}
-
 #[cfg(test)]
 mod tests {
     use super::*;
@@ -42,13 +33,5 @@ mod tests {
         assert_eq!(said("tree t\n"), "");
         assert_eq!(subject(b"tree t\nencoding ISO-8859-1\n\ncaf\xe9"), "café");
         assert_eq!(subject(b"tree t\n\ncaf\xe9"), "caf\u{fffd}");
-    }
-
-    #[test]
-    fn bodies_without_parents() {
-        let body = b"tree t\nparent a\nparent b\nauthor A\ncommitter C\n\nparent c\n";
-        assert_eq!(without_parents(body), b"tree t\nauthor A\ncommitter C\n\nparent c\n");
-        assert_eq!(without_parents(b"tree t\nauthor A"), b"tree t\nauthor A");
-        assert_eq!(without_parents(b""), b"");
     }
 }

@@ -1,7 +1,8 @@
 //! Which commits a walk's refusals were about. An answer that refuses names no commit, so those that may be meant are tried alone, each by a walk
 //! of its own.
 
-use linenhatch::{store_from_commits, Lister, ObjectId, Order, Refusal, ID_BYTES};
+pub use linenhatch::entries;
+use linenhatch::{store_from_commits, Lister, ObjectId, Refusal};
 
 /// The refusals that a walk met on its way, and what is to be said of them.
 #[derive(Default)]
@@ -89,12 +90,6 @@ fn meant(ids: &[ObjectId], count: usize) -> String {
     }
 }
 
-/// The first tip that an order by time refuses for its header.
-pub fn unreadable_tip(store: &[u8], tips: &[ObjectId]) -> Option<ObjectId> {
-    let refused = |tip: &&ObjectId| Lister::new(store).tips(&[**tip]).order(Order::Newest).open().err() == Some(Refusal::TipUnreadable);
-    tips.iter().find(refused).copied()
-}
-
 /// The commits of a store that a walk refuses so when it comes to them, or when it reads them for hiding.
 fn alone(store: &[u8], refusal: Refusal, hiding: bool) -> Vec<ObjectId> {
     entries(store).filter(|(id, body)| tried(*id, body, hiding) == Some(refusal)).map(|(id, _)| id).collect()
@@ -104,19 +99,6 @@ fn tried(id: ObjectId, body: &[u8], hiding: bool) -> Option<Refusal> {
     let store = store_from_commits([(id, body)]).ok()?;
     let hidden = if hiding { &[id][..] } else { &[] };
     Lister::new(&store).tips(&[id]).hide(hidden).open().ok()?.next()?.err()
-}
-
-/// The commits of a store, each with its body.
-pub fn entries(store: &[u8]) -> impl Iterator<Item = (ObjectId, &[u8])> {
-    let number = |at: usize| u32::from_be_bytes(store[at..at + 4].try_into().expect("4 bytes")) as usize;
-    let (start, mut from) = (number(store.len() - 8), 0);
-    store[start..store.len() - 8].chunks_exact(ID_BYTES + 4).map(move |entry| {
-        let (id, end) = entry.split_at(ID_BYTES);
-        let end = u32::from_be_bytes(end.try_into().expect("4 bytes")) as usize;
-        let body = &store[from..end];
-        from = end;
-        (ObjectId(id.try_into().expect("an id")), body)
-    })
 }
 
 #[cfg(test)]
@@ -131,11 +113,9 @@ mod tests {
         let no_author = GOOD.replace("author ", "writer ");
         let no_committer = GOOD.replace("committer ", "keeper ");
         let store = store_from_commits([(id(3), GOOD), (id(1), &no_author), (id(2), &no_committer)]).unwrap();
-        assert_eq!(entries(&store).map(|(id, body)| (id, body.len())).collect::<Vec<_>>(), [(id(1), 92), (id(2), 89), (id(3), 92)]);
         assert_eq!(alone(&store, Refusal::CommitUnreadable, false), [id(1)]);
         assert_eq!(alone(&store, Refusal::CommitUnreadable, true), [id(1), id(2)]);
         assert_eq!(alone(&store, Refusal::TooManyParents, true), []);
-        assert_eq!(unreadable_tip(&store, &[id(3), id(2), id(1)]), Some(id(2)));
     }
 
     #[test]

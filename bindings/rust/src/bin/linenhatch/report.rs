@@ -1,81 +1,46 @@
 //! Reports over a whole walk, as text and as fields parted by commas.
 
-use std::fs;
 use std::io::{self, Write};
 
-use linenhatch::{store_from_commits, FeedReport, Lister, ObjectId, Reader, Refusal, Term, TermsReport, MAX_IDS};
+use linenhatch::{FeedReport, Lister, Refusal, Term, TermsReport};
 
 use crate::args::{Args, Report};
+use crate::embargo::Embargo;
 use crate::history::{self, History};
 use crate::listing::written;
-use crate::refused::entries;
 use crate::repository::Commits;
 
 /// Prints a report over all commits that would be listed, exact as a list is; or says why there is none.
 pub fn report(args: &Args) -> Result<(), String> {
-    let embargoed = embargoed(args)?;
+    let embargo = Embargo::read(args)?;
     let history = History::read(args, |commits| store(args, commits))?;
     // A report opens a walk of its own over the same files, so what holds after this test holds of it.
     history.open(args)?;
     let lister = history.lister(args);
-    let text = text(args, &lister, &embargoed).map_err(|refusal| match refusal {
-        Refusal::ReadingTwice | Refusal::ReadingUnreadable => at_fault(refusal, &lister, &history.store, reader(args), &embargoed),
-        _ => history.not_opened(refusal, args.graph),
-    })?;
+    let text = text(args, &lister, &embargo).map_err(|refusal| embargo.not_reported(refusal, &history, args))?;
     written(io::stdout().write_all(text.as_bytes()), "report")
-}
-
-/// Who a feed report is for.
-fn reader(args: &Args) -> Reader {
-    if args.outside {
-        Reader::Outside
-    } else {
-        Reader::Shop
-    }
-}
-
-/// The embargoed ids: one on each line of the file; empty lines are passed over.
-fn embargoed(args: &Args) -> Result<Vec<ObjectId>, String> {
-    let Some(file) = &args.embargo else { return Ok(Vec::new()) };
-    let bytes = fs::read(file).map_err(|error| format!("the embargoed ids cannot be read from {}: {error}", file.display()))?;
-    let lines = bytes.split(|&byte| byte == b'\n').map(|line| line.strip_suffix(b"\r").unwrap_or(line)).enumerate();
-    let ids: Vec<ObjectId> = lines
-        .filter(|(_, line)| !line.is_empty())
-        .map(|(k, line)| id_on(line, &file.display().to_string(), k + 1))
-        .collect::<Result<_, _>>()?;
-    if ids.len() > MAX_IDS {
-        return Err(format!("{} names {} commits, and at most {MAX_IDS} can be embargoed at once: shorten it", file.display(), ids.len()));
-    }
-    Ok(ids)
-}
-
-fn id_on(line: &[u8], file: &str, number: usize) -> Result<ObjectId, String> {
-    ObjectId::from_hex(line).ok_or_else(|| {
-        let line = String::from_utf8_lossy(line);
-        format!("{file}, line {number}: '{line}' is no whole id: write one id of 40 hexadecimal digits on each line, as linenhatch list prints them")
-    })
 }
 
 /// The commit store that a report needs: a feed report reads messages, so the commits have to fit whole; seconds stand in the header.
 fn store(args: &Args, commits: Commits) -> Result<Vec<u8>, String> {
     match args.report {
         Some(Report::Feed) => commits.whole.finish().map_err(|too_large| format!("the messages cannot be read at once: {too_large}")),
-        Some(Report::Terms) | None => history::store(commits),
+        Some(Report::Terms | Report::Page) | None => history::store(commits),
     }
 }
 
 /// What is printed.
-fn text(args: &Args, lister: &Lister<'_>, embargoed: &[ObjectId]) -> Result<String, Refusal> {
+fn text(args: &Args, lister: &Lister<'_>, embargo: &Embargo) -> Result<String, Refusal> {
     match args.report {
         Some(Report::Feed) => {
-            let report = lister.feed_report_for(reader(args), embargoed)?;
+            let report = embargo.feed_report(lister)?;
             Ok(if args.csv { feed_fields(&report) } else { feed_lines(&report) })
         }
         Some(Report::Terms) => {
             let report = lister.terms_report(&args.terms)?;
             Ok(if args.csv { term_fields(&args.terms, &report) } else { term_lines(&args.terms, &report) })
         }
-        None => Ok(String::new()),
+        Some(Report::Page) | None => Ok(String::new()),
     }
 }
 
@@ -128,18 +93,4 @@ fn a_month(term: &Term, count: u64) -> f64 {
 
 fn decimal(mean: f64) -> String {
     format!("{mean:.3}")
-}
-
-/// The refusal of a message, with the commit that is meant: the first of the walk whose message alone is so refused.
-fn at_fault(refusal: Refusal, lister: &Lister<'_>, store: &[u8], reader: Reader, embargoed: &[ObjectId]) -> String {
-    let alone = |id: ObjectId| {
-        let body = entries(store).find(|(name, _)| *name == id).map(|(_, body)| body)?;
-        let message = body.windows(2).position(|two| two == b"\n\n").map_or(&[][..], |at| &body[at..]);
-        let head = format!("tree {}\nauthor A <a> 5 +0000\ncommitter A <a> 5 +0000", "0".repeat(40));
-        let store = store_from_commits([(id, [head.as_bytes(), message].concat())]).ok()?;
-        (Lister::new(&store).tips(&[id]).feed_report_for(reader, embargoed) == Err(refusal)).then_some(id)
-    };
-    let first = lister.open().ok().and_then(|mut walk| walk.find_map(|commit| alone(commit.ok()?.id)));
-    let which = first.map_or(String::new(), |id| format!(": {id}"));
-    format!("{refusal}{which}")
 }

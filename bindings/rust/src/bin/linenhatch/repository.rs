@@ -1,23 +1,28 @@
-//! What the tool takes from a git repository, through git itself.
+//! Reading a repository while a person waits: how far it is, and the subjects of commits.
 
 use std::collections::{HashMap, HashSet};
-use std::ffi::{OsStr, OsString};
-use std::fs;
-use std::io::{self, BufRead, BufReader, BufWriter, Read, Write};
-use std::os::unix::ffi::OsStrExt;
-use std::path::{Path, PathBuf};
-use std::process::{ChildStdin, Command, Stdio};
-use std::sync::mpsc::{channel, Receiver};
-use std::thread;
+use std::io::{self, IsTerminal};
+use std::path::Path;
 
-use linenhatch::{header, parents, ObjectId, StoreBuilder, MAX_FILE_BYTES};
+pub use linenhatch::{Commits, Repository};
+use linenhatch::{ObjectId, References};
 
-use crate::message::{subject, without_parents};
+use crate::message::subject;
 use crate::progress::Progress;
 
-pub struct Repository {
-    dir: PathBuf,
-    shallow: bool,
+/// The repository that a folder is in.
+pub fn open(dir: &Path) -> Result<Repository, String> {
+    Repository::open(dir).map_err(|error| error.to_string())
+}
+
+/// The references of `--all`, `--branches` and `--tags`.
+pub fn references(options: &[&str]) -> Vec<References> {
+    let which = |option: &&str| match *option {
+        "--branches" => References::Branches,
+        "--tags" => References::Tags,
+        _ => References::All,
+    };
+    options.iter().map(which).collect()
 }
 
 /// What is asked of a reading beside the commits themselves.
@@ -25,349 +30,22 @@ pub struct Repository {
 pub struct Wanted {
     /// Commits that count as having no parents, since history was cut off there.
     pub boundary: HashSet<ObjectId>,
-    pub subjects: bool,
+    /// Filled with the subjects, if there is a place for them.
+    pub subjects: Option<HashMap<ObjectId, String>>,
+    /// Also where standard error is no terminal.
+    pub progress: bool,
 }
 
-/// The commits that some names reach, as a store of whole bodies and as one of headers.
-#[derive(Default)]
-pub struct Commits {
-    pub whole: StoreBuilder,
-    pub headers: StoreBuilder,
-    /// Ids that a commit names as parents and the repository has no commit for.
-    pub absent: Vec<ObjectId>,
-    /// Commits that stand in the stores without their parent lines.
-    pub cut: Vec<ObjectId>,
-    pub subjects: HashMap<ObjectId, String>,
-}
-
-/// Commits as they come from git.
-struct Reading<'a> {
-    wanted: &'a Wanted,
-    commits: Commits,
-    /// Ids that git has answered for.
-    answered: HashSet<ObjectId>,
-    /// Ids that are to be there: the first ones, and those that a commit names as parents.
-    named: Vec<ObjectId>,
-}
-
-impl Reading<'_> {
-    fn take(&mut self, object: Object, body: &[u8], progress: &mut Progress) {
-        let id = match object {
-            Object::Other(id) => {
-                if self.answered.insert(id) {
-                    self.commits.absent.push(id);
-                }
-                return;
-            }
-            Object::Commit(id) => id,
-        };
-        if !self.answered.insert(id) {
-            return;
-        }
+/// Every commit that these reach.
+pub fn read(repository: &Repository, from: &[ObjectId], wanted: &mut Wanted) -> Result<Commits, String> {
+    let Wanted { boundary, subjects, progress } = wanted;
+    let mut progress = Progress::new(*progress || io::stderr().is_terminal(), "commits read");
+    let commits = repository.commits(from, boundary, |id, body| {
         progress.step();
-        if self.wanted.subjects {
-            self.commits.subjects.insert(id, subject(body));
+        if let Some(subjects) = subjects {
+            subjects.insert(id, subject(body));
         }
-        if self.wanted.boundary.contains(&id) && parents(body).next().is_some() {
-            self.commits.cut.push(id);
-            return self.store(id, &without_parents(body));
-        }
-        self.named.extend(parents(body));
-        self.store(id, body);
-    }
-
-    fn store(&mut self, id: ObjectId, body: &[u8]) {
-        self.commits.whole.add(id, body);
-        self.commits.headers.add(id, header(body));
-    }
-}
-
-impl Repository {
-    /// The repository in a folder. Its ids must have 20 bytes.
-    pub fn open(dir: PathBuf) -> Result<Repository, String> {
-        let mut repository = Repository { dir, shallow: false };
-        let asked = repository.text(&["rev-parse", "--git-dir", "--show-object-format", "--is-shallow-repository"]);
-        let text = asked.map_err(|said| match said.strip_prefix("fatal: not a git repository") {
-            Some(_) => format!("{}; -C DIR says where one is", &said["fatal: ".len()..]),
-            None => said,
-        })?;
-        let mut lines = text.rsplit(|&byte| byte == b'\n');
-        repository.shallow = lines.next() == Some(b"true");
-        if lines.next() == Some(b"sha256") {
-            return Err(
-                "this repository has SHA-256 ids of 32 bytes, which are not yet supported: the list is over SHA-1 ids of 20 bytes alone \
-                        (`git rev-list` lists it)"
-                    .into(),
-            );
-        }
-        Ok(repository)
-    }
-
-    fn git(&self) -> Command {
-        let mut git = Command::new("git");
-        git.arg("-C").arg(&self.dir).arg("--no-replace-objects").env("GIT_GRAFT_FILE", "/dev/null");
-        git
-    }
-
-    /// What git prints, without the newline at its end.
-    fn text<W: AsRef<OsStr>>(&self, words: &[W]) -> Result<Vec<u8>, String> {
-        let output = self.git().args(words).stdin(Stdio::null()).output().map_err(not_started)?;
-        if !output.status.success() {
-            return Err(String::from_utf8_lossy(&output.stderr).trim_end().to_string());
-        }
-        let mut text = output.stdout;
-        if text.ends_with(b"\n") {
-            text.pop();
-        }
-        Ok(text)
-    }
-
-    /// The commits that names stand for.
-    pub fn resolve(&self, names: &[OsString]) -> Result<Vec<ObjectId>, String> {
-        if names.is_empty() {
-            return Ok(Vec::new());
-        }
-        let unknown = |name: &OsString| match name == "HEAD" {
-            true if self.is_empty() => "this repository has no commits yet".into(),
-            true => "HEAD leads to no commit: give the name of a branch, or --all".into(),
-            false => format!("'{}' is the name of no commit here", name.to_string_lossy()),
-        };
-        // Each line is a name, so a name with a newline would be two.
-        if let Some(name) = names.iter().find(|name| name.as_bytes().contains(&b'\n')) {
-            return Err(unknown(name));
-        }
-        // What follows `:/` is all text to look for, and what is found is a commit.
-        let end = |name: &[u8]| if name.starts_with(b":/") { &b"\n"[..] } else { b"^{commit}\n" };
-        let asked: Vec<u8> = names.iter().flat_map(|name| [name.as_bytes(), end(name.as_bytes())].concat()).collect();
-        let text = self.told(&["cat-file", "--batch-check=%(objectname) %(objecttype)"], &asked)?;
-        let mut answers = text.split(|&byte| byte == b'\n');
-        let id = |answer: &[u8]| answer.strip_suffix(b" commit").and_then(ObjectId::from_hex);
-        names.iter().map(|name| answers.next().and_then(id).ok_or_else(|| unknown(name))).collect()
-    }
-
-    /// What git prints when it is told something.
-    fn told(&self, words: &[&str], input: &[u8]) -> Result<Vec<u8>, String> {
-        let mut git = self.git();
-        git.args(words).stdin(Stdio::piped()).stdout(Stdio::piped()).stderr(Stdio::null());
-        let mut git = git.spawn().map_err(not_started)?;
-        let mut stdin = git.stdin.take().expect("piped");
-        let output = thread::scope(|scope| {
-            // If git takes no more, its answer ends early, and that shows.
-            scope.spawn(move || drop(stdin.write_all(input)));
-            git.wait_with_output()
-        });
-        Ok(output.map_err(|error| format!("git cannot be read: {error}"))?.stdout)
-    }
-
-    /// The seconds that git reads a date as.
-    pub fn seconds(&self, date: &OsStr) -> Result<i64, String> {
-        let mut since = OsString::from("--since=");
-        since.push(date);
-        // `rev-parse` takes what is no date for now; `config` refuses it.
-        let words = ["config", "--type=expiry-date", "--get", "--default"].map(OsStr::new);
-        let is_number = !date.is_empty() && date.as_bytes().iter().all(u8::is_ascii_digit);
-        let known = is_number || self.text(&[&words[..], &[date, OsStr::new("linenhatch.date")]].concat()).is_ok();
-        let text = if known { self.text(&[OsStr::new("rev-parse"), &since])? } else { Vec::new() };
-        let seconds = text.strip_prefix(b"--max-age=").and_then(|digits| std::str::from_utf8(digits).ok()?.parse().ok());
-        seconds.ok_or_else(|| format!("'{}' is no date that git can read; 2024-09-01 and '2 weeks ago' are", date.to_string_lossy()))
-    }
-
-    /// The commits that references lead to: those of `--all` (with HEAD), `--branches` or `--tags`.
-    pub fn tips(&self, refs: &[&str]) -> Result<Vec<ObjectId>, String> {
-        let text = self.text(&[&["rev-list", "--no-walk=unsorted"], refs].concat())?;
-        let lines = text.split(|&byte| byte == b'\n').filter(|line| !line.is_empty());
-        let bad = |line: &[u8]| format!("git rev-list printed '{}'", String::from_utf8_lossy(line));
-        lines.map(|line| ObjectId::from_hex(line).ok_or_else(|| bad(line))).collect()
-    }
-
-    /// Whether no name of the repository leads to a commit.
-    pub fn is_empty(&self) -> bool {
-        self.text(&["rev-list", "--max-count=1", "--all"]).is_ok_and(|text| text.is_empty())
-    }
-
-    /// Whether history was cut off when the repository was cloned.
-    pub fn is_shallow(&self) -> bool {
-        self.shallow
-    }
-
-    /// The commits at which it was cut off.
-    pub fn boundary(&self) -> Result<HashSet<ObjectId>, String> {
-        if !self.shallow {
-            return Ok(HashSet::new());
-        }
-        let file = self.path("shallow")?;
-        let text = fs::read(&file).map_err(|error| format!("{}: {error}", file.display()))?;
-        Ok(text.split(|&byte| byte == b'\n').filter_map(ObjectId::from_hex).collect())
-    }
-
-    /// The commit-graph file, no bytes if there is none; or why it is not used.
-    pub fn graph(&self) -> Result<Vec<u8>, String> {
-        let file = self.path("objects/info/commit-graph")?;
-        if !file.is_file() {
-            let chain = self.path("objects/info/commit-graphs/commit-graph-chain")?;
-            return if chain.is_file() { Err("it is a chain of several layers".into()) } else { Ok(Vec::new()) };
-        }
-        let bytes = fs::read(&file).map_err(|error| format!("{}: {error}", file.display()))?;
-        if bytes.len() > MAX_FILE_BYTES {
-            return Err(format!("it has {} bytes, and a walk takes at most {MAX_FILE_BYTES}", bytes.len()));
-        }
-        Ok(bytes)
-    }
-
-    fn path(&self, inside: &str) -> Result<PathBuf, String> {
-        let path = self.text(&["rev-parse", "--git-path", inside])?;
-        Ok(self.dir.join(Path::new(OsStr::from_bytes(&path))))
-    }
-
-    /// Every commit that these reach over the parent lines of their bodies.
-    pub fn read(&self, from: &[ObjectId], wanted: &Wanted, progress: &mut Progress) -> Result<Commits, String> {
-        let mut reading = Reading { wanted, commits: Commits::default(), answered: HashSet::new(), named: from.to_vec() };
-        if from.is_empty() {
-            return Ok(reading.commits);
-        }
-        self.read_listed(from, &mut reading, progress).map_err(|error| format!("git cat-file: {error}"))?;
-        reading.named.retain(|id| !reading.answered.contains(id));
-        if !reading.named.is_empty() {
-            self.read_named(&mut reading, progress).map_err(|error| format!("git cat-file: {error}"))?;
-        }
-        Ok(reading.commits)
-    }
-
-    /// Reads what git itself lists, in one go. Git may go by its commit-graph file for that, so nothing rests on the list being whole.
-    fn read_listed(&self, from: &[ObjectId], reading: &mut Reading<'_>, progress: &mut Progress) -> io::Result<()> {
-        let mut list = self.git();
-        list.args(["rev-list", "--stdin"]).stdin(Stdio::piped()).stdout(Stdio::piped()).stderr(Stdio::null());
-        let mut list = list.spawn()?;
-        let ids: String = from.iter().map(|id| format!("{id}\n")).collect();
-        // If git takes no more, it lists less.
-        let _ = list.stdin.take().expect("piped").write_all(ids.as_bytes());
-        // In one statement, so that no end of the pipe between the two stays open here.
-        let listed = list.stdout.take().expect("piped");
-        let mut git = self.git().args(["cat-file", "--batch", "--buffer"]).stdin(listed).stdout(Stdio::piped()).spawn()?;
-        let mut answers = BufReader::with_capacity(1 << 16, git.stdout.take().expect("piped"));
-        let mut body = Vec::new();
-        let mut result = Ok(());
-        loop {
-            match answer(&mut answers, &mut body) {
-                Ok(Some(object)) => reading.take(object, &body, progress),
-                Ok(None) => break,
-                Err(error) => {
-                    result = Err(error);
-                    break;
-                }
-            }
-        }
-        drop(answers);
-        let _ = (list.wait(), git.wait());
-        result
-    }
-
-    /// Reads what is named and not yet answered, and all that comes after it by parents.
-    fn read_named(&self, reading: &mut Reading<'_>, progress: &mut Progress) -> io::Result<()> {
-        let mut git = self.git();
-        git.args(["cat-file", "--batch"]).stdin(Stdio::piped()).stdout(Stdio::piped());
-        let mut git = git.spawn()?;
-        let (stdin, stdout) = (git.stdin.take().expect("piped"), git.stdout.take().expect("piped"));
-        // A thread of its own asks for commits, so that git never waits for us to read while we wait for it to take a name.
-        let (ask, asked) = channel();
-        let asking = thread::spawn(move || ask_for(stdin, asked));
-        let mut answers = BufReader::new(stdout);
-        let (mut known, mut open, mut body) = (HashSet::new(), 0u64, Vec::new());
-        let mut result = Ok(());
-        loop {
-            for id in std::mem::take(&mut reading.named) {
-                if !reading.answered.contains(&id) && known.insert(id) {
-                    open += 1;
-                    // If the thread has ended, git has, and the next answer will not come.
-                    let _ = ask.send(id);
-                }
-            }
-            if open == 0 {
-                break;
-            }
-            open -= 1;
-            match answer(&mut answers, &mut body).and_then(|object| object.ok_or_else(ended_early)) {
-                Ok(object) => reading.take(object, &body, progress),
-                Err(error) => {
-                    result = Err(error);
-                    break;
-                }
-            }
-        }
-        drop(ask);
-        drop(answers);
-        let _ = asking.join();
-        let _ = git.wait();
-        result
-    }
-}
-
-fn ended_early() -> io::Error {
-    io::Error::new(io::ErrorKind::UnexpectedEof, "ended early")
-}
-
-fn not_started(error: io::Error) -> String {
-    format!("git cannot be started: {error}")
-}
-
-/// Writes the ids that are asked for to `git cat-file --batch`, until there are no more.
-fn ask_for(stdin: ChildStdin, asked: Receiver<ObjectId>) -> io::Result<()> {
-    let mut stdin = BufWriter::new(stdin);
-    while let Ok(id) = asked.recv() {
-        writeln!(stdin, "{id}")?;
-        while let Ok(id) = asked.try_recv() {
-            writeln!(stdin, "{id}")?;
-        }
-        stdin.flush()?;
-    }
-    Ok(())
-}
-
-/// What git has under an id.
-enum Object {
-    Commit(ObjectId),
-    /// Nothing, or something other than a commit.
-    Other(ObjectId),
-}
-
-/// One answer of `git cat-file --batch`: a line `ID TYPE SIZE`, the object and a newline; or a line `ID missing`. None if there are no more.
-fn answer(answers: &mut impl BufRead, body: &mut Vec<u8>) -> io::Result<Option<Object>> {
-    let bad = |line: &[u8]| io::Error::new(io::ErrorKind::InvalidData, format!("answered '{}'", String::from_utf8_lossy(line).trim_end()));
-    let mut line = Vec::new();
-    answers.read_until(b'\n', &mut line)?;
-    if line.is_empty() {
-        return Ok(None);
-    }
-    let mut words = line.trim_ascii_end().split(|&byte| byte == b' ');
-    let id = words.next().and_then(ObjectId::from_hex).ok_or_else(|| bad(&line))?;
-    let kind = words.next().ok_or_else(|| bad(&line))?;
-    if kind == b"missing" {
-        return Ok(Some(Object::Other(id)));
-    }
-    let size: u64 = words.next().and_then(|size| std::str::from_utf8(size).ok()?.parse().ok()).ok_or_else(|| bad(&line))?;
-    body.clear();
-    if answers.by_ref().take(size + 1).read_to_end(body)? as u64 != size + 1 || body.pop() != Some(b'\n') {
-        return Err(ended_early());
-    }
-    Ok(Some(if kind == b"commit" { Object::Commit(id) } else { Object::Other(id) }))
-}
-
-#[cfg(test)]
-mod tests {
-    use super::*;
-
-    #[test]
-    fn answers_of_git() {
-        let (one, two) = ("1".repeat(40), "2".repeat(40));
-        let text = format!("{one} commit 3\nab\n\n{two} missing\n{one} tree 0\n\n{two} commit 9\nshort\n");
-        let mut answers = text.as_bytes();
-        let mut body = Vec::new();
-        assert!(matches!(answer(&mut answers, &mut body), Ok(Some(Object::Commit(id))) if id == ObjectId([0x11; 20])));
-        assert_eq!(body, b"ab\n");
-        assert!(matches!(answer(&mut answers, &mut body), Ok(Some(Object::Other(id))) if id == ObjectId([0x22; 20])));
-        assert!(matches!(answer(&mut answers, &mut body), Ok(Some(Object::Other(id))) if id == ObjectId([0x11; 20])));
-        assert!(answer(&mut answers, &mut body).is_err());
-        assert!(matches!(answer(&mut answers, &mut body), Ok(None)));
-        assert!(answer(&mut &b"HEAD ambiguous\n"[..], &mut body).is_err());
-    }
+    });
+    progress.make_way();
+    commits.map_err(|error| error.to_string())
 }

@@ -3,7 +3,7 @@
 use std::fmt::Write as _;
 use std::io::{self, Write};
 
-use linenhatch::Commit;
+use linenhatch::Info;
 
 /// What the fields of a line are, in order.
 const NAMES: &str = "id,date,seconds,zone,generation,parents,subject";
@@ -14,7 +14,7 @@ pub fn csv_names(out: &mut impl Write) -> io::Result<()> {
 }
 
 /// A commit as fields. Its parents are one field, parted by spaces; what is not known is empty.
-pub fn csv(commit: &Commit, subject: &str, out: &mut impl Write) -> io::Result<()> {
+pub fn csv(commit: &Info, subject: &str, out: &mut impl Write) -> io::Result<()> {
     writeln!(
         out,
         "{},{},{},{},{},{},{}",
@@ -29,7 +29,7 @@ pub fn csv(commit: &Commit, subject: &str, out: &mut impl Write) -> io::Result<(
 }
 
 /// A commit as a JSON object. What is not known is null.
-pub fn json(commit: &Commit, subject: &str, out: &mut impl Write) -> io::Result<()> {
+pub fn json(commit: &Info, subject: &str, out: &mut impl Write) -> io::Result<()> {
     let parents: Vec<String> = commit.parents.iter().map(|id| format!("\"{id}\"")).collect();
     write!(
         out,
@@ -86,7 +86,7 @@ fn sign(minutes: i32) -> char {
 }
 
 /// The committer's date by the clock of its own zone (ISO 8601); in UTC with a Z where it has none.
-fn date(commit: &Commit) -> Option<String> {
+fn date(commit: &Info) -> Option<String> {
     let zone = commit.zone;
     let seconds = commit.time?.checked_add(60 * i64::from(zone.unwrap_or(0)))?;
     let (year, month, day) = day_of(seconds.div_euclid(86_400));
@@ -97,7 +97,7 @@ fn date(commit: &Commit) -> Option<String> {
 }
 
 /// The date of a day, counted from 1 January 1970, in the Gregorian calendar. Years are taken from March on, so that the day of a leap year is its last.
-fn day_of(days: i64) -> (i64, i64, i64) {
+pub fn day_of(days: i64) -> (i64, i64, i64) {
     const DAYS_OF_400_YEARS: i64 = 146_097;
     let from_march_0 = days + 719_468;
     let (era, day) = (from_march_0.div_euclid(DAYS_OF_400_YEARS), from_march_0.rem_euclid(DAYS_OF_400_YEARS));
@@ -113,8 +113,8 @@ mod tests {
     use super::*;
     use linenhatch::ObjectId;
 
-    fn commit(time: Option<i64>, zone: Option<i32>) -> Commit {
-        Commit { id: ObjectId([0x11; 20]), parents: vec![ObjectId([0x22; 20]); 2], generation: Some(3), time, zone }
+    fn commit(time: Option<i64>, zone: Option<i32>) -> Info {
+        Info { id: ObjectId([0x11; 20]), parents: vec![ObjectId([0x22; 20]); 2], generation: Some(3), time, zone }
     }
 
     fn text(write: impl Fn(&mut Vec<u8>) -> io::Result<()>) -> String {
