@@ -1,4 +1,5 @@
-"""histories.py DIR [--only NAME-SIZE,...]: makes the histories of the bench under DIR, each in a folder NAME-SIZE:
+"""histories.py DIR [--only NAME-SIZE,...]: makes the histories of the bench under DIR, each in a folder NAME-SIZE (real256 is the shape real in a repository with
+SHA-256 ids):
 
     git/        a bare repository, made by `git fast-import`, with the commit-graph file that `git commit-graph write` wrote
     store       the commit store: git's own commits, read back with `git cat-file --batch`
@@ -17,13 +18,15 @@ import sys
 
 sys.dont_write_bytecode = True
 sys.path.insert(0, os.path.join(os.path.dirname(os.path.abspath(__file__)), "..", "tools"))
-from formats import u32  # noqa: E402
+from formats import SHA1, SHA256, digest_name, entry_size, parent_line, u32  # noqa: E402
 
 MOST_BYTES = 16_777_216
 MOST_PARENTS = 256
 SIZES = (1_000, 10_000, 80_000)
 # as many commits as fit a store, in steps of 256
 WIDEST, DENSEST = 99_840, 1_536
+# with SHA-256: the first two sizes stand beside those of SHA-1, the third is about as much as fits
+WIDE_SIZES = (1_000, 10_000, 64_000)
 
 ENV = dict(os.environ, GIT_CONFIG_GLOBAL="/dev/null", GIT_CONFIG_NOSYSTEM="1")
 
@@ -128,9 +131,9 @@ def reached(commits):
     return len(seen)
 
 
-def store_bytes(commits):
+def store_bytes(commits, width):
     """How long the store of these commits will be."""
-    return 8 + sum(24 + 46 + 48 * len(p) + 21 + 23 + len(str(s)) + 1 for s, p in commits)
+    return 8 + sum(entry_size(width) + 6 + 2 * width + parent_line(width) * len(p) + 21 + 23 + len(str(s)) + 1 for s, p in commits)
 
 
 # ---- files
@@ -175,12 +178,12 @@ def write_store(path, ids, repo):
         f.write(b"".join(entries) + u32(end) + u32(len(ids)))
 
 
-def make(folder, name, shape, count):
+def make(folder, name, shape, count, width):
     commits, hidden, cutoff = shape(count)
     assert reached(commits) == count, f"{name}: the tip reaches {reached(commits)} of {count}"
     repo, marks = os.path.join(folder, "git"), os.path.join(folder, "marks")
     os.makedirs(folder)
-    subprocess.run(["git", "init", "-q", "--bare", "-b", "main", repo], env=ENV, check=True)
+    subprocess.run(["git", "init", "-q", "--bare", "-b", "main", "--object-format=" + digest_name(width), repo], env=ENV, check=True)
     feed = subprocess.Popen(
         ["git", "-C", repo, "-c", "fastimport.unpackLimit=1", "fast-import", "--quiet", f"--export-marks={marks}"],
         env=ENV, stdin=subprocess.PIPE)
@@ -199,9 +202,9 @@ def make(folder, name, shape, count):
     shutil.copy(os.path.join(repo, "objects/info/commit-graph"), os.path.join(folder, "graph"))
     write_store(os.path.join(folder, "store"), ids, repo)
     size = os.path.getsize(os.path.join(folder, "store"))
-    assert size == store_bytes(commits) and size <= MOST_BYTES, size
+    assert size == store_bytes(commits, width) and size <= MOST_BYTES, size
     if count in (WIDEST, DENSEST):
-        assert store_bytes(shape(count + MOST_PARENTS)[0]) > MOST_BYTES, "more commits fit"
+        assert store_bytes(shape(count + MOST_PARENTS)[0], width) > MOST_BYTES, "more commits fit"
     with open(os.path.join(folder, "facts"), "w") as f:
         f.write(f"commits {count}\nlinks {sum(len(p) for _, p in commits)}\n")
         f.write(f"tip {ids[-1].hex()}\nhidden {ids[hidden].hex()}\ncutoff {cutoff}\n")
@@ -211,6 +214,15 @@ SHAPES = {"chain": chain, "real": real, "wide": wide, "dense": dense}
 
 
 def plan():
+    """Names, sizes and widths."""
+    for name, size in plan_of_sha1():
+        yield name, size, SHA1
+    for name in ("chain256", "real256"):
+        for size in WIDE_SIZES:
+            yield name, size, SHA256
+
+
+def plan_of_sha1():
     for name in ("chain", "real"):
         for size in SIZES:
             yield name, size
@@ -226,7 +238,7 @@ def main():
     options = words.parse_args()
     with open(os.path.abspath(__file__), "rb") as f:
         stamp = hashlib.sha256(f.read()).hexdigest()
-    for name, count in plan():
+    for name, count, width in plan():
         label = f"{name}-{count}"
         if options.only and label not in options.only.split(","):
             continue
@@ -236,7 +248,7 @@ def main():
             print(folder)
             continue
         shutil.rmtree(folder, ignore_errors=True)
-        make(folder, name, SHAPES[name], count)
+        make(folder, name, SHAPES[name.removesuffix("256")], count, width)
         with open(done, "w") as f:
             f.write(stamp)
         print(folder, flush=True)

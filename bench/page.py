@@ -2,7 +2,7 @@
 with `<!-- end -->` gets the contents of the file NAME.md, if there is one; the text around the blocks is written by hand, and is to be read again
 after each renewal.
 
-    bench/run                                    # machine.md, table.md, summary.md
+    bench/run                                    # machine.md, table.md, summary.md, widths.md
     python3 bench/tool.py FOLDER... >bench/target/results/tool.md      # the tool's whole run (tool.py says which folders)
     python3 bench/page.py
 """

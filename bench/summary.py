@@ -1,7 +1,8 @@
-"""summary.py [FILE]: the summary of a run of the bench, from the table that it wrote (bench/target/results/table.md if no FILE is given; docs/PERFORMANCE.md has
+"""summary.py [--widths] [FILE]: the summary of a run of the bench, from the table that it wrote (bench/target/results/table.md if no FILE is given; docs/PERFORMANCE.md has
 the same table, so it goes too). For each walk, without and with a commit-graph file: the best, the median and the worst of the rows' ratios of ours
 to `Simple` (walk alone) and to `git rev-list` (opening and walk, git less its start), each with its history. A row in which git was stopped at its
-limit counts for git with the ratio that it is under.
+limit counts for git with the ratio that it is under. Histories with SHA-256 ids are left out of it. With --widths the other table: each walk of ours with SHA-256
+ids beside the one over the same history with SHA-1 ids, nanoseconds for each commit listed, and beside git.
 """
 import os
 import statistics
@@ -46,8 +47,35 @@ def cells(part, column):
     return [ends[0], shown(statistics.median(x for x, _, _ in known)), ends[1]]
 
 
-def main(path):
+def is_wide(row):
+    return row["history"].endswith("256")
+
+
+def widths(path):
+    """Ours with either width."""
     table = rows(path)
+    narrow = {key(row): row for row in table if not is_wide(row)}
+    print("| history | commits | walk | graph | ours: walk, SHA-1 | ours: walk, SHA-256 | SHA-256/SHA-1 | ours/git, SHA-1 | ours/git, SHA-256 |")
+    print("|---" * 9 + "|")
+    for row in filter(is_wide, table):
+        other = narrow.get(key(row))
+        mine, its = (median(r["ours: walk"]) if r else None for r in (row, other))
+        cells = [row["history"].removesuffix("256"), row["commits"], row["walk"], row["graph"], its, mine]
+        ratio = f"{mine / its:.2f}" if mine and its else None
+        print("| " + " | ".join("–" if cell is None else f"{cell:,.0f}" if isinstance(cell, float) else cell for cell in cells + [ratio, other and other["ours/git"], row["ours/git"]]) + " |")
+
+
+def key(row):
+    return row["history"].removesuffix("256"), row["commits"], row["walk"], row["graph"]
+
+
+def median(cell):
+    """Of a cell `MEDIAN (LEAST–MOST)`."""
+    return number(cell.split(" ")[0].replace(",", ""))
+
+
+def main(path):
+    table = [row for row in rows(path) if not is_wide(row)]
     if not table:
         sys.exit(f"{path} has no table of the bench")
     print("| walk | graph | rows | ours/Simple: best | median | worst | ours/git: best | median | worst |")
@@ -60,4 +88,5 @@ def main(path):
                 print(f"| {walk} | {graph} | {len(part)} | {' | '.join(cells(part, COLUMNS[4]) + cells(part, COLUMNS[5]))} |")
 
 
-main(sys.argv[1] if len(sys.argv) > 1 else os.path.join(HERE, "target", "results", "table.md"))
+given = [word for word in sys.argv[1:] if word != "--widths"]
+(widths if "--widths" in sys.argv[1:] else main)(given[0] if given else os.path.join(HERE, "target", "results", "table.md"))

@@ -90,7 +90,7 @@ def facts(pair):
     graph = files.graph
     if graph is not None:
         for place in range(files.count):
-            first, second = (int.from_bytes(graph.row(place)[i:i + 4], "big") for i in (20, 24))
+            first, second = graph.word(place, 0), graph.word(place, 1)
             words, over = [word for word in (first, second if second < TOP else NONE) if word != NONE], False
             if second >= TOP:
                 at, count = second - TOP, 1

@@ -5,7 +5,7 @@ So what the definitions say runs over the same cases as the driver and the model
 """
 from typing import NamedTuple
 
-from model import CORRUPT
+from model import CORRUPT, formats
 
 BREADTH, NEWEST, OLDEST, CUTOFF_NEWEST, CUTOFF_OLDEST = range(5)
 NO_GENERATION = 0xFFFFFFFF
@@ -161,7 +161,7 @@ def waits(w, st, x, t):
 # ---- Opening
 
 def P(files, tips, hidden):
-    return len(tips) + len(hidden) + len(files.store) // 48 + files.count
+    return len(tips) + len(hidden) + len(files.store) // formats.parent_line(files.width) + files.count
 
 
 def distinct(had, excluded, ids):

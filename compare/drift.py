@@ -25,6 +25,7 @@ TOOL = os.path.join(HERE, "..", "bindings", "rust", "target", "release", "linenh
 BENCHES, APART = 4, 60                                 # lines of runs; seconds from one commit to the next
 PART, MOST_BACK = 0.15, 4_000                          # of the clocks; seconds
 ENV = {k: v for k, v in os.environ.items() if not k.startswith("GIT_")} | {"GIT_CONFIG_GLOBAL": "/dev/null", "GIT_CONFIG_NOSYSTEM": "1"}
+FORMATS = {20: "sha1", 32: "sha256"}                    # by the width of an id, as git names them
 FAULTS = ("wrong", "with commits too many", "with commits missing or twice", "commits too many", "refused")
 
 
@@ -67,8 +68,8 @@ def git(repository, *words, data=None):
     return subprocess.run(["git", "-C", repository, *words], input=data, stdout=subprocess.PIPE, check=True, env=ENV).stdout
 
 
-def make(repository, parents, seconds, zones=None):
-    """The ids of the commits, in order. zones: of each commit the author's and the committer's."""
+def make(repository, parents, seconds, zones=None, width=20):
+    """The ids of the commits, in order. zones: of each commit the author's and the committer's. width: of the ids."""
     stream = []
     for n, links in enumerate(parents):
         stream += ["reset refs/heads/main\n\n"] if n and not links else []  # a further root; else it would go on from the commit before
@@ -77,7 +78,7 @@ def make(repository, parents, seconds, zones=None):
         stream.append(f"commit refs/heads/main\nmark :{n + 1}\n{''.join(people)}data {len(text)}\n{text}")
         stream += [f"{'merge' if i else 'from'} :{p + 1}\n" for i, p in enumerate(links)]
     os.mkdir(repository)
-    git(repository, "init", "-q", "--bare", ".")
+    git(repository, "init", "-q", "--bare", f"--object-format={FORMATS[width]}", ".")
     marks = os.path.join(repository, "marks")
     git(repository, "fast-import", "--quiet", "--force", "--date-format=raw-permissive", f"--export-marks={marks}", data="".join(stream).encode())
     with open(marks) as f:

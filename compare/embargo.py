@@ -13,17 +13,17 @@ Whether a pair is one is tested anew, from the card's words and not from how it 
     make -C bindings/c shared
     python3 compare/embargo.py target/c/liblinenhatch.so
 
-Prints how many came to each result; ends with status 1 if anything differs that must not. Options: --seed N, --scale N (percent).
+Prints how many came to each result; ends with status 1 if anything differs that must not. Options: --seed N, --scale N (percent),
+--width N (one width alone; else ids of 20 bytes and of 32).
 """
 import argparse
 import collections
 import ctypes
-import random
 import sys
 
 import generate
 import model
-from library import ENDED, Library
+from library import ENDED, Library, in_words, widths
 from reports import Call, cases, same_graph, with_messages
 
 PAIRS = 20000
@@ -91,7 +91,7 @@ def answers(library, case):
     said = [(library.open(case), bytes(library.record.part), bytes(library.numbers.part))]
     parents = library.memory[5]
     for k in range(MOST_CALLS):
-        ctypes.memset(parents.part, k & 255, 5120)
+        ctypes.memset(parents.part, k & 255, parents.n)
         result = library.next()
         own = tuple(bytes(b.part) for b in (library.record, library.id, library.numbers, library.seconds, parents))
         said.append((result, own))
@@ -129,17 +129,10 @@ def wrong(library, one, two, listed, counted):
 
 # ---- the run
 
-def main():
-    options = argparse.ArgumentParser()
-    options.add_argument("library")
-    options.add_argument("--seed", type=int, default=1)
-    options.add_argument("--scale", type=int, default=100)
-    options = options.parse_args()
-    library = Library(options.library)
-    library.lib.linenhatch_feed.restype = ctypes.c_uint32
-    rng, counted, bad, pairs = random.Random("embargo %d" % options.seed), collections.Counter(), 0, 0
-    wanted = max(1, PAIRS * options.scale // 100)
-    for pair, drawn in cases(rng, 10 ** 9):
+def run(library, seed, wanted, width):
+    """Whether something differs that must not, or nothing would show it."""
+    rng, counted, bad, pairs = generate.seeded("embargo %d" % seed, width), collections.Counter(), 0, 0
+    for pair, drawn in cases(rng, 10 ** 9, width):
         for case in rng.sample(drawn, 2):
             one, two, listed = two_stores(rng, pair)
             if one.store == two.store:
@@ -154,10 +147,22 @@ def main():
         if pairs >= wanted:
             break
     for what in sorted(counted):
-        print("%s: %d" % (what, counted[what]))
+        print("%s%s: %d" % (in_words(width), what, counted[what]))
     shown = all(counted[what] for what in ("the shop's reports differ", "not withheld, they differ", "the shop's is refused by 21 or 22, the outside one is not"))
-    print("%d pairs of stores that differ: %d show it%s" % (pairs, bad, "" if shown else "; nothing would"))
-    return 1 if bad or not shown else 0
+    print("%s%d pairs of stores that differ: %d show it%s" % (in_words(width), pairs, bad, "" if shown else "; nothing would"))
+    return bad or not shown
+
+
+def main():
+    options = argparse.ArgumentParser()
+    options.add_argument("library")
+    options.add_argument("--seed", type=int, default=1)
+    options.add_argument("--scale", type=int, default=100)
+    options.add_argument("--width", type=int, choices=generate.formats.WIDTHS)
+    options = options.parse_args()
+    library = Library(options.library)
+    library.lib.linenhatch_feed.restype = ctypes.c_uint32
+    return 1 if sum(bool(run(library, options.seed, max(1, PAIRS * options.scale // 100), width)) for width in widths(options.width)) else 0
 
 
 if __name__ == "__main__":

@@ -5,13 +5,14 @@ A `Pair` is a commit store and a commit-graph file, kept in parts so that a case
 import bisect
 import itertools
 import os
+import random
 import struct
 import sys
 
 sys.path.insert(0, os.path.join(os.path.dirname(os.path.abspath(__file__)), "..", "tools"))
 import formats  # noqa: E402
 import model  # noqa: E402
-from formats import NONE, TOP, u32  # noqa: E402
+from formats import NONE, SHA1, SHA256, TOP, u32  # noqa: E402
 
 BREADTH, NEWEST, OLDEST, CUTOFF_NEWEST, CUTOFF_OLDEST = range(5)
 ORDER = ["breadth", "newest", "oldest", "newest", "oldest"]
@@ -23,19 +24,20 @@ EXTREMES = [0, 1, -1, 2, 5, LARGEST, -LARGEST, LARGEST - 1, 1 - LARGEST, 2 ** 31
 
 class Pair:
     """bodies: id -> bytes. rows: None (no graph), or id -> (parents, level, seconds), where parents is a list of ids or, for a list that is
-    not right, a tuple of the row's two words. edges: words after those of the right lists. store, graph: bytes in place of the built ones."""
+    not right, a tuple of the row's two words. edges: words after those of the right lists. store, graph: bytes in place of the built ones. width: of
+    the ids (card 13)."""
 
-    def __init__(self, bodies, rows=None, edges=(), store=None, graph=None):
-        self.bodies, self.rows, self.edges = bodies, rows, list(edges)
+    def __init__(self, bodies, rows=None, edges=(), store=None, graph=None, width=SHA1):
+        self.bodies, self.rows, self.edges, self.width = bodies, rows, list(edges), width
         self.torn_store, self.torn_graph = store, graph
         self.store = formats.store(bodies) if store is None else store
-        self.graph = (b"" if rows is None else build_graph(rows, self.edges)) if graph is None else graph
+        self.graph = (b"" if rows is None else build_graph(rows, self.edges, width)) if graph is None else graph
         self._files = None
 
     @property
     def files(self):
         if self._files is None:
-            self._files = model.Files(self.store, self.graph)
+            self._files = model.Files(self.store, self.graph, self.width)
         return self._files
 
 
@@ -43,6 +45,10 @@ class Case:
     def __init__(self, pair, tips, hidden=(), barred=(), sorting=BREADTH, cutoff=0, first=False):
         self.pair, self.tips, self.hidden, self.barred = pair, list(tips), list(hidden), list(barred)
         self.sorting, self.cutoff, self.first = sorting, cutoff, first
+
+    @property
+    def width(self):
+        return self.pair.width
 
     def walk(self, kind=model.Walk):
         cutoff = self.cutoff if self.sorting >= CUTOFF_NEWEST else None
@@ -56,7 +62,7 @@ class Case:
         return out + struct.pack(">BqBI", self.sorting, self.cutoff, self.first, calls)
 
 
-def build_graph(rows, edges=()):
+def build_graph(rows, edges=(), width=SHA1):
     """A commit-graph file with a good layout."""
     names = sorted(rows)
     place = {name: k for k, name in enumerate(names)}
@@ -74,31 +80,36 @@ def build_graph(rows, edges=()):
             elif len(p) > 2:
                 second = TOP | len(edge)
                 edge += p[1:-1] + [TOP | p[-1]]
-        data.append(b"\0" * 20 + struct.pack(">IIII", first, second, level << 2 | seconds >> 32, seconds & 0xFFFFFFFF))
+        data.append(bytes(width) + struct.pack(">IIII", first, second, level << 2 | seconds >> 32, seconds & 0xFFFFFFFF))
     firsts = [name[0] for name in names]
     fan = struct.pack(">256I", *(bisect.bisect_right(firsts, i) for i in range(256)))
     chunks = [(b"OIDF", fan), (b"OIDL", b"".join(names)), (b"CDAT", b"".join(data))]
     edge += edges
     if edge:
         chunks.append((b"EDGE", b"".join(map(u32, edge))))
-    return formats.chunk_file(chunks)
+    return formats.chunk_file(chunks, width=width)
 
 
 # ---- pieces
 
-def some_ids(rng, n):
+def seeded(text, width):
+    """The random numbers of a name and a width; those of 20 are as they were before there was another."""
+    return random.Random(text if width == SHA1 else "ids of %d bytes: %s" % (width, text))
+
+
+def some_ids(rng, n, width=SHA1):
     """n different ids: of one byte each, of random bytes, alike in all but the last bytes, or at the ends of the fan-out."""
     style, out = rng.randrange(4), set()
-    front = rng.randbytes(rng.randrange(8, 19))
+    front = rng.randbytes(rng.randrange(8, width - 1))
     while len(out) < n:
         if style == 0 and n <= 200:
-            out.add(bytes([rng.randrange(256)]) * 20)
+            out.add(bytes([rng.randrange(256)]) * width)
         elif style == 1 or n > 200:
-            out.add(rng.randbytes(20))
+            out.add(rng.randbytes(width))
         elif style == 2:
-            out.add(front + rng.randbytes(20 - len(front)))
+            out.add(front + rng.randbytes(width - len(front)))
         else:
-            out.add(rng.choice([b"\0", b"\xff"]) * 12 + rng.randbytes(8))
+            out.add(rng.choice([b"\0", b"\xff"]) * (width - 8) + rng.randbytes(8))
     out = list(out)
     out.sort()
     rng.shuffle(out)
@@ -193,10 +204,10 @@ def cutoff_case(rng, pair, names, seconds, *_):
 
 # ---- damage
 
-def damaged(rng, parents, seconds):
+def damaged(rng, parents, seconds, width=SHA1):
     """A body with one line that is bad, or only looks so."""
-    good = formats.body(parents, seconds)
-    tree, hexes = b"tree " + b"0" * 40 + b"\n", [p.hex().encode() for p in parents]
+    good, n = formats.body(parents, seconds, width=width), 2 * width
+    tree, hexes = b"tree " + b"0" * n + b"\n", [p.hex().encode() for p in parents]
     lines = b"".join(b"parent " + h + b"\n" for h in hexes)
     author, committer = b"author A <a> 5 +0000\n", b"committer A <a> %d +0000\n" % seconds
     kind = rng.randrange(8)
@@ -206,12 +217,12 @@ def damaged(rng, parents, seconds):
         at = rng.randrange(len(good))
         return good[:at] + bytes([rng.randrange(256)]) + good[at + 1:]
     if kind == 2:
-        tree = rng.choice([b"tree " + b"0" * 39 + b"A\n", b"tree " + b"0" * 39 + b"\n", b"Tree " + b"0" * 40 + b"\n", b"", b"tree  " + b"0" * 39 + b"\n",
-                           b"tree " + b"0" * 40 + b" \n", b"tree " + b"g" * 40 + b"\n", tree + tree])
+        tree = rng.choice([b"tree " + b"0" * (n - 1) + b"A\n", b"tree " + b"0" * (n - 1) + b"\n", b"Tree " + b"0" * n + b"\n", b"", b"tree  " + b"0" * (n - 1) + b"\n",
+                           b"tree " + b"0" * n + b" \n", b"tree " + b"g" * n + b"\n", tree + tree])
     elif kind == 3:
-        other = rng.choice([b"parent " + b"A" * 40 + b"\n", b"parent " + b"1" * 39 + b"\n", b"parent " + b"1" * 41 + b"\n", b"Parent " + b"1" * 40 + b"\n",
-                            b"parent  " + b"1" * 39 + b"\n", b"\n", b"parent " + b"1" * 40 + b"\r\n"])
-        at = 48 * rng.randrange(len(parents) + 1)
+        other = rng.choice([b"parent " + b"A" * n + b"\n", b"parent " + b"1" * (n - 1) + b"\n", b"parent " + b"1" * (n + 1) + b"\n", b"Parent " + b"1" * n + b"\n",
+                            b"parent  " + b"1" * (n - 1) + b"\n", b"\n", b"parent " + b"1" * n + b"\r\n"])
+        at = formats.parent_line(width) * rng.randrange(len(parents) + 1)
         lines = lines[:at] + other + lines[at:]
     elif kind == 4:
         author = rng.choice([b"", b"author A a> 5\n", b"author A <a 5\n", b"author >< 5\n", b"author <>\n", b"author > < >\n", b"author\n", b"author \n",
@@ -224,7 +235,7 @@ def damaged(rng, parents, seconds):
     elif kind == 6:
         committer = rng.choice([b"", b"Committer A <a> 5\n", b"committer\n", committer + b"> 3 \n", b"x" + committer])
     else:
-        return tree + lines + author + committer + rng.choice([b"", b"gpgsig x\n y\n\nhello\n", b"parent " + b"1" * 40 + b"\n", b"\nA <a> 5\n"])
+        return tree + lines + author + committer + rng.choice([b"", b"gpgsig x\n y\n\nhello\n", b"parent " + b"1" * n + b"\n", b"\nA <a> 5\n"])
     return tree + lines + author + committer + b"\n"
 
 
@@ -250,20 +261,20 @@ def corrupt_rows(rng, rows):
 
 # ---- families: each gives (pair, names, seconds, strangers, how often a list names a stranger)
 
-def history(rng, clock, cyclic=False, most=14):
+def history(rng, clock, width, cyclic=False, most=14):
     n = max(rng.randrange(1, most), rng.randrange(1, most))
-    return some_ids(rng, n), some_links(rng, n, cyclic), some_seconds(rng, n, clock)
+    return some_ids(rng, n, width), some_links(rng, n, cyclic), some_seconds(rng, n, clock)
 
 
 ZONES = [b" +0000", b" -0000", b" +0100", b" -0800", b" +0530", b" +1400", b" +1459", b" -1459", b" +1460", b" -1500", b" 00000", b" +0a00", b"  +000", b" +000 ", b" +000\r"]
 
 
-def bodies_of(names, links, seconds):
+def bodies_of(names, links, seconds, width=SHA1):
     """A commit's zone goes by its id, so that no case is drawn otherwise for it."""
     def committer(i):
         return b"committer A <a> %d%s\n" % (seconds[i], ZONES[sum(names[i]) % len(ZONES)])
 
-    return {names[i]: formats.body([names[p] for p in links[i]], committer=committer(i)) for i in range(len(names))}
+    return {names[i]: formats.body([names[p] for p in links[i]], committer=committer(i), width=width) for i in range(len(names))}
 
 
 def maybe_graph(rng, names, links, seconds):
@@ -277,65 +288,65 @@ def maybe_graph(rng, names, links, seconds):
 
 
 def by_clock(clock):
-    def family(rng):
-        names, links, seconds = history(rng, clock)
-        return Pair(bodies_of(names, links, seconds), maybe_graph(rng, names, links, seconds)), names, seconds, (), 0
+    def family(rng, width=SHA1):
+        names, links, seconds = history(rng, clock, width)
+        return Pair(bodies_of(names, links, seconds, width), maybe_graph(rng, names, links, seconds), width=width), names, seconds, (), 0
     return family
 
 
-def cycles(rng):
-    names, links, seconds = history(rng, rng.choice(["skewed", "equal"]), cyclic=True, most=8)
+def cycles(rng, width=SHA1):
+    names, links, seconds = history(rng, rng.choice(["skewed", "equal"]), width, cyclic=True, most=8)
     rows = None
     if rng.random() < 0.4:
         rows = agreeing_rows(names, links, seconds, [rng.randrange(4) for _ in names])
-    return Pair(bodies_of(names, links, seconds), rows), names, seconds, (), 0
+    return Pair(bodies_of(names, links, seconds, width), rows, width=width), names, seconds, (), 0
 
 
-def absent(rng):
+def absent(rng, width=SHA1):
     """Commits that the book lacks; the graph lists some of them."""
-    names, links, seconds = history(rng, rng.choice(["falling", "skewed", "equal", "extreme"]))
-    bodies, gone = bodies_of(names, links, seconds), []
+    names, links, seconds = history(rng, rng.choice(["falling", "skewed", "equal", "extreme"]), width)
+    bodies, gone = bodies_of(names, links, seconds, width), []
     for name in rng.sample(names, rng.randrange(1, 1 + (len(names) + 1) // 2)):
         del bodies[name]
         gone.append(name)
-    return Pair(bodies, maybe_graph(rng, names, links, seconds)), names, seconds, gone + some_ids(rng, 1), 0.1
+    return Pair(bodies, maybe_graph(rng, names, links, seconds), width=width), names, seconds, gone + some_ids(rng, 1, width), 0.1
 
 
-def headers(rng):
-    names, links, seconds = history(rng, rng.choice(["falling", "skewed", "extreme"]))
-    bodies = bodies_of(names, links, seconds)
+def headers(rng, width=SHA1):
+    names, links, seconds = history(rng, rng.choice(["falling", "skewed", "extreme"]), width)
+    bodies = bodies_of(names, links, seconds, width)
     for i in rng.sample(range(len(names)), rng.randrange(1, 1 + (len(names) + 1) // 2)):
-        bodies[names[i]] = damaged(rng, [names[p] for p in links[i]], seconds[i])
-    return Pair(bodies, maybe_graph(rng, names, links, seconds)), names, seconds, (), 0
+        bodies[names[i]] = damaged(rng, [names[p] for p in links[i]], seconds[i], width)
+    return Pair(bodies, maybe_graph(rng, names, links, seconds), width=width), names, seconds, (), 0
 
 
-def wide(rng):
+def wide(rng, width=SHA1):
     """A merge with about 256 parents, over few or many commits."""
-    names, links, seconds = history(rng, rng.choice(["falling", "skewed"]), most=6)
+    names, links, seconds = history(rng, rng.choice(["falling", "skewed"]), width, most=6)
     k = rng.choice([250, 255, 256, 256, 257, 257, 258])
-    more = some_ids(rng, k) if rng.random() < 0.5 else names
-    top = some_ids(rng, 1)[0]
+    more = some_ids(rng, k, width) if rng.random() < 0.5 else names
+    top = some_ids(rng, 1, width)[0]
     pool = [x for x in dict.fromkeys(more) if x != top]
     parents = [pool[j % len(pool)] for j in range(k)] if rng.random() < 0.5 else [rng.choice(pool) for _ in range(k)]
-    bodies = bodies_of(names, links, seconds)
+    bodies = bodies_of(names, links, seconds, width)
     at = max(seconds) + 300
     for j, x in enumerate(pool):
-        bodies.setdefault(x, formats.body([], at - 1 - j))
+        bodies.setdefault(x, formats.body([], at - 1 - j, width=width))
     last = rng.choice([b"author A <a> 5\n", b"author A <a> 5\n", b"author A\n"])
-    bodies[top] = formats.body(parents, at + 1, author=last)
+    bodies[top] = formats.body(parents, at + 1, author=last, width=width)
     rows = None
     if rng.random() < 0.4:
         rows = {}
         for x in bodies:
-            header = model.Header(bodies[x])
+            header = model.Header(bodies[x], width)
             rows[x] = (header.ids if x != top else parents, 3, 7 if header.seconds is None else header.seconds % SECONDS_OF_A_ROW)
     everyone = [top] + names
-    return Pair(bodies, rows), everyone, seconds + [at], (), 0
+    return Pair(bodies, rows, width=width), everyone, seconds + [at], (), 0
 
 
-def wrong(rng):
+def wrong(rng, width=SHA1):
     """A graph file of all commits, or of the older ones, that says other things than the book: parents, levels, seconds."""
-    names, links, seconds = history(rng, rng.choice(["falling", "skewed", "drifting"]))
+    names, links, seconds = history(rng, rng.choice(["falling", "skewed", "drifting"]), width)
     start = rng.choice([0, rng.randrange(len(names))])
     rows = agreeing_rows(names, links, seconds, levels_of(links), range(start, len(names)))
     other = rng.sample(range(0, 5 * len(names)), len(names))
@@ -350,40 +361,40 @@ def wrong(rng):
             if what & 4:
                 its = other[i]
             rows[name] = (parents, level, its)
-    return Pair(bodies_of(names, links, seconds), rows), names, seconds + other, (), 0
+    return Pair(bodies_of(names, links, seconds, width), rows, width=width), names, seconds + other, (), 0
 
 
-def corrupt(rng):
-    names, links, seconds = history(rng, rng.choice(["falling", "skewed", "skewed", "equal"]))
+def corrupt(rng, width=SHA1):
+    names, links, seconds = history(rng, rng.choice(["falling", "skewed", "skewed", "equal"]), width)
     rows = agreeing_rows(names, links, seconds, levels_of(links))
     rows, edges = corrupt_rows(rng, rows)
-    return Pair(bodies_of(names, links, seconds), rows, edges), names, seconds, (), 0
+    return Pair(bodies_of(names, links, seconds, width), rows, edges, width=width), names, seconds, (), 0
 
 
-def close_pairs(rng):
+def close_pairs(rng, width=SHA1):
     """Few commits with close or equal pairs, for painting."""
     n = rng.randrange(3, 8)
-    names, links = some_ids(rng, n), some_links(rng, n, rng.random() < 0.3)
+    names, links = some_ids(rng, n, width), some_links(rng, n, rng.random() < 0.3)
     seconds = [rng.randrange(3) for _ in range(n)] if rng.random() < 0.6 else rng.sample(range(2 * n), n)
     rows = None
     if rng.random() < 0.4:
         rows = agreeing_rows(names, links, seconds, [rng.randrange(3) for _ in names])
-    return Pair(bodies_of(names, links, seconds), rows), names, seconds, (), 0
+    return Pair(bodies_of(names, links, seconds, width), rows, width=width), names, seconds, (), 0
 
 
-def long(rng):
+def long(rng, width=SHA1):
     """Some hundreds of commits."""
     n = rng.randrange(100, 400)
-    names, links, seconds = some_ids(rng, n), some_links(rng, n), some_seconds(rng, n, rng.choice(["falling", "skewed", "drifting", "equal"]))
-    return Pair(bodies_of(names, links, seconds), maybe_graph(rng, names, links, seconds)), names, seconds, (), 0
+    names, links, seconds = some_ids(rng, n, width), some_links(rng, n), some_seconds(rng, n, rng.choice(["falling", "skewed", "drifting", "equal"]))
+    return Pair(bodies_of(names, links, seconds, width), maybe_graph(rng, names, links, seconds), width=width), names, seconds, (), 0
 
 
-def torn(rng):
+def torn(rng, width=SHA1):
     """A byte or a few of one of the files altered, cut or added; the layout may still hold."""
-    names, links, seconds = history(rng, "falling", most=6)
-    bodies = bodies_of(names, links, seconds)
+    names, links, seconds = history(rng, "falling", width, most=6)
+    bodies = bodies_of(names, links, seconds, width)
     rows = agreeing_rows(names, links, seconds, levels_of(links))
-    good = Pair(bodies, rows)
+    good = Pair(bodies, rows, width=width)
 
     def altered(b, tail):
         kind = rng.randrange(5)
@@ -398,17 +409,17 @@ def torn(rng):
 
     store, graph = good.store, good.graph
     if rng.random() < 0.5:
-        store = altered(store, 8 + 24 * len(names))
+        store = altered(store, 8 + formats.entry_size(width) * len(names))
     else:
         graph = altered(graph, 0)
-    return Pair(bodies, rows, store=store, graph=graph), names, seconds, (), 0
+    return Pair(bodies, rows, store=store, graph=graph, width=width), names, seconds, (), 0
 
 
-def mixture(rng):
+def mixture(rng, width=SHA1):
     """Everything at once."""
     clock = rng.choice(["falling", "skewed", "drifting", "equal", "extreme"])
-    names, links, seconds = history(rng, clock, cyclic=rng.random() < 0.2, most=16)
-    bodies = bodies_of(names, links, seconds)
+    names, links, seconds = history(rng, clock, width, cyclic=rng.random() < 0.2, most=16)
+    bodies = bodies_of(names, links, seconds, width)
     rows, edges = None, ()
     if rng.random() < 0.7:
         levels = [rng.randrange(5) for _ in names] if rng.random() < 0.5 else [1 + len(names) - i for i in range(len(names))]
@@ -430,8 +441,8 @@ def mixture(rng):
         if rng.random() < 0.05:
             del bodies[name]
         elif rng.random() < 0.05:
-            bodies[name] = damaged(rng, [names[p] for p in links[i]], seconds[i])
-    return Pair(bodies, rows, edges), names, seconds, some_ids(rng, 2), 0.02
+            bodies[name] = damaged(rng, [names[p] for p in links[i]], seconds[i], width)
+    return Pair(bodies, rows, edges, width=width), names, seconds, some_ids(rng, 2, width), 0.02
 
 
 # name, pairs of files, cases for each pair, and how a case is drawn if not by some_case
@@ -455,8 +466,21 @@ FAMILIES = [
 ]
 
 
-def random_cases(rng, family, variants, draw=some_case):
-    pair, names, seconds, strangers, stranger = family(rng)
+def other_width(rng, width=SHA1):
+    """A book, a graph or both of the other width: 4 or 5, save where a file has no ids. Not beside the crate, which has one width."""
+    other = SHA1 if width == SHA256 else SHA256
+    names, links, seconds = history(rng, "falling", width, most=6)
+    ids = {name: (name + name)[:other] for name in names}
+    theirs = Pair(bodies_of(list(ids.values()), links, seconds, other), agreeing_rows(list(ids.values()), links, seconds, levels_of(links)), width=other)
+    mine = Pair(bodies_of(names, links, seconds, width), agreeing_rows(names, links, seconds, levels_of(links)), width=width)
+    what = rng.randrange(5)
+    store = formats.store({}) if what == 4 else theirs.store if what & 1 else mine.store
+    graph = build_graph({}, (), other) if what == 4 else theirs.graph if what != 1 else mine.graph
+    return Pair(mine.bodies, mine.rows, store=store, graph=graph, width=width), names, seconds, (), 0
+
+
+def random_cases(rng, family, variants, draw=some_case, width=SHA1):
+    pair, names, seconds, strangers, stranger = family(rng, width)
     for _ in range(variants):
         yield draw(rng, pair, names, seconds, strangers, stranger)
 
@@ -475,36 +499,36 @@ def ordered_subsets(pool):
         yield from itertools.permutations(pool, k)
 
 
-def small_three():
+def small_three(width=SHA1):
     """Every relation over three commits (parents among the other two, in order, so cycles too), every clock; tip 0."""
-    names = [bytes([b]) * 20 for b in (0x22, 0x33, 0x11)]
+    names = [bytes([b]) * width for b in (0x22, 0x33, 0x11)]
     for links in itertools.product(*(list(ordered_subsets([j for j in range(3) if j != i])) for i in range(3))):
         for clock in weak_orders(3):
             seconds = [1 + t for t in clock]
-            pair = Pair(bodies_of(names, links, seconds))
+            pair = Pair(bodies_of(names, links, seconds, width), width=width)
             for hidden in ([], [1], [2], [1, 2]):
                 for sorting, cutoff, first in ((BREADTH, 0, False), (NEWEST, 0, False), (OLDEST, 0, False), (CUTOFF_NEWEST, 2, False), (BREADTH, 0, True)):
                     yield Case(pair, names[:1], [names[h] for h in hidden], (), sorting, cutoff, first)
 
 
-def small_four():
+def small_four(width=SHA1):
     """Every acyclic relation over four commits in one order (parents come later), every clock; tip 0, one of the others hidden, newest first."""
-    names = [bytes([b]) * 20 for b in (0x33, 0x11, 0x44, 0x22)]
+    names = [bytes([b]) * width for b in (0x33, 0x11, 0x44, 0x22)]
     for links in itertools.product(*(list(ordered_subsets(range(i + 1, 4))) for i in range(4))):
         for clock in weak_orders(4):
-            pair = Pair(bodies_of(names, links, [1 + t for t in clock]))
+            pair = Pair(bodies_of(names, links, [1 + t for t in clock], width), width=width)
             for hidden in (1, 2, 3):
                 yield Case(pair, names[:1], [names[hidden]], (), NEWEST)
 
 
 # ---- document 01's own runs
 
-def named_runs():
+def named_runs(width=SHA1):
     """(what, case, the numbers or letters that come out, errors as !n)"""
     def pair_of(seconds, links, gone=()):
-        ids = {k: (bytes([k]) if isinstance(k, int) else k.encode()) * 20 for k in seconds}
-        bodies = {ids[k]: formats.body([ids[p] for p in links.get(k, ())], seconds[k]) for k in seconds if k not in gone}
-        return ids, Pair(bodies)
+        ids = {k: (bytes([k]) if isinstance(k, int) else k.encode()) * width for k in seconds}
+        bodies = {ids[k]: formats.body([ids[p] for p in links.get(k, ())], seconds[k], width=width) for k in seconds if k not in gone}
+        return ids, Pair(bodies, width=width)
 
     ids, pair = pair_of({k: k for k in range(1, 9)}, {8: [6, 7], 7: [4], 6: [5], 5: [3], 4: [2], 3: [1], 2: [1]})
 
@@ -532,6 +556,6 @@ def named_runs():
     yield "absent parent, newest, cutoff 0", Case(fourth, [lone["t"]], sorting=CUTOFF_NEWEST, cutoff=0), lone, ["t", "!9"]
     yield "absent parent, newest, cutoff 1", Case(fourth, [lone["t"]], sorting=CUTOFF_NEWEST, cutoff=1), lone, ["t"]
     for k in (256, 257):
-        top, root = b"t" * 20, b"r" * 20
-        many = Pair({top: formats.body([root] * k, 9), root: formats.body([], 1)})
+        top, root = b"t" * width, b"r" * width
+        many = Pair({top: formats.body([root] * k, 9, width=width), root: formats.body([], 1, width=width)}, width=width)
         yield "%d parents" % k, Case(many, [top]), {"t": top, "r": root}, ["t", "r"] if k == 256 else ["!11", "r"]

@@ -4,7 +4,7 @@
   parents, unreadable bodies, seconds at and past both ends of their range, broken layouts, ids of 20 and of 32 bytes. Each is asked for its length, written into an output of
   that length, into a longer one and into one that is shorter by a byte (20), with levels that are one too few (1), and without room for the
   length (101). Every byte is held to the definition: the file's own; all others of the output, and all of them after a refusal, as they were; the
-  length, 0 after a refusal; the levels as they were after 2, 4, 1 and 101; nothing beside a buffer or in the store. Each file of 20-byte ids is then lent to a tested opening over the
+  length, 0 after a refusal; the levels as they were after 2, 4, 1 and 101; nothing beside a buffer or in the store. Each file is then lent to a tested opening over the
   same store, which must be accepted, and every answer of its calls must be the model's and the right list by plain reachability;
 - by `git commit-graph write` with commitGraph.generationVersion=1, on repositories made for it, a fifth of them with SHA-256 ids: merges of up to 256 parents, repeated
   parents, clocks that stand still, run backwards and lie anywhere in 34 bits. The files must be equal byte for byte, `git commit-graph verify` must pass ours, and a tested opening with it must
@@ -19,7 +19,6 @@ Prints how many came to each result; ends with status 1 if anything differs. Opt
 import argparse
 import collections
 import ctypes
-import hashlib
 import os
 import random
 import subprocess
@@ -35,6 +34,7 @@ from compare import expected, third_demand
 from library import GUARD, NO_ROOM, Buffer, lend
 
 import formats
+from formats import SHA1, SHA256
 
 STORES, REPOSITORIES = 24000, 240
 EARLY = (1, 2, 4, NO_ROOM)  # what leaves the lent levels as they were
@@ -131,7 +131,7 @@ KINDS = ("histories", "histories", "histories", "a long line", "wide merges", "r
 
 def case(rng):
     """The kind, the store, and the width of its ids."""
-    kind, width = rng.choice(KINDS), 20 if rng.randrange(4) else 32
+    kind, width = rng.choice(KINDS), SHA1 if rng.randrange(4) else SHA256
     count = rng.randrange(1, 41 if kind == "a long line" else 10)
     if rng.randrange(100) == 0:
         return "empty", bytes(8), width
@@ -154,7 +154,7 @@ def wrong(library, rng, store, width):
     """None, or what differs; the result, and the file."""
     entries = formats.store_entries(store, width)
     count = rng.randrange(5) if entries is None else len(entries)
-    said = width if width == 32 or rng.randrange(4) else rng.choice((0, 1, 19, 21, 31, 33, 2 ** 32 - 1))  # any other number is SHA-1
+    said = width if width == SHA256 or rng.randrange(4) else rng.choice((0, 1, 19, 21, 31, 33, 2 ** 32 - 1))  # any other number is SHA-1
     wanted, file = model.write_graph(store, count, len(store) * 9 + 4096, width)
     more = rng.choice((1, 2, 30))
     calls = [(count, None, 1), (count + more, None, 1), (count, len(file), 1), (count + more, len(file) + more, 1), (count, 0, 1), (count, len(file), 0), (count, None, 0)]
@@ -168,12 +168,12 @@ def wrong(library, rng, store, width):
     return None, wanted, file
 
 
-def listed(library, rng, store, file):
+def listed(library, rng, store, file, width):
     """None, or what is not as it must be of a tested opening with the file that was written."""
-    ids = [name for name, _, _ in formats.store_entries(store)]
+    ids = [name for name, _, _ in formats.store_entries(store, width)]
     pick = lambda most: [rng.choice(ids) for _ in range(rng.randrange(most))] if ids else []
-    seconds = [model.Header(store[start:end]).seconds for _, start, end in formats.store_entries(store)] or [0]
-    made = generate.Case(generate.Pair({}, store=store, graph=file), pick(4), pick(3), pick(2), rng.randrange(5), rng.choice(seconds) + rng.randrange(-1, 2), bool(rng.randrange(2)))
+    seconds = [model.Header(store[start:end], width).seconds for _, start, end in formats.store_entries(store, width)] or [0]
+    made = generate.Case(generate.Pair({}, store=store, graph=file, width=width), pick(4), pick(3), pick(2), rng.randrange(5), rng.choice(seconds) + rng.randrange(-1, 2), bool(rng.randrange(2)))
     _, answers, walk = expected(made, model.Tested)
     if walk.refused is not None:
         return "refused with %d" % walk.refused
@@ -183,13 +183,13 @@ def listed(library, rng, store, file):
 
 
 def generated(library, seed, scale):
-    rng, results, bad, opened = random.Random("graphs %d" % seed), collections.Counter(), 0, 0
+    rng, results, bad, lent = random.Random("graphs %d" % seed), collections.Counter(), 0, 0
     count = STORES * scale // 100
     for k in range(count):
         kind, store, width = case(rng)
         found, result, file = wrong(library, rng, store, width)
-        if result == 0 and width == 20 and not found:
-            found, opened = listed(library, rng, store, file), opened + 1
+        if result == 0 and not found:
+            found, lent = listed(library, rng, store, file, width), lent + 1
         results[kind, width, result] += 1
         if found:
             bad += 1
@@ -197,7 +197,7 @@ def generated(library, seed, scale):
                 print("%s, ids of %d: %s; %s" % (kind, width, found, store.hex()))
     for n in (16777216, 16777217):
         for room in (None, 0, 2000):
-            found = Call(library.lib, bytes(n - 1) + b"\1", 1, room, 20).fault(4 if n == 16777216 else 2, b"")
+            found = Call(library.lib, bytes(n - 1) + b"\1", 1, room, SHA1).fault(4 if n == 16777216 else 2, b"")
             bad += found is not None
             if found:
                 print("a store of %d bytes: %s" % (n, found))
@@ -206,7 +206,7 @@ def generated(library, seed, scale):
     by_width = collections.Counter()
     for (_, width, _), n in results.items():
         by_width[width] += n
-    print("%d stores (%s), %d files lent to a tested opening: %d differ" % (count, ", ".join("%d with ids of %d bytes" % (n, width) for width, n in sorted(by_width.items())), opened, bad))
+    print("%d stores (%s), %d files lent to a tested opening: %d differ" % (count, ", ".join("%d with ids of %d bytes" % (n, width) for width, n in sorted(by_width.items())), lent, bad))
     return bad
 
 
@@ -248,10 +248,10 @@ def clock(rng, kind, count):
     return [rng.randrange(2 ** 34) for _ in range(count)] if kind == 3 else [start] * count
 
 
-def put(repository, kind, data, width=20):
+def put(repository, kind, data, width=SHA1):
     """A loose object; its id."""
     whole = b"%s %d\0%s" % (kind, len(data), data)
-    name = hashlib.new("sha1" if width == 20 else "sha256", whole).hexdigest()
+    name = formats.digest(whole, width).hex()
     folder = os.path.join(repository, "objects", name[:2])
     os.makedirs(folder, exist_ok=True)
     with open(os.path.join(folder, name[2:]), "wb") as file:
@@ -262,7 +262,7 @@ def put(repository, kind, data, width=20):
 def make(repository, rng, parents, seconds, width):
     """A repository whose commits have these parents and seconds, a branch for each that is nobody's parent; the bodies by their ids."""
     os.mkdir(repository)
-    drift.git(repository, "init", "-q", "--bare", "--object-format=" + ("sha1" if width == 20 else "sha256"), ".")
+    drift.git(repository, "init", "-q", "--bare", "--object-format=" + formats.digest_name(width), ".")
     trees = [put(repository, b"tree", b"", width), put(repository, b"tree", b"100644 a\0" + bytes.fromhex(put(repository, b"blob", b"a\n", width)), width)]
     ids, bodies = [], {}
     for n, row in enumerate(parents):
@@ -294,9 +294,9 @@ def verified(repository, path, file):
 
 
 def one_repository(library, seed, k):
-    """None, or what differs; commits, rows of over two parents, the most parents. Every fifth repository has ids of 32 bytes, which no opening takes yet."""
+    """None, or what differs; commits, rows of over two parents, the most parents. Every fifth repository has ids of 32 bytes."""
     rng = random.Random("graphs beside git %d %d" % (seed, k))
-    kind, width = ("lines", "merges", "repeated", "wide")[k % 4], 32 if k % 5 == 2 else 20
+    kind, width = ("lines", "merges", "repeated", "wide")[k % 4], SHA256 if k % 5 == 2 else SHA1
     parents = history(rng, kind, rng.choice((1, 2, 30)) if k % 20 == 0 else 300 if kind == "wide" and k % 8 == 3 else 40)
     seconds = clock(rng, k // 4 % 5, len(parents))
     with tempfile.TemporaryDirectory() as room:
@@ -309,8 +309,8 @@ def one_repository(library, seed, k):
         found = call.fault(0, theirs) or verified(repository, path, ours)
     if model.write_graph(store, len(bodies), len(theirs), width) != (0, theirs):
         found = found or "the model's file is another than git's"
-    if not found and width == 20:
-        made = generate.Case(generate.Pair({}, store=store, graph=ours), tips[:1024], sorting=k % 3)
+    if not found:
+        made = generate.Case(generate.Pair({}, store=store, graph=ours, width=width), tips[:1024], sorting=k % 3)
         _, answers, walk = expected(made, model.Tested)
         handed = [a.name for a in answers if a.kind == "commit"]
         found = "the model refuses" if walk.refused is not None else "the list is not whole" if len(tips) <= 1024 and sorted(handed) != sorted(bodies) else plain.fault(library, made, tested=True)

@@ -10,11 +10,10 @@ Where they do not hold nothing is asked, but it is counted how often the card's 
     python3 compare/hiding.py
     python3 compare/hiding.py target/c/liblinenhatch.so
 
-Options: --seed N, --scale N (percent). Ends with status 1 if a sentence fails under the premises, or no case without them would show it.
+Options: --seed N, --scale N (percent), --width N (one width alone; else ids of 20 bytes and of 32). Ends with status 1 if a sentence fails under the premises, or no case without them would show it.
 """
 import argparse
 import ctypes
-import random
 import sys
 
 import generate
@@ -40,6 +39,9 @@ CARD = {"both", "same ids", "one more"}
 class Model:
     name = "model.py"
 
+    def widths(self):
+        return generate.formats.WIDTHS
+
     def runs(self, case):
         """The ids handed out up to the end, or None where the opening or a call is refused."""
         _, answers, walk = expected(case)
@@ -54,6 +56,9 @@ class Shared:
     def __init__(self, path):
         import library  # asked for only where one is given
         self.made, self.library = library, library.Library(path)
+
+    def widths(self):
+        return self.made.widths()
 
     def runs(self, case):
         """Its own buffers are lent longer than it asks for."""
@@ -113,21 +118,16 @@ def premises(case):
     return walk.refused is None and third_demand(case, answers) is not None
 
 
-def main():
-    options = argparse.ArgumentParser(usage=__doc__)
-    options.add_argument("library", nargs="?")
-    options.add_argument("--seed", type=int, default=1)
-    options.add_argument("--scale", type=int, default=100)
-    options = options.parse_args()
-    ways = [Model()] + ([Shared(options.library)] if options.library else [])
+def run(ways, seed, scale, width):
+    """Whether a sentence fails under the premises, or no case without them would show it."""
     held = shown = bad = hid = 0
     without = {}
     print("| histories | triples | premises hold | and something is hidden | a sentence fails | without premises | a sentence would fail |\n|---|---|---|---|---|---|---|")
     for name, family, pairs, each in FAMILIES:
-        rng = random.Random("hiding %d %s" % (options.seed, name))
+        rng = generate.seeded("hiding %d %s" % (seed, name), width)
         count = dict.fromkeys(("all", "held", "hid", "bad", "shown"), 0)
-        for _ in range(max(1, pairs * options.scale // 100)):
-            pair, names, seconds, strangers, stranger = family(rng)
+        for _ in range(max(1, pairs * scale // 100)):
+            pair, names, seconds, strangers, stranger = family(rng, width)
             for _ in range(each):
                 case = generate.some_case(rng, pair, names, seconds, strangers, stranger)
                 first, second, tip = some_hidden(rng, names), some_hidden(rng, names), rng.choice(names)
@@ -154,6 +154,21 @@ def main():
     print("\nwithout the premises: " + ", ".join("%s %d" % (sentence, without[sentence]) for sentence in sorted(without)))
     print("by %s: %d triples under the premises, %d of them with something hidden, %d fail; without them %d would fail" % (by, held, hid, bad, shown))
     return bool(bad or not shown)
+
+
+def main():
+    options = argparse.ArgumentParser(usage=__doc__)
+    options.add_argument("library", nargs="?")
+    options.add_argument("--seed", type=int, default=1)
+    options.add_argument("--scale", type=int, default=100)
+    options.add_argument("--width", type=int, choices=generate.formats.WIDTHS)
+    options = options.parse_args()
+    ways, told = [Model()] + ([Shared(options.library)] if options.library else []), []
+    for width in (options.width,) if options.width else ways[-1].widths():
+        if told:
+            print("\nWith ids of %d bytes\n" % width)
+        told.append(run(ways, options.seed, options.scale, width))
+    return any(told)
 
 
 if __name__ == "__main__":

@@ -1,6 +1,7 @@
 """library.py LIBRARY.so: runs the cases of generate.py through the static library, made into a shared one, and through model.py, and
 compares every field of every answer, every byte of parents, and the memory around each lent buffer. Prints a line for each family; ends
-with status 1 if anything differs. Options: --seed N, --scale N (percent of the random cases).
+with status 1 if anything differs. Every family is run with ids of 20 bytes and with ids of 32 (card 13), and so are files of the other width than is
+said. Options: --seed N, --scale N (percent of the random cases), --width N (one width alone).
 
     rt staticlib linenhatch
     make -C bindings/c shared
@@ -8,17 +9,42 @@ with status 1 if anything differs. Options: --seed N, --scale N (percent of the 
 """
 import argparse
 import ctypes
-import random
+import itertools
 import sys
 
 import generate
 import model
 from compare import expected
 
+import formats
+from formats import SHA1
+
 ENDED, NO_ROOM, CLOSED = 100, 101, 12
-RECORD, NUMBERS, SECONDS = 19, 8, 2  # words
 GUARD = 0x5C
 MOST_PLACES = 20000  # a torn graph file may claim any number of commits; it is refused before memory is asked for
+RECORD, NUMBERS, SECONDS = 20, 8, 2  # words
+OTHERS = itertools.cycle((20, 0, 20, 1, 19, 20, 21, 31, 20, 33, 40, 2 ** 31, 20, 2 ** 32 - 1))  # "32 is SHA-256, any other number SHA-1"
+
+
+def widths(asked=None):
+    """The widths that a run compares."""
+    return (asked,) if asked else formats.WIDTHS
+
+
+def width_words(width):
+    """The first parameter of a call."""
+    return [ctypes.c_uint32(next(OTHERS) if width == SHA1 else width)]
+
+
+def in_words(width):
+    """Before a line that is printed."""
+    return "" if width == SHA1 else "ids of %d bytes, " % width
+
+
+def memory_sizes(width, places):
+    """What is lent: kinds and lengths. "names 20·P bytes, marks P bytes, levels P u32, times P i64, line 5·P u32, parents 5,120 bytes"; "buffers follow" the width. """
+    times = (ctypes.c_uint8, width), (ctypes.c_uint8, 1), (ctypes.c_uint32, 1), (ctypes.c_int64, 1), (ctypes.c_uint32, 5)
+    return [(kind, n * places) for kind, n in times] + [(ctypes.c_uint8, formats.parents_size(width))]
 
 
 class Buffer:
@@ -58,19 +84,19 @@ class Library:
         store, graph, tips, hidden, barred = (words for words, _ in lent)
         order = {"breadth": 0, "newest": 1, "oldest": 2}[generate.ORDER[case.sorting]]
         settings = [ctypes.c_uint32(order), ctypes.c_uint32(case.sorting >= generate.CUTOFF_NEWEST), ctypes.c_int64(case.cutoff), ctypes.c_uint32(case.first)]
-        self.places = self.lib.linenhatch_places(*store, *graph, *tips, *hidden)
-        p = min(self.places, MOST_PLACES)
-        sizes = [(ctypes.c_uint8, 20 * p), (ctypes.c_uint8, p), (ctypes.c_uint32, p), (ctypes.c_int64, p), (ctypes.c_uint32, 5 * p), (ctypes.c_uint8, 5120)]
+        self.width = case.width
+        self.places = self.lib.linenhatch_places(*width_words(self.width), *store, *graph, *tips, *hidden)
+        sizes = memory_sizes(self.width, min(self.places, MOST_PLACES))
         self.memory = memory or [Buffer(kind, max(0, n - (at == short))) for at, (kind, n) in enumerate(sizes)]
-        self.record, self.id, self.numbers, self.seconds = Buffer(ctypes.c_uint64, record), Buffer(ctypes.c_uint8, 20), Buffer(ctypes.c_uint64, numbers), Buffer(ctypes.c_int64, SECONDS)
+        self.record, self.id, self.numbers, self.seconds = Buffer(ctypes.c_uint64, record), Buffer(ctypes.c_uint8, self.width), Buffer(ctypes.c_uint64, numbers), Buffer(ctypes.c_int64, SECONDS)
         self.files = [*store, *graph, *hidden, *barred, *settings]
         memory = [w for b in self.memory for w in b.words()]
         call = self.lib.linenhatch_open_tested if tested else self.lib.linenhatch_open
-        return call(*store, *graph, *tips, *hidden, *barred, *settings, *memory, *self.record.words(), *self.numbers.words())
+        return call(*width_words(self.width), *store, *graph, *tips, *hidden, *barred, *settings, *memory, *self.record.words(), *self.numbers.words())
 
     def next(self):
         memory = [w for b in self.memory for w in b.words()]
-        return self.lib.linenhatch_next(*self.record.words(), *self.files, *memory, *self.id.words(), *self.numbers.words(), *self.seconds.words())
+        return self.lib.linenhatch_next(*width_words(self.width), *self.record.words(), *self.files, *memory, *self.id.words(), *self.numbers.words(), *self.seconds.words())
 
     def own(self):
         return [self.record, self.id, self.numbers, self.seconds]
@@ -89,7 +115,7 @@ def without_room(library, case, tested=False):
         if result != NO_ROOM or not library.unaltered(library.own() + library.memory):
             return "opening without room: %d" % result
     opened = library.open(case)
-    for name, kind, n in (("record", ctypes.c_uint64, RECORD - 1), ("id", ctypes.c_uint8, 19), ("numbers", ctypes.c_uint64, NUMBERS - 1), ("seconds", ctypes.c_int64, SECONDS - 1)):
+    for name, kind, n in (("record", ctypes.c_uint64, RECORD - 1), ("id", ctypes.c_uint8, case.width - 1), ("numbers", ctypes.c_uint64, NUMBERS - 1), ("seconds", ctypes.c_int64, SECONDS - 1)):
         kept = getattr(library, name)
         before = [bytes(b.all) for b in library.memory + library.own()]
         setattr(library, name, Buffer(kind, n))
@@ -119,7 +145,7 @@ def fault(library, case, tested=False):
     """None, or what differs."""
     _, answers, walk = expected(case, model.Tested if tested else model.Walk)
     result = library.open(case, tested=tested)
-    parents = library.memory[5]
+    parents, room = library.memory[5], formats.parents_size(case.width)
     numbers = list(library.numbers.part)
     if not library.sound():
         return "memory beside a buffer"
@@ -128,27 +154,27 @@ def fault(library, case, tested=False):
     if library.places != walk.P or result != 0 or numbers[:3] != [walk.tips_admitted, 0, walk.tips_admitted]:
         return "opening: %d, places %d for %d" % (result, library.places, walk.P)
     for k, a in enumerate(answers):
-        ctypes.memset(parents.part, k & 255, 5120)
+        ctypes.memset(parents.part, k & 255, room)
         result = library.next()
         got = (result, bytes(library.id.part), list(library.numbers.part), list(library.seconds.part), bytes(parents.part))
         wanted = (
             {"commit": 0, "end": ENDED, "error": a.number}[a.kind],
-            a.name if a.kind == "commit" else bytes(20),
+            a.name if a.kind == "commit" else bytes(case.width),
             [a.admitted, a.struck, a.waiting, len(a.parents), int(a.level is not None), a.level or 0, int(a.seconds is not None), int(a.zone is not None)],
             [a.seconds or 0, a.zone or 0],
-            b"".join(a.parents) + bytes([k & 255]) * (5120 - 20 * len(a.parents)),
+            b"".join(a.parents) + bytes([k & 255]) * (room - case.width * len(a.parents)),
         )
         if got != wanted or not library.sound():
             return "call %d: %s for %s" % (k, got[:4], wanted[:4])
     return None
 
 
-def families(seed, scale):
+def families(seed, scale, width):
     """The cases of each family, drawn as they are asked for: a family is run before the next is drawn."""
-    yield "sample history and skewed clock", [case for _, case, _, _ in generate.named_runs()]
-    for name, family, pairs, *how in generate.FAMILIES:
-        rng = random.Random("%d %s" % (seed, name))
-        yield name, (case for _ in range(max(1, pairs * scale // 100)) for case in generate.random_cases(rng, family, *how))
+    yield "sample history and skewed clock", [case for _, case, _, _ in generate.named_runs(width)]
+    for name, family, pairs, *how in generate.FAMILIES + [("files of the other width", generate.other_width, 400, 4)]:
+        rng = generate.seeded("%d %s" % (seed, name), width)
+        yield name, (case for _ in range(max(1, pairs * scale // 100)) for case in generate.random_cases(rng, family, *how, width=width))
 
 
 def main():
@@ -156,19 +182,21 @@ def main():
     options.add_argument("library")
     options.add_argument("--seed", type=int, default=1)
     options.add_argument("--scale", type=int, default=100)
+    options.add_argument("--width", type=int, choices=formats.WIDTHS)
     options = options.parse_args()
     library = Library(options.library)
     bad = 0
-    for name, cases in families(options.seed, options.scale):
-        done = 0
-        for case in cases:
-            done += 1
-            found = fault(library, case) or without_room(library, case)
-            if found:
-                bad += 1
-                if bad <= 5:
-                    print("%s, case %d: %s" % (name, done, found))
-        print("%s: %d cases" % (name, done))
+    for width in widths(options.width):
+        for name, cases in families(options.seed, options.scale, width):
+            done = 0
+            for case in cases:
+                done += 1
+                found = fault(library, case) or without_room(library, case)
+                if found:
+                    bad += 1
+                    if bad <= 5:
+                        print("%s%s, case %d: %s" % (in_words(width), name, done, found))
+            print("%s%s: %d cases" % (in_words(width), name, done))
     print("%d differ" % bad)
     return 1 if bad else 0
 

@@ -2,16 +2,17 @@
 
 `Files` is what the two files say of an id. `Walk` is an opening and its next calls. Sentences in quotation marks are the documents'.
 `reach` and `Tested` are card 1, `commit_id` and `check_names` card 2, `write_graph` card 4, `feed_report` cards 5 and 10, `merge_base` cards 8 and
-11, `terms_report` card 9, `trace` card 12.
+11, `terms_report` card 9, `trace` card 12. Card 13's width of an id is a parameter of all that speaks of ids; what follows from it is named in
+tools/formats.py.
 """
 import calendar
 import collections
-import hashlib
 import os
 import sys
 
 sys.path.insert(0, os.path.join(os.path.dirname(os.path.abspath(__file__)), "..", "tools"))
 import formats  # noqa: E402
+from formats import SHA1  # noqa: E402
 
 CORRUPT = "corrupt"
 VISIBLE, HIDDEN, STALE = 1, 2, 4
@@ -29,13 +30,13 @@ class Header:
     the zone, or None where a line up to the committer's is bad. "Where only seconds are wanted … parents are not counted." Card 7: the zone "is
     read past all parent lines, uncounted", and the committer line may have none. """
 
-    def __init__(self, body):
+    def __init__(self, body, width=SHA1):
         self.tree, self.ids, self.crowded, self.author, self.seconds, self.zone = False, [], False, False, None, None
-        tree = formats.id_line(b"tree ", body)
+        tree = formats.id_line(b"tree ", body, width)
         if tree is None:
             return
         self.tree = True
-        ids, rest = formats.parent_lines(tree[1])
+        ids, rest = formats.parent_lines(tree[1], width)
         self.ids, self.crowded = ids[:MOST_PARENTS], len(ids) > MOST_PARENTS
         after = formats.author_line(rest)
         if after is not None:
@@ -52,22 +53,23 @@ class Header:
 
 
 class Files:
-    """Book and graph. `fault` is the first of 4 to 6 that applies. `levelled`: card 6, "If any row has level 0, no level of that file is used"."""
+    """Book and graph, and the width of their ids. `fault` is the first of 4 to 6 that applies. `levelled`: card 6, "If any row has level 0, no level of that
+    file is used". """
 
-    def __init__(self, store, graph):
-        self.store, self.graph_bytes = store, graph
+    def __init__(self, store, graph, width=SHA1):
+        self.store, self.graph_bytes, self.width = store, graph, width
         self.headers, self.rows, self.count, self.graph, self.levelled = {}, {}, 0, None, True
-        entries = formats.store_entries(store)
+        entries = formats.store_entries(store, width)
         self.fault = None
         if entries is None:
             self.fault = 4
             return
         self.bodies = {name: store[start:end] for name, start, end in entries}
         if graph:
-            if not formats.graph_head(graph):
+            if not formats.graph_head(graph, width):
                 self.fault = 5
                 return
-            self.graph = formats.Graph(graph)
+            self.graph = formats.Graph(graph, width)
             if not self.graph.good:
                 self.fault = 6
                 return
@@ -78,7 +80,7 @@ class Files:
     def header(self, name):
         """None where the book has no such id."""
         if name not in self.headers:
-            self.headers[name] = Header(self.bodies[name]) if name in self.bodies else None
+            self.headers[name] = Header(self.bodies[name], self.width) if name in self.bodies else None
         return self.headers[name]
 
     def row(self, name):
@@ -145,8 +147,8 @@ class Walk:
         self.queued_with, self.painted_with = {}, {}
         self.by_time = sorting != "breadth" and not first
         self.refused = self.open(tips)
-        # "P = tips + hidden tips + ⌊book bytes/48⌋ + N, both lists counted as lent"
-        self.P = len(tips) + len(hidden) + len(files.store) // 48 + files.count
+        # "P = tips + hidden tips + ⌊book bytes/48⌋ + N, both lists counted as lent"; "P divides the book by 72 there"
+        self.P = len(tips) + len(hidden) + len(files.store) // formats.parent_line(files.width) + files.count
 
     # ---- opening
 
@@ -380,23 +382,23 @@ class Tested(Walk):
         return self.pair(parent) < self.pair(name)
 
 
-def commit_id(body, kind="sha1"):
+def commit_id(body, width=SHA1):
     """"A commit's id is the digest of `commit `, the body length in decimal, a zero byte and the body." """
-    return hashlib.new(kind, b"commit %d\0" % len(body) + body).digest()
+    return formats.digest(b"commit %d\0" % len(body) + body, width)
 
 
-def check_names(store, graph):
+def check_names(store, graph, width=SHA1):
     """The number of the refusal, 0 where there is none, and the entry's. "It refuses the first false name in id order and returns that entry's
     number, counted from 0. Refused: 16 false name, 17 graph checksum false, both after 6 of that call and 16 first." """
     if max(len(store), len(graph)) > MOST_BYTES:
         return 2, 0
-    files = Files(store, graph)
+    files = Files(store, graph, width)
     if files.fault is not None:
         return files.fault, 0
     for k, name in enumerate(sorted(files.bodies)):
-        if commit_id(files.bodies[name]) != name:
+        if commit_id(files.bodies[name], width) != name:
             return 16, k
-    if graph and hashlib.sha1(graph[:-20]).digest() != graph[-20:]:
+    if graph and formats.digest(graph[:-width], width) != graph[-width:]:
         return 17, 0
     return 0, 0
 
@@ -412,12 +414,12 @@ def best_common(files, one, other):
     return common, {x for x in common if not any(x in reach(files, [y]) for y in common if y != x)}
 
 
-def merge_base(store, one, other, room=True):
+def merge_base(store, one, other, room=True, width=SHA1):
     """The number of the refusal, 0 where there is none, and the commit, None where there is none. "Refused: 23 tangled reach, exactly then; before it
     13, for a commit reachable from either tip that is not readable, and before that 2, 4 and 1". room: whether the memory is enough. """
     if len(store) > MOST_BYTES:
         return 2, None
-    files = Files(store, b"")
+    files = Files(store, b"", width)
     if files.fault is not None:
         return files.fault, None
     if not room:
@@ -458,7 +460,7 @@ def levels_of(parents):
     return levels if len(levels) == len(parents) else None
 
 
-def graph_file(rows, width=20):
+def graph_file(rows, width=SHA1):
     """The version 1 file of rows (id, tree, parents' positions, level, seconds), in id order: "OIDF, OIDL, CDAT, then EDGE only if some commit has over two
     parents, its lists in row order; … SHA-1 at the end". Document 01: "There the list holds the second parent onward and ends at the first entry
     with the top bit set, whose other bits are the last parent"; "Parent 0x70000000 is none". """
@@ -475,15 +477,15 @@ def graph_file(rows, width=20):
     chunks = [(b"OIDF", formats.fan(names)), (b"OIDL", b"".join(names)), (b"CDAT", data)]
     chunks += [(b"EDGE", b"".join(map(formats.u32, edge)))] if edge else []
     at = 8 + 12 * (len(chunks) + 1)
-    out = b"CGPH" + bytes([1, 1 if width == 20 else 2, len(chunks), 0])
+    out = b"CGPH" + bytes([1, formats.hash_version(width), len(chunks), 0])
     for name, part in chunks:
         out += name + formats.u64(at)
         at += len(part)
     out += bytes(4) + formats.u64(at) + b"".join(part for _, part in chunks)
-    return out + hashlib.new("sha1" if width == 20 else "sha256", out).digest()
+    return out + formats.digest(out, width)
 
 
-def graph_length(store, lent, width=20):
+def graph_length(store, lent, width=SHA1):
     """The number of the refusal, 0 where there is none, and the file. "Refused: 18 unfit book (an entry unreadable, a parent absent, or no levels can
     satisfy the rule), 19 seconds outside 0 to 17,179,869,183 …; in that order after 2, 4 and 1 (lent levels of under one u32 per entry)". """
     if len(store) > MOST_BYTES:
@@ -509,7 +511,7 @@ def graph_length(store, lent, width=20):
     return 0, graph_file([(name, trees[k], parents[k], levels[k], seconds[k]) for k, (name, _, _) in enumerate(entries)], width)
 
 
-def write_graph(store, lent, room, width=20):
+def write_graph(store, lent, room, width=SHA1):
     """The same, and then "20 short output". "A refusal leaves the output buffer alone; an accepted writing alters only the file's own bytes there and
     returns their number." """
     number, file = graph_length(store, lent, width)
@@ -567,9 +569,14 @@ def handed(walk):
 def embargo_refusal(walk, embargoed):
     """Card 10: "The list of embargoed ids is a list for 2 and 3", in document 01's order: 2 of any file or list, then 3 of any; None where neither is of
     this list. The walk's own lists are of whole ids here. """
-    if walk.refused == 2 or len(embargoed) > 20 * MOST_IDS:
+    if walk.refused == 2 or len(embargoed) > walk.files.width * MOST_IDS:
         return 2
-    return 3 if len(embargoed) % 20 else None
+    return 3 if len(embargoed) % walk.files.width else None
+
+
+def ids_of(listed, width):
+    """The ids of a list. Card 13: "A list must be a multiple of the chosen width" """
+    return {listed[k:k + width] for k in range(0, len(listed), width)}
 
 
 def feed_report(walk, embargoed=b"", outside=False):
@@ -580,7 +587,7 @@ def feed_report(walk, embargoed=b"", outside=False):
     early = embargo_refusal(walk, embargoed)
     if early is not None:
         return early, [0] * 6, 0
-    withheld = {embargoed[k:k + 20] for k in range(0, len(embargoed), 20)} if outside else set()
+    withheld = ids_of(embargoed, walk.files.width) if outside else set()
     both = cone_alone = bed_alone = neither = cones = beds = less = 0
     try:
         for name in handed(walk):
@@ -665,25 +672,25 @@ def forced(files, listed, start, moves):
     return start in cone, [n for n, p in enumerate(parents[start]) if p in before] if moves else []
 
 
-def trace(store, start, calibrations, moves):
+def trace(store, start, calibrations, moves, width=SHA1):
     """Card 12. The number of the refusal, 0 where there is none; what is said (0 not forced, 1 the start is on the list, 2 forced by a parent); the parent's number
     and its id. "Refused: 25 d over 12, before any reading; then 2 to 4; then 13 for an unreadable commit within d parent steps of the start, the start
     included." """
-    nothing = 0, 0, bytes(20)
+    nothing = 0, 0, bytes(width)
     if moves > 12:
         return 25, *nothing
-    if len(store) > MOST_BYTES or len(calibrations) > 20 * MOST_IDS:
+    if len(store) > MOST_BYTES or len(calibrations) > width * MOST_IDS:
         return 2, *nothing
-    if len(calibrations) % 20:
+    if len(calibrations) % width:
         return 3, *nothing
-    files = Files(store, b"")
+    files = Files(store, b"", width)
     if files.fault is not None:
         return files.fault, *nothing
     if not all(readable(files, name) for name in within(files, start, moves)):
         return 13, *nothing
-    listed = {calibrations[k:k + 20] for k in range(0, len(calibrations), 20)}
+    listed = ids_of(calibrations, width)
     if start in listed:
-        return 0, 1, 0, bytes(20)
+        return 0, 1, 0, bytes(width)
     wins, forcing = forced(files, listed, start, moves)
     assert wins == bool(forcing)
     return (0, 2, forcing[0], files.header(start).ids[forcing[0]]) if wins else (0, *nothing)

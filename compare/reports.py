@@ -5,10 +5,10 @@
   reader and for an outside one, with lists of embargoed ids. Pairs of stores that differ in embargoed readings are in embargo.py.
 - the report by terms (card 9): each month of Python's calendar, to the second; and the same histories with seconds at the ends of months, good lists of terms and bad ones.
 
-Each call is also made with a buffer of the memory an element too short, with a ragged or oversize list (of tips and of embargoed ids), and without room
+Each with ids of 20 bytes and with ids of 32 (card 13). Each call is also made with a buffer of the memory an element too short, with a ragged or oversize list (of tips and of embargoed ids), and without room
 for what is reported. After 1 to 8, and after 24, no lent byte may be altered but the report's own; and no byte beside a buffer ever.
 
-Prints how many came to each result; ends with status 1 if anything differs. Options: --seed N, --scale N (percent), --feed or --terms alone.
+Prints how many came to each result; ends with status 1 if anything differs. Options: --seed N, --scale N (percent), --width N (one width alone), --feed or --terms alone.
 
     rt staticlib linenhatch
     make -C bindings/c shared
@@ -17,18 +17,16 @@ Prints how many came to each result; ends with status 1 if anything differs. Opt
 import argparse
 import collections
 import ctypes
-import random
 import re
 import sys
 
 import generate
 import model
-from library import GUARD, MOST_PLACES, NO_ROOM, Buffer, lend
+from library import GUARD, MOST_PLACES, NO_ROOM, Buffer, in_words, lend, memory_sizes, width_words, widths
 
 FEED, TERMS = 36000, 36000
 FAMILIES = [family for _, family, pairs, *_ in generate.FAMILIES if pairs > 100] + [generate.wide]
 CASES = 6  # of each pair of files
-SIZES = ((ctypes.c_uint8, 20), (ctypes.c_uint8, 1), (ctypes.c_uint32, 1), (ctypes.c_int64, 1), (ctypes.c_uint32, 5))
 
 
 # ---- the library
@@ -41,12 +39,11 @@ class Call:
         lent = [lend(data) for data in lists]
         self.kept = [(part, data) for (_, part), data in zip(lent, lists)]
         words = [word for pair, _ in lent for word in pair]
-        p = min(library.linenhatch_places(*words[:8]), MOST_PLACES)
+        p = min(library.linenhatch_places(*width_words(case.width), *words[:8]), MOST_PLACES)
         order = {"breadth": 0, "newest": 1, "oldest": 2}[generate.ORDER[case.sorting]]
         settings = [ctypes.c_uint32(order), ctypes.c_uint32(case.sorting >= generate.CUTOFF_NEWEST), ctypes.c_int64(case.cutoff), ctypes.c_uint32(case.first)]
-        sizes = [(kind, times * p) for kind, times in SIZES] + [(ctypes.c_uint8, 5120)]
-        self.memory = [Buffer(kind, max(0, n - (k == short))) for k, (kind, n) in enumerate(sizes)]
-        self.library, self.inputs, self.settings = library, words, settings
+        self.memory = [Buffer(kind, max(0, n - (k == short))) for k, (kind, n) in enumerate(memory_sizes(case.width, p))]
+        self.width, self.library, self.inputs, self.settings = case.width, library, words, settings
 
     def lent(self):
         return [word for b in self.memory for word in b.words()]
@@ -55,13 +52,13 @@ class Call:
         words, part = lend(embargoed)
         self.kept.append((part, embargoed))
         self.own = [Buffer(ctypes.c_uint64, numbers), Buffer(ctypes.c_int64, difference)]
-        self.result = self.library.linenhatch_feed(*self.inputs, *self.settings, *words, ctypes.c_uint32(outside), *self.lent(), *(w for b in self.own for w in b.words()))
+        self.result = self.library.linenhatch_feed(*width_words(self.width), *self.inputs, *self.settings, *words, ctypes.c_uint32(outside), *self.lent(), *(w for b in self.own for w in b.words()))
         return self.result
 
     def terms(self, terms, counts, outside=1):
         part = (ctypes.c_uint32 * max(1, len(terms)))(*terms)
         self.own = [Buffer(ctypes.c_uint64, counts), Buffer(ctypes.c_uint64, outside)]
-        self.result = self.library.linenhatch_terms(*self.inputs, *self.settings, ctypes.cast(part, ctypes.c_void_p), ctypes.c_size_t(len(terms)), *self.lent(),
+        self.result = self.library.linenhatch_terms(*width_words(self.width), *self.inputs, *self.settings, ctypes.cast(part, ctypes.c_void_p), ctypes.c_size_t(len(terms)), *self.lent(),
                                                     *(w for b in self.own for w in b.words()))
         return self.result
 
@@ -121,7 +118,7 @@ def with_messages(rng, pair, faulty):
 
 def same_graph(pair, bodies):
     torn = pair.torn_store is not None and pair.torn_store != generate.formats.store(pair.bodies)
-    return generate.Pair(bodies, pair.rows, pair.edges, store=pair.torn_store if torn else None, graph=pair.torn_graph)
+    return generate.Pair(bodies, pair.rows, pair.edges, store=pair.torn_store if torn else None, graph=pair.torn_graph, width=pair.width)
 
 
 # ---- seconds and terms
@@ -170,12 +167,12 @@ def with_seconds(rng, pair, months):
     bodies = {name: re.sub(rb"(\ncommitter A <a> )-?[0-9]+", other, pair.bodies[name]) for name in sorted(pair.bodies)}
     rows = pair.rows
     if rows is not None and rng.random() < 0.6:  # the graph agrees
-        rows = {name: (parents, level, second_of(bodies.get(name), seconds)) for name, (parents, level, seconds) in rows.items()}
-    return same_graph(generate.Pair(pair.bodies, rows, pair.edges, store=pair.torn_store, graph=pair.torn_graph), bodies)
+        rows = {name: (parents, level, second_of(bodies.get(name), seconds, pair.width)) for name, (parents, level, seconds) in rows.items()}
+    return same_graph(generate.Pair(pair.bodies, rows, pair.edges, store=pair.torn_store, graph=pair.torn_graph, width=pair.width), bodies)
 
 
-def second_of(body, seconds):
-    header = model.Header(body) if body is not None else None
+def second_of(body, seconds, width):
+    header = model.Header(body, width) if body is not None else None
     return seconds if header is None or header.seconds is None else header.seconds % generate.SECONDS_OF_A_ROW
 
 
@@ -197,7 +194,7 @@ def wrong_feed(library, rng, case):
         return "%s for %s" % (call.said(), said), wanted
     if before_the_walk(wanted[0]) and not call.as_lent(call.memory):
         return "memory altered by %d" % wanted[0], wanted
-    bad = rng.choice((b"x" * 20 * 1025, b"x" * 20481, b"x" * 19, listed + b"y", listed[:-1] or b"z"))
+    bad = rng.choice((b"x" * case.width * 1025, b"x" * (case.width * 1024 + 1), b"x" * (case.width - 1), listed + b"y", listed[:-1] or b"z"))
     call, number = Call(library, case), model.embargo_refusal(case.walk(), bad)
     call.feed(6, 1, bad, outside)
     if call.said() != (number, [0] * 6, [0]) or not call.sound() or not call.as_lent(call.memory):
@@ -215,7 +212,7 @@ def some_embargoed(rng, case):
     if listed and rng.random() < 0.3:
         listed.append(rng.choice(listed))
     if rng.random() < 0.2:
-        listed.append(bytes(rng.randrange(256) for _ in range(20)))
+        listed.append(bytes(rng.randrange(256) for _ in range(case.width)))
     rng.shuffle(listed)
     return b"".join(listed[:model.MOST_IDS])
 
@@ -246,7 +243,7 @@ def refused_early(library, rng, case, wanted, run, no_room, own):
         first = wanted  # nothing of it can be lacking
     elif call.said() != (first, *zeros) or not call.sound() or not call.as_lent(call.memory):
         return "%s with memory too short, for %d" % (call.said(), first)
-    tips, number = rng.choice(((b"x" * 20 * 1025, 2), (b"x" * 19, 3), (b"".join(case.tips) + b"y", 3)))
+    tips, number = rng.choice(((b"x" * case.width * 1025, 2), (b"x" * (case.width - 1), 3), (b"".join(case.tips) + b"y", 3)))
     number = 24 if wanted == 24 else 2 if wanted == 2 else number
     call = Call(library, case, tips=tips)
     run(call)
@@ -261,18 +258,18 @@ def refused_early(library, rng, case, wanted, run, no_room, own):
 
 # ---- the run
 
-def cases(rng, count):
+def cases(rng, count, width=generate.SHA1):
     """Cases over generate.py's files, made as many as asked for."""
     done = 0
     while done < count:
-        pair, names, seconds, strangers, stranger = rng.choice(FAMILIES)(rng)
+        pair, names, seconds, strangers, stranger = rng.choice(FAMILIES)(rng, width)
         yield pair, [generate.some_case(rng, pair, names, seconds, strangers, stranger) for _ in range(min(CASES, count - done))]
         done += CASES
 
 
-def feeds(library, seed, count):
-    rng, results, bad = random.Random("feeds %d" % seed), collections.Counter(), 0
-    for pair, drawn in cases(rng, count):
+def feeds(library, seed, count, width):
+    rng, results, bad = generate.seeded("feeds %d" % seed, width), collections.Counter(), 0
+    for pair, drawn in cases(rng, count, width):
         pair = with_messages(rng, pair, rng.choice([0, 0, 0, 0.05, 0.3]))
         for case in drawn:
             case.pair = pair
@@ -284,12 +281,12 @@ def feeds(library, seed, count):
                 bad += 1
                 if bad <= 5:
                     print("feed: %s" % found)
-    return tell("feed reports", results, bad)
+    return tell(width, "feed reports", results, bad)
 
 
-def terms(library, seed, count):
-    rng, results, bad = random.Random("terms %d" % seed), collections.Counter(), 0
-    for pair, drawn in cases(rng, count):
+def terms(library, seed, count, width):
+    rng, results, bad = generate.seeded("terms %d" % seed, width), collections.Counter(), 0
+    for pair, drawn in cases(rng, count, width):
         listed = some_terms(rng)
         pair = with_seconds(rng, pair, [m for m in listed if m < 1560] or [0])
         for case in drawn:
@@ -302,28 +299,28 @@ def terms(library, seed, count):
                 bad += 1
                 if bad <= 5:
                     print("terms %s: %s" % (listed, found))
-    return tell("reports by terms", results, bad)
+    return tell(width, "reports by terms", results, bad)
 
 
-def every_month(library):
+def every_month(library, width):
     """A second before each month of Python's calendar, its first, its last, and one after: two of the four lie in it."""
     bad = 0
     for month in range(1560):
         first, last = model.month_seconds(month)
-        bodies = {bytes([k + 1]) * 20: generate.formats.body([bytes([k + 2]) * 20] if k < 3 else [], at) for k, at in enumerate((first - 1, first, last, last + 1))}
-        call = Call(library, generate.Case(generate.Pair(bodies), [b"\1" * 20]))
+        bodies = {bytes([k + 1]) * width: generate.formats.body([bytes([k + 2]) * width] if k < 3 else [], at, width=width) for k, at in enumerate((first - 1, first, last, last + 1))}
+        call = Call(library, generate.Case(generate.Pair(bodies, width=width), [b"\1" * width]))
         call.terms([month, month], 1)
         if call.said() != (0, [2], [2]):
             bad += 1
             print("month %d: %s" % (month, call.said()))
-    print("1560 months, each with four commits at its ends: %d differ" % bad)
+    print("%s1560 months, each with four commits at its ends: %d differ" % (in_words(width), bad))
     return bad
 
 
-def tell(what, results, bad):
+def tell(width, what, results, bad):
     numbers = {key: n for key, n in results.items() if isinstance(key, int)}
-    print("%d %s: %s; %s; each with four calls more: %d differ" % (
-        sum(numbers.values()), what, ", ".join("%s %d" % ("whole" if not key else "refused %d" % key, numbers[key]) for key in sorted(numbers)),
+    print("%s%d %s: %s; %s; each with four calls more: %d differ" % (
+        in_words(width), sum(numbers.values()), what, ", ".join("%s %d" % ("whole" if not key else "refused %d" % key, numbers[key]) for key in sorted(numbers)),
         ", ".join("%s %d" % (key, n) for key, n in results.items() if not isinstance(key, int)), bad))
     return bad
 
@@ -335,17 +332,19 @@ def main():
     options.add_argument("--scale", type=int, default=100)
     options.add_argument("--feed", action="store_true")
     options.add_argument("--terms", action="store_true")
+    options.add_argument("--width", type=int, choices=generate.formats.WIDTHS)
     options = options.parse_args()
     library = ctypes.CDLL(options.library)
     library.linenhatch_places.restype = ctypes.c_size_t
     bad = 0
-    if not options.terms:
-        library.linenhatch_feed.restype = ctypes.c_uint32
-        bad += feeds(library, options.seed, FEED * options.scale // 100)
-    if not options.feed:
-        library.linenhatch_terms.restype = ctypes.c_uint32
-        bad += every_month(library)
-        bad += terms(library, options.seed, TERMS * options.scale // 100)
+    for width in widths(options.width):
+        if not options.terms:
+            library.linenhatch_feed.restype = ctypes.c_uint32
+            bad += feeds(library, options.seed, FEED * options.scale // 100, width)
+        if not options.feed:
+            library.linenhatch_terms.restype = ctypes.c_uint32
+            bad += every_month(library, width)
+            bad += terms(library, options.seed, TERMS * options.scale // 100, width)
     print("%d differ" % bad)
     return 1 if bad else 0
 

@@ -28,37 +28,37 @@ def smaller(case):
             out.sorting = sorting
             yield out
     if pair.rows is not None:
-        yield with_pair(case, Pair(pair.bodies))
+        yield with_pair(case, Pair(pair.bodies, width=pair.width))
         raw = any(isinstance(row[0], tuple) for row in pair.rows.values())
         for name, (parents, level, seconds) in pair.rows.items():
             if not raw and not any(name in row[0] for other, row in pair.rows.items() if other != name):
-                yield with_pair(case, Pair(pair.bodies, {x: row for x, row in pair.rows.items() if x != name}, pair.edges))
+                yield with_pair(case, Pair(pair.bodies, {x: row for x, row in pair.rows.items() if x != name}, pair.edges, width=pair.width))
             if not isinstance(parents, tuple):
                 for k in range(len(parents)):
                     rows = dict(pair.rows)
                     rows[name] = (parents[:k] + parents[k + 1:], level, seconds)
-                    yield with_pair(case, Pair(pair.bodies, rows, pair.edges))
+                    yield with_pair(case, Pair(pair.bodies, rows, pair.edges, width=pair.width))
             for less in ((parents, 0, seconds), (parents, level, 0), (parents, level, seconds // 2)):
                 if less != (parents, level, seconds):
                     rows = dict(pair.rows)
                     rows[name] = less
-                    yield with_pair(case, Pair(pair.bodies, rows, pair.edges))
+                    yield with_pair(case, Pair(pair.bodies, rows, pair.edges, width=pair.width))
     for name, body in pair.bodies.items():
-        yield with_pair(case, Pair({x: b for x, b in pair.bodies.items() if x != name}, pair.rows, pair.edges))
-        header = model.Header(body)
+        yield with_pair(case, Pair({x: b for x, b in pair.bodies.items() if x != name}, pair.rows, pair.edges, width=pair.width))
+        header = model.Header(body, pair.width)
         if header.fault() is None:
-            plain = formats.body(header.ids, header.seconds)
-            changed = [formats.body(header.ids[:k] + header.ids[k + 1:], header.seconds) for k in range(len(header.ids))]
+            plain = formats.body(header.ids, header.seconds, width=pair.width)
+            changed = [formats.body(header.ids[:k] + header.ids[k + 1:], header.seconds, width=pair.width) for k in range(len(header.ids))]
             nearer = [0, header.seconds // 2 if header.seconds > 0 else -(-header.seconds // 2), header.seconds - 1 if header.seconds > 0 else header.seconds + 1]
-            changed += [formats.body(header.ids, t) for t in nearer if abs(t) < abs(header.seconds)]
+            changed += [formats.body(header.ids, t, width=pair.width) for t in nearer if abs(t) < abs(header.seconds)]
             for less in changed + ([plain] if plain != body else []):
                 bodies = dict(pair.bodies)
                 bodies[name] = less
-                yield with_pair(case, Pair(bodies, pair.rows, pair.edges))
+                yield with_pair(case, Pair(bodies, pair.rows, pair.edges, width=pair.width))
 
 
 def size(case):
-    return len(case.pair.store) + len(case.pair.graph) + 20 * len(case.tips + case.hidden + case.barred)
+    return len(case.pair.store) + len(case.pair.graph) + case.width * len(case.tips + case.hidden + case.barred)
 
 
 def smallest(case, test, turns=400):

@@ -9,7 +9,9 @@ has to tell apart and over the families of generate.py. Prints how many came to 
 - The model beside a second one of the same words, by closing the relation of parents; and openings with one fault each (slips.py: TESTED), each of which
   some case must tell from the right one. `--alone` runs these two without a library.
 
-Options: --seed N, --scale N (percent of the cases), --alone; --program target/bin/runs: the same cases through the program `runs` (rt check runs), each printed
+Each with ids of 20 bytes and with ids of 32 (card 13).
+
+Options: --seed N, --scale N (percent of the cases), --width N (one width alone), --alone; --program target/bin/runs: the same cases through the program `runs` (rt check runs), each printed
 line beside the model's, but for those that its buffers have no room for.
 
     rt staticlib linenhatch
@@ -27,7 +29,7 @@ import library as plain
 import model
 import slips
 from compare import expected, third_demand
-from generate import CUTOFF_NEWEST, Case, Pair
+from generate import CUTOFF_NEWEST, SHA1, Case, Pair
 
 TESTED = (13, 14, 15)
 PAIRS, CASES = 340, 7  # files of each kind, and lists and settings for each
@@ -39,9 +41,9 @@ SHARE = 40             # percent of the families of generate.py
 class Made:
     """A history whose clock falls, which each kind alters; commit 0 is the newest, and no commit but the last is without parents."""
 
-    def __init__(self, rng, least=3, most=14):
+    def __init__(self, rng, width, least=3, most=14):
         n = rng.randrange(least, most)
-        self.rng, self.names = rng, generate.some_ids(rng, n + 1)
+        self.rng, self.width, self.names = rng, width, generate.some_ids(rng, n + 1, width)
         self.stranger = self.names.pop()
         self.links = generate.some_links(rng, n)
         for i in range(n - 1):
@@ -51,7 +53,7 @@ class Made:
 
     def built(self):
         if self.bodies is None:
-            self.bodies = generate.bodies_of(self.names, self.links, self.seconds)
+            self.bodies = generate.bodies_of(self.names, self.links, self.seconds, self.width)
         return self.bodies
 
     def deep(self):
@@ -75,7 +77,7 @@ class Made:
         self.rows = generate.maybe_graph(self.rng, self.names, self.links, self.seconds)
 
     def done(self):
-        return Pair(self.built(), self.rows, self.edges), self.names, self.seconds, (), 0
+        return Pair(self.built(), self.rows, self.edges, width=self.width), self.names, self.seconds, (), 0
 
 
 def good(h):
@@ -90,7 +92,7 @@ def stale(h):
 def unreadable(h):
     h.maybe()
     at = h.deep()
-    h.built()[h.names[at]] = generate.damaged(h.rng, [h.names[p] for p in h.links[at]], h.seconds[at])
+    h.built()[h.names[at]] = generate.damaged(h.rng, [h.names[p] for p in h.links[at]], h.seconds[at], h.width)
 
 
 def crowded(h):
@@ -108,7 +110,7 @@ def absent(h):
         del h.built()[h.names[h.deep()]]
     else:
         at = h.child(0)
-        h.built()[h.names[at]] = model.formats.body([h.names[p] for p in h.links[at]] + [h.stranger], h.seconds[at])
+        h.built()[h.names[at]] = model.formats.body([h.names[p] for p in h.links[at]] + [h.stranger], h.seconds[at], width=h.width)
 
 
 def other_parents(h):
@@ -222,11 +224,11 @@ MEETS = {good: [], stale: [], unreadable: [13], crowded: [13], absent: [13], oth
          equal_pair: [15], rising: [15], rising_with_levels: [15], wrong_levels: [15], never_computed: [15], cycle: [15], itself: [15], two_faults: [13, 14, 15]}
 
 
-def apart(rng):
+def apart(rng, width):
     """A good history and one at fault, of any kind but the good ones, side by side in one store: which of the two a list names decides."""
-    here, there = Made(rng), Made(rng)
+    here, there = Made(rng, width), Made(rng, width)
     while set(here.names + [here.stranger]) & set(there.names + [there.stranger]):
-        there = Made(rng)
+        there = Made(rng, width)
     rng.choice(KINDS[2:])(there)
     if there.edges or any(isinstance(row[0], tuple) for row in (there.rows or {}).values()):
         there.rows, there.edges = None, ()
@@ -234,12 +236,12 @@ def apart(rng):
     if there.rows is not None:
         rows = here.graph()
         rows.update(there.rows)
-    pair = Pair({**here.built(), **there.built()}, rows)
+    pair = Pair({**here.built(), **there.built()}, rows, width=width)
     return here, there, pair
 
 
-def bad_part(rng, how):
-    here, there, pair = apart(rng)
+def bad_part(rng, how, width):
+    here, there, pair = apart(rng, width)
 
     def some(h, counts=(1, 1, 2)):
         return [rng.choice(h.names[:3]) for _ in range(rng.choice(counts))]
@@ -262,26 +264,26 @@ PARTS = {"excluded": "excluded tip whose reach is bad", "hidden": "hidden tip wh
          "not reached": "faults that nothing reaches"}
 
 
-def families(seed, scale):
+def families(seed, scale, width=SHA1):
     def share(n):
         return max(1, n * scale // 100)
 
     for kind in KINDS:
-        rng = random.Random("%d %s" % (seed, kind.__name__))
+        rng = generate.seeded("%d %s" % (seed, kind.__name__), width)
 
-        def family(rng, kind=kind):
-            h = Made(rng)
+        def family(rng, width, kind=kind):
+            h = Made(rng, width)
             kind(h)
             return h.done()
 
-        yield kind.__name__.replace("_", " "), MEETS[kind], (case for _ in range(share(PAIRS)) for case in generate.random_cases(rng, family, CASES))
+        yield kind.__name__.replace("_", " "), MEETS[kind], (case for _ in range(share(PAIRS)) for case in generate.random_cases(rng, family, CASES, width=width))
     for how, name in PARTS.items():
-        rng = random.Random("%d %s" % (seed, how))
-        yield name, [] if how == "not reached" else list(TESTED), (case for _ in range(share(PAIRS)) for case in bad_part(rng, how))
-    yield "document 01's runs", [], [case for _, case, _, _ in generate.named_runs()]
+        rng = generate.seeded("%d %s" % (seed, how), width)
+        yield name, [] if how == "not reached" else list(TESTED), (case for _ in range(share(PAIRS)) for case in bad_part(rng, how, width))
+    yield "document 01's runs", [], [case for _, case, _, _ in generate.named_runs(width)]
     for name, family, pairs, *how in generate.FAMILIES:
-        rng = random.Random("%d tested %s" % (seed, name))
-        yield name, [], (case for _ in range(share(pairs * SHARE // 100)) for case in generate.random_cases(rng, family, *how))
+        rng = generate.seeded("%d tested %s" % (seed, name), width)
+        yield name, [], (case for _ in range(share(pairs * SHARE // 100)) for case in generate.random_cases(rng, family, *how, width=width))
 
 
 # ---- a second opinion on the model
@@ -372,11 +374,13 @@ def judged(lib, case, refused, answers, rng):
     return found or (short(lib, case, refused, rng) if rng.random() < 0.2 else None)
 
 
-def run(lib, seed, scale):
+def run(lib, seed, scale, width):
     rng = random.Random(seed)
     total, told, bad = collections.Counter(), collections.Counter(), 0
+    if width != SHA1:
+        print("\nWith ids of %d bytes\n" % width)
     print("| kind | cases | accepted | 13 | 14 | 15 | 4 to 8 |\n|---|---|---|---|---|---|---|")
-    for name, meets, cases in families(seed, scale):
+    for name, meets, cases in families(seed, scale, width):
         met = collections.Counter()
         for case in cases:
             _, answers, walk = expected(case, model.Tested)
@@ -444,13 +448,15 @@ def main():
     options.add_argument("--program")
     options.add_argument("--seed", type=int, default=1)
     options.add_argument("--scale", type=int, default=100)
+    options.add_argument("--width", type=int, choices=model.formats.WIDTHS)
     options = options.parse_args()
     if options.program:
         return through(options.program, options.seed, options.scale)
     if not options.alone and not options.library:
         print("which library? (or --alone)")
         return 2
-    return run(None if options.alone else plain.Library(options.library), options.seed, options.scale)
+    library = None if options.alone else plain.Library(options.library)
+    return max([run(library, options.seed, options.scale, width) for width in ((options.width,) if options.width else model.formats.WIDTHS if options.alone else plain.widths())])
 
 
 if __name__ == "__main__":

@@ -1,7 +1,7 @@
 """zones.py: the zones of commits (card 7) by the tool `linenhatch` and by git, `git log --format=%cd --date=raw`:
 
 - a history of 1,800 commits with every zone from -1459 to +1459, the author's another one, that `git fast-import` wrote: without a commit-graph
-  file, with one of the older half (whose commits have no zone of ours) and with one of all, over all parents and over first parents alone;
+  file, with one of the older half (whose commits have no zone of ours) and with one of all, over all parents and over first parents alone; and one such history with ids of 32 bytes;
 - commits that `git commit-tree` wrote from dates, and a merge of 300 parents over first parents alone;
 - the history that this folder stands in, and that of each --repository DIR;
 - committer lines with odd zones, written as they stand by `git hash-object --literally`. Here git defines something else than card 7: it skips any
@@ -23,6 +23,8 @@ import sys
 import tempfile
 
 import drift
+from generate import seeded
+from library import widths
 
 sys.path.insert(0, os.path.join(drift.HERE, "..", "tools"))
 import formats  # noqa: E402
@@ -54,18 +56,18 @@ def wrong(mine, its, without=()):
 
 # ---- what is compared: each gives (what, zones compared, wrong)
 
-def every_zone(seed, tool, room):
-    rng = random.Random(f"zones {seed}")
+def every_zone(seed, tool, room, width=formats.SHA1):
+    rng, said = seeded(f"zones {seed}", width), "" if width == formats.SHA1 else f", ids of {width} bytes"
     zones = rng.sample(EVERY, len(EVERY))
     parents = drift.benches(rng, len(zones))
     seconds = [START + drift.APART * n for n in range(len(zones))]
-    plain = os.path.join(room, f"plain {seed}")
-    ids = drift.make(plain, parents, seconds, list(zip(rng.sample(EVERY, len(EVERY)), zones)))
+    plain = os.path.join(room, f"plain {seed} {width}")
+    ids = drift.make(plain, parents, seconds, list(zip(rng.sample(EVERY, len(EVERY)), zones)), width)
     whole, half = ids, ids[:len(ids) // 2]
     for words, first in (((), ()), (("--first-parent",), ("--first-parent",))):
         its = gits(plain, *first, ids[-1])
         written = all(its[x] == zone.replace("-0000", "+0000") for x, zone in zip(ids, zones) if x in its)
-        order = "first parents" if words else "all parents"
+        order = ("first parents" if words else "all parents") + said
         yield f"every zone, {order}", len(its), wrong(ours(tool, plain, ids[-1], *words), its) + (not written)
         for what, of in (("of the older half", half), ("of all commits", whole)):
             with_file = os.path.join(room, f"{what} {order} {seed}")
@@ -137,6 +139,7 @@ def main():
     tool, sums = os.path.abspath(a.tool), {}
     with tempfile.TemporaryDirectory() as room:
         told = [x for seed in range(1, a.seeds + 1) for part in (every_zone, from_dates, many_parents) for x in part(seed, tool, room)]
+        told += [x for width in widths() if width != formats.SHA1 for x in every_zone(1, tool, room, width)]
         for repository in [drift.HERE] + a.repository:
             told += real(tool, repository)
         for what, count, bad in told:

@@ -43,13 +43,13 @@ def digest_cases(head, body):
 def id_cases(body):
     for name, _, asked in KINDS:
         case(asked, body)
-        lines.append(model.commit_id(body, name).hex())
+        lines.append(model.commit_id(body, {"sha1": 20, "sha256": 32}[name]).hex())
 
 
-def check_case(s, g, want=None):
-    r = model.check_names(s, g)
+def check_case(s, g, want=None, width=SHA1):
+    r = model.check_names(s, g, width)
     assert want is None or r == want, (r, want)
-    case(5, s, g)
+    case(5 if width == SHA1 else 6, s, g)
     lines.append("%d %d" % r)
 
 
@@ -127,12 +127,42 @@ def checks(s, g):
         check_case(bytes(t), bytes(h))
 
 
+def other_width(s, g):
+    """Card 13: entries of 36 bytes, "graph hash version 2 with a 32-byte checksum", and "a graph of the other width is 5"."""
+    bodies, last = {}, []
+    for k in range(40):
+        b = body(last, k, bytes([k]) * SHA256)
+        name = model.commit_id(b, SHA256)
+        bodies[name] = b
+        last = [name] + last[:k % 3]
+    wide = store(bodies)
+    start, n = be32(wide, len(wide) - 8), len(bodies)
+    graph = model.write_graph(wide, n, 65536, SHA256)[1]
+    check_case(wide, graph, (0, 0), SHA256)
+    check_case(wide, b"", (0, 0), SHA256)
+    check_case(store({}), graph, (0, 0), SHA256)
+    for k in (0, 1, n // 2, n - 1):
+        a, e = store_entries(wide, SHA256)[k][1:]
+        check_case(flipped(wide, a, 3), graph, (16, k), SHA256)
+        check_case(flipped(wide, e - 1, 3), graph, (16, k), SHA256)
+        check_case(flipped(wide, start + 36 * k + 31), graph, None, SHA256)
+    for at in (len(graph) - 32, len(graph) - 20, len(graph) - 1):
+        check_case(wide, flipped(graph, at, at % 8), (17, 0), SHA256)
+    check_case(flipped(wide, 0), flipped(graph, len(graph) - 1), (16, 0), SHA256)
+    check_case(wide, g, (5, 0), SHA256)
+    check_case(s, graph, (5, 0))
+    check_case(s, graph, (4, 0), SHA256)
+    check_case(wide, g, (4, 0))
+    check_case(wide, graph[:-1], (6, 0), SHA256)
+
+
 def main(out, example):
     s = open(os.path.join(example, "store"), "rb").read()
     g = open(os.path.join(example, "graph"), "rb").read()
     digests()
     ids([s[a:e] for _, a, e in store_entries(s)[:5]])
     checks(s, g)
+    other_width(s, g)
     open(os.path.join(out, "stdin"), "wb").write(b"".join(cases))
     open(os.path.join(out, "stdout"), "w").write("\n".join(lines) + "\n")
 

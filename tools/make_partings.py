@@ -1,6 +1,6 @@
 """make_partings.py DIR: writes DIR/stdin and DIR/stdout, the cases of the program `partings` and what it must print.
 
-A case is two ids of 20 bytes, the lengths of the six buffers to lend and the commit store; before it stands its own length. What is expected comes from document 02's words by brute
+A case is the kind of ids, two ids, the lengths of the six buffers to lend and the commit store; before it stands its own length. Each is made with ids of 20 bytes and of 32 (card 13). What is expected comes from document 02's words by brute
 force: the set of ids that each tip reaches, every pair of common commits set against each other. The readers are compare/model.py's.
 """
 import os
@@ -12,19 +12,20 @@ import model  # noqa: E402
 from formats import *  # noqa: E402,F403
 
 cases, lines = [], []
+width = SHA1  # of the ids of the case that is made
 
 
 # ---- document 02, cards 8 and 11
 
 def places(book):
-    """"P with two tips and no graph" """
-    return 2 + len(book) // 48
+    """"P with two tips and no graph"; "P divides the book by 72 there" """
+    return 2 + len(book) // parent_line(width)
 
 
 def lengths(book):
-    """Document 01: "names 20·P bytes, marks P bytes, levels P u32, times P i64, line 5·P u32, parents 5,120 bytes" """
+    """Document 01: "names 20·P bytes, marks P bytes, levels P u32, times P i64, line 5·P u32, parents 5,120 bytes"; card 13: "buffers follow it" """
     p = places(book)
-    return [20 * p, p, p, p, 5 * p, 5120]
+    return [width * p, p, p, p, 5 * p, parents_size(width)]
 
 
 def reached(files, tip):
@@ -44,7 +45,7 @@ def parting(book, one, other, lent):
     seconds, then the smallest id". """
     if len(book) > model.MOST_BYTES:
         return 2
-    files = model.Files(book, b"")
+    files = model.Files(book, b"", width)
     if files.fault is not None:
         return files.fault
     if any(have < want for have, want in zip(lent, lengths(book))):
@@ -68,7 +69,7 @@ def case(book, one, other, lent=None, want=()):
     lent = lengths(book) if lent is None else lent
     r = parting(book, one, other, lent)
     assert want == () or r == want, (r, want)
-    body = one + other + b"".join(u32(n) for n in lent) + book
+    body = bytes([hash_version(width)]) + one + other + b"".join(u32(n) for n in lent) + book
     assert len(body) <= 65536 and places(book) <= 512
     cases.append(u32(len(body)) + body)
     lines.append("none" if r is None else "refused %d" % r if isinstance(r, int) else r.hex())
@@ -82,16 +83,16 @@ def both_ways(book, one, other, want=()):
 
 def name(k):
     """An id for a number: its first byte tells it, so that ids rise with numbers."""
-    return bytes([k]) + bytes(19)
+    return bytes([k]) + bytes(width - 1)
 
 
 def near(k):
     """Ids that differ in the last byte alone."""
-    return b"\x42" * 19 + bytes([k])
+    return b"\x42" * (width - 1) + bytes([k])
 
 
 def commit(parents, seconds=0, last=b"\n"):
-    out = b"tree " + b"0" * 40 + b"\n"
+    out = b"tree " + b"0" * (2 * width) + b"\n"
     for p in parents:
         out += b"parent " + p.hex().encode() + b"\n"
     return out + b"author A <a> 5 +0000\ncommitter A <a> %d +0000" % seconds + last
@@ -168,10 +169,25 @@ def generated():
         both_ways(book, names(rng.randrange(1, n + 1)), names(rng.randrange(1, n + 1)))
 
 
+def other_width():
+    """A store and tips of the other width: its layout does not hold, or a tip is absent."""
+    global width
+    ids = {}
+    for width in WIDTHS:
+        ids[width] = history({1: [], 2: [1], 3: [1]}), name(2), name(3)
+    for width in WIDTHS:
+        book = ids[SHA1 + SHA256 - width][0]
+        case(book, name(2), name(3), None, 4)
+        case(store({}), name(2), name(3), None, 13)
+
+
 def main(out):
-    shapes()
-    faults()
-    generated()
+    global width
+    for width in WIDTHS:
+        shapes()
+        faults()
+        generated()
+    other_width()
     open(os.path.join(out, "stdin"), "wb").write(b"".join(cases))
     open(os.path.join(out, "stdout"), "w").write("\n".join(lines) + "\n")
     kinds = {}

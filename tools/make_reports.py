@@ -1,11 +1,11 @@
 """make_reports.py DIR: writes DIR/stdin and DIR/stdout, the cases of the program `reportcases` and what it must print.
 
-A case is the reader's letter (`f` the shop's, `o` an outside one), the settings (big-endian u32s: order, whether a cutoff stands, the mode First; then the
-cutoff in 8 bytes), the lengths of the six buffers to lend, those of the six parts, and the parts: store, graph, tips, hidden tips, excluded
-ids, embargoed ids. Before a case stands its own length. What is expected comes from compare/model.py, document 02's words; each hand-made case also says what it should be.
+A case is the reader's letter (`f` the shop's, `o` an outside one), the width of ids and the settings (big-endian u32s: width, order, whether a cutoff stands,
+the mode First; then the cutoff in 8 bytes), the lengths of the six buffers to lend, those of the six parts, and the parts: store, graph, tips, hidden tips,
+excluded ids, embargoed ids. Before a case stands its own length. Each is made with ids of 20 bytes and of 32 (card 13). What is expected comes from
+compare/model.py, document 02's words; each hand-made case also says what it should be.
 """
 import os
-import random
 import struct
 import sys
 
@@ -13,24 +13,34 @@ sys.path[:0] = [os.path.dirname(__file__), os.path.join(os.path.dirname(__file__
 import generate  # noqa: E402
 import model  # noqa: E402
 import reports  # noqa: E402
-from formats import body, store, u32  # noqa: E402
-from generate import BREADTH, CUTOFF_NEWEST, NEWEST, OLDEST, Case, Pair  # noqa: E402
+import formats  # noqa: E402
+from formats import SHA1, SHA256, WIDTHS, hash_version, parent_line, parents_size, u32  # noqa: E402
+from generate import BREADTH, CUTOFF_NEWEST, NEWEST, OLDEST, Case  # noqa: E402
 
 PLACES = 512
 cases, lines = [], []
+width = SHA1  # of the ids of the case that is made
+
+
+def body(parents, seconds):
+    return formats.body(parents, seconds, width=width)
+
+
+def Pair(bodies, rows=None, **torn):
+    return generate.Pair(bodies, rows, width=width, **torn)
 
 
 def lengths(case):
     p = case.walk().P if case.pair.files.fault is None else 0
-    return [20 * p, p, p, p, 5 * p, 5120]
+    return [width * p, p, p, p, 5 * p, parents_size(width)]
 
 
 def encoded(letter, case, embargoed, lent):
     order = {"breadth": 0, "newest": 1, "oldest": 2}[generate.ORDER[case.sorting]]
     parts = (case.pair.store, case.pair.graph, b"".join(case.tips), b"".join(case.hidden), b"".join(case.barred), embargoed)
-    out = letter + struct.pack(">IIIQ", order, case.sorting >= CUTOFF_NEWEST, case.first, case.cutoff)
+    out = letter + struct.pack(">IIIIQ", width, order, case.sorting >= CUTOFF_NEWEST, case.first, case.cutoff)
     out += b"".join(map(u32, lent)) + b"".join(u32(len(part)) for part in parts) + b"".join(parts)
-    assert len(out) <= 65536 and all(n <= most for n, most in zip(lent, (20 * PLACES, PLACES, PLACES, PLACES, 5 * PLACES, 5120)))
+    assert len(out) <= 65536 and all(n <= most for n, most in zip(lent, (SHA256 * PLACES, PLACES, PLACES, PLACES, 5 * PLACES, parents_size(SHA256))))
     cases.append(u32(len(out)) + out)
 
 
@@ -52,10 +62,11 @@ def feed(case, want=None, lent=None, embargoed=b"", outside=False):
 
 
 def name(k):
-    return bytes([k]) * 20
+    return bytes([k]) * width
 
 
-HEAD = b"tree " + b"0" * 40 + b"\nauthor A <a> 5 +0000\ncommitter A <a> 5 +0000\n"
+def head():
+    return b"tree " + b"0" * (2 * width) + b"\nauthor A <a> 5 +0000\ncommitter A <a> 5 +0000\n"
 
 
 # ---- card 5
@@ -67,48 +78,48 @@ def lone(text, **settings):
 
 def bodies():
     """One body, whatever stands in it."""
-    cone, bed = b"Cone-feed: ", b"Bed-feed: "
+    top, cone, bed = head(), b"Cone-feed: ", b"Bed-feed: "
     neither = [0, 0, 0, 1, 0, 0, 0]
     only = lambda n: [0, 1, 0, 0, n, 0, 0]
-    feed(lone(HEAD), neither)                                                    # no message
-    feed(lone(HEAD + b"\n"), neither)                                            # an empty one
-    feed(lone(HEAD + b"\n" + cone + b"5"), only(5))                              # no newline at the end
-    feed(lone(HEAD + b"\n" + cone + b"5\n"), only(5))
-    feed(lone(HEAD + b"\n" + bed + b"7\n" + cone + b"5\n"), [1, 0, 0, 0, 5, 7, -2])
-    feed(lone(HEAD + b"\n" + bed + b"7"), [0, 0, 1, 0, 0, 7, 0])
-    feed(lone(HEAD + b"\nwords\n" + cone + b"5\n\nmore\n" + bed + b"5\nwords"), [1, 0, 0, 0, 5, 5, 0])    # wherever they stand
-    feed(lone(HEAD + b"\n" + cone + b"5\r\n"), 22)                               # CR
-    feed(lone(HEAD + b"\n" + cone + b"5 \n"), 22)
-    feed(lone(HEAD + b"\n" + cone + b" 5\n"), 22)
-    feed(lone(HEAD + b"\n" + cone + b"\n"), 22)                                  # nothing
-    feed(lone(HEAD + b"\n" + cone), 22)
-    feed(lone(HEAD + b"\n" + cone + b"0000000001\n"), only(1))                   # ten digits
-    feed(lone(HEAD + b"\n" + cone + b"00000000001\n"), 22)                       # eleven
-    feed(lone(HEAD + b"\n" + cone + b"1000000000\n"), only(10 ** 9))
-    feed(lone(HEAD + b"\n" + cone + b"1000000001\n"), 22)
-    feed(lone(HEAD + b"\n" + bed + b"1000000001\n"), 22)
-    feed(lone(HEAD + b"\n" + bed + b"9999999999\n"), 22)
-    feed(lone(HEAD + b"\n" + cone + b"007\n"), only(7))                          # leading zeros
-    feed(lone(HEAD + b"\n" + cone + b"0\n"), only(0))
-    feed(lone(HEAD + b"\n" + cone + b"/\n"), 22)
-    feed(lone(HEAD + b"\n" + cone + b":\n"), 22)
-    feed(lone(HEAD + b"\n" + cone + b"-5\n"), 22)
-    feed(lone(HEAD + cone + b"5\n\n"), neither)                                  # before the first empty line
-    feed(lone(HEAD + cone + b"5\n\n" + cone + b"6\n"), only(6))
-    feed(lone(HEAD + b"\nCone-feed:5\n"), neither)                               # without its space
-    feed(lone(HEAD + b"\n " + cone + b"5\n"), neither)
-    feed(lone(HEAD + b"\ncone-feed: 5\n"), neither)
-    feed(lone(HEAD + b"\nx" + cone + b"5\n"), neither)
-    feed(lone(HEAD + b"\n\n\n" + cone + b"5"), only(5))                          # further empty lines are the message's
-    feed(lone(HEAD + b"\n" + cone + b"5\n" + cone + b"5\n"), 21)                 # twice
-    feed(lone(HEAD + b"\n" + cone + b"5\n" + cone + b"x\n"), 21)                 # readable or not
-    feed(lone(HEAD + b"\n" + cone + b"x\n" + cone + b"x"), 21)
-    feed(lone(HEAD + b"\n" + cone + b"x\n" + bed + b"1\n" + bed + b"1\n"), 21)   # 21 first, across the two
-    feed(lone(HEAD + b"\n" + bed + b"1\n" + cone + b"x\n" + bed + b"1\n"), 21)
-    feed(lone(HEAD + b"\n" + cone + b"x\n" + bed + b"y\n"), 22)                  # both faulty
-    feed(lone(HEAD + b"\n" + cone + b"1\n" + bed + b"y\n"), 22)
-    feed(lone(HEAD[:-1] + b"\n\n" + cone + b"5"), only(5))
-    feed(lone(HEAD, sorting=NEWEST), neither)
+    feed(lone(top), neither)                                                    # no message
+    feed(lone(top + b"\n"), neither)                                            # an empty one
+    feed(lone(top + b"\n" + cone + b"5"), only(5))                              # no newline at the end
+    feed(lone(top + b"\n" + cone + b"5\n"), only(5))
+    feed(lone(top + b"\n" + bed + b"7\n" + cone + b"5\n"), [1, 0, 0, 0, 5, 7, -2])
+    feed(lone(top + b"\n" + bed + b"7"), [0, 0, 1, 0, 0, 7, 0])
+    feed(lone(top + b"\nwords\n" + cone + b"5\n\nmore\n" + bed + b"5\nwords"), [1, 0, 0, 0, 5, 5, 0])    # wherever they stand
+    feed(lone(top + b"\n" + cone + b"5\r\n"), 22)                               # CR
+    feed(lone(top + b"\n" + cone + b"5 \n"), 22)
+    feed(lone(top + b"\n" + cone + b" 5\n"), 22)
+    feed(lone(top + b"\n" + cone + b"\n"), 22)                                  # nothing
+    feed(lone(top + b"\n" + cone), 22)
+    feed(lone(top + b"\n" + cone + b"0000000001\n"), only(1))                   # ten digits
+    feed(lone(top + b"\n" + cone + b"00000000001\n"), 22)                       # eleven
+    feed(lone(top + b"\n" + cone + b"1000000000\n"), only(10 ** 9))
+    feed(lone(top + b"\n" + cone + b"1000000001\n"), 22)
+    feed(lone(top + b"\n" + bed + b"1000000001\n"), 22)
+    feed(lone(top + b"\n" + bed + b"9999999999\n"), 22)
+    feed(lone(top + b"\n" + cone + b"007\n"), only(7))                          # leading zeros
+    feed(lone(top + b"\n" + cone + b"0\n"), only(0))
+    feed(lone(top + b"\n" + cone + b"/\n"), 22)
+    feed(lone(top + b"\n" + cone + b":\n"), 22)
+    feed(lone(top + b"\n" + cone + b"-5\n"), 22)
+    feed(lone(top + cone + b"5\n\n"), neither)                                  # before the first empty line
+    feed(lone(top + cone + b"5\n\n" + cone + b"6\n"), only(6))
+    feed(lone(top + b"\nCone-feed:5\n"), neither)                               # without its space
+    feed(lone(top + b"\n " + cone + b"5\n"), neither)
+    feed(lone(top + b"\ncone-feed: 5\n"), neither)
+    feed(lone(top + b"\nx" + cone + b"5\n"), neither)
+    feed(lone(top + b"\n\n\n" + cone + b"5"), only(5))                          # further empty lines are the message's
+    feed(lone(top + b"\n" + cone + b"5\n" + cone + b"5\n"), 21)                 # twice
+    feed(lone(top + b"\n" + cone + b"5\n" + cone + b"x\n"), 21)                 # readable or not
+    feed(lone(top + b"\n" + cone + b"x\n" + cone + b"x"), 21)
+    feed(lone(top + b"\n" + cone + b"x\n" + bed + b"1\n" + bed + b"1\n"), 21)   # 21 first, across the two
+    feed(lone(top + b"\n" + bed + b"1\n" + cone + b"x\n" + bed + b"1\n"), 21)
+    feed(lone(top + b"\n" + cone + b"x\n" + bed + b"y\n"), 22)                  # both faulty
+    feed(lone(top + b"\n" + cone + b"1\n" + bed + b"y\n"), 22)
+    feed(lone(top[:-1] + b"\n\n" + cone + b"5"), only(5))
+    feed(lone(top, sorting=NEWEST), neither)
 
 
 # ---- card 10
@@ -134,19 +145,20 @@ def embargoes():
     row = {name(1): ([name(2)], 2, 100), name(2): ([], 1, 99)}
     feed(Case(Pair({name(1): body([name(2)], 100) + one}, row), [name(1)]), [0, 0, 0, 2, 0, 0, 0], embargoed=name(1), outside=True)
     torn = Case(Pair({}, store=b""), [name(1)])
+    most = 1024 * width
     for outside in (False, True):
-        feed(two_of, 2, embargoed=b"x" * 20481, outside=outside)                                   # 2 and 3, for either reader
-        feed(two_of, [2, 0, 0, 0, 7, 13, -6], embargoed=b"x" * 20480, outside=outside)
-        for length in (1, 19, 21, 20479):
+        feed(two_of, 2, embargoed=b"x" * (most + 1), outside=outside)                              # 2 and 3, for either reader
+        feed(two_of, [2, 0, 0, 0, 7, 13, -6], embargoed=b"x" * most, outside=outside)
+        for length in (1, width - 1, width + 1, SHA1 + SHA256 - width, most - 1):                  # the other width too
             feed(two_of, 3, embargoed=b"x" * length, outside=outside)
-        feed(torn, 2, embargoed=b"x" * 20481, outside=outside)                                     # before 4 and 1
-        feed(torn, 3, embargoed=b"x" * 19, outside=outside)
-        feed(two_of, 3, [0] * 6, embargoed=b"x" * 19, outside=outside)
+        feed(torn, 2, embargoed=b"x" * (most + 1), outside=outside)                                # before 4 and 1
+        feed(torn, 3, embargoed=b"x" * (width - 1), outside=outside)
+        feed(two_of, 3, [0] * 6, embargoed=b"x" * (width - 1), outside=outside)
         feed(two_of, 1, [0] * 6, embargoed=name(2), outside=outside)
         for part in ("tips", "hidden", "barred"):
             over = Case(Pair(texts(one, two)), [name(1)])
             setattr(over, part, [name(1)] * 1025)
-            feed(over, 2, [0] * 6, embargoed=b"x" * 19, outside=outside)                           # 3 after every 2
+            feed(over, 2, [0] * 6, embargoed=b"x" * (width - 1), outside=outside)                  # 3 after every 2
 
 
 def several():
@@ -181,16 +193,17 @@ def several():
     feed(lone(b"tree\n\nCone-feed: x"), 10)
     feed(Case(Pair({}, store=b""), [name(1)]), 4)
     feed(Case(Pair({}, graph=b"CGPHxxxx"), []), 5)
-    feed(Case(Pair({}, graph=b"CGPH\1\1\4\0"), []), 6)
+    feed(Case(Pair({}, graph=b"CGPH\1" + bytes([hash_version(width), 4, 0])), []), 6)
+    feed(Case(Pair({}, graph=b"CGPH\1" + bytes([hash_version(SHA1 + SHA256 - width), 4, 0])), []), 5)     # of the other width
     good = chain([one, two])
     for k in range(6):
         feed(good, 1, [n - (j == k) for j, n in enumerate(lengths(good))])
 
 
 def generated(seed, count):
-    rng = random.Random("reportcases %d" % seed)
-    for pair, drawn in reports.cases(rng, count):
-        if len(pair.store) + len(pair.graph) > 6000 or pair.files.fault is None and 8 + len(pair.store) // 48 + pair.files.count > PLACES - 200:
+    rng = generate.seeded("reportcases %d" % seed, width)
+    for pair, drawn in reports.cases(rng, count, width):
+        if len(pair.store) + len(pair.graph) > 6000 or pair.files.fault is None and 8 + len(pair.store) // parent_line(width) + pair.files.count > PLACES - 200:
             continue
         for case in drawn:
             case.cutoff = max(case.cutoff, 0)
@@ -202,10 +215,12 @@ def generated(seed, count):
 
 
 def main(out):
-    bodies()
-    several()
-    embargoes()
-    generated(1, 240)
+    global width
+    for width in WIDTHS:
+        bodies()
+        several()
+        embargoes()
+        generated(1, 240)
     open(os.path.join(out, "stdin"), "wb").write(b"".join(cases))
     open(os.path.join(out, "stdout"), "w").write("\n".join(lines) + "\n")
     kinds = {}

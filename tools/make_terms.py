@@ -1,12 +1,12 @@
 """make_terms.py DIR: writes DIR/stdin and DIR/stdout, the cases of the program `termcases` and what it must print.
 
-A case is the settings (big-endian u32s: order, whether a cutoff stands, the mode First; then the cutoff in 8 bytes), the lengths of the six parts, and the
-parts: store, graph, tips, hidden tips, excluded ids, and the months of the terms, two a term, as u32s. Before a case stands its own length. What is expected
-comes from compare/model.py, document 02's words, and the first day of each month from Python's calendar; each hand-made case also says what it should be.
+A case is the width of ids and the settings (big-endian u32s: width, order, whether a cutoff stands, the mode First; then the cutoff in 8 bytes), the lengths of
+the six parts, and the parts: store, graph, tips, hidden tips, excluded ids, and the months of the terms, two a term, as u32s. Before a case stands its own
+length. Each is made with ids of 20 bytes and of 32 (card 13). What is expected comes from compare/model.py, document 02's words, and the first day of each
+month from Python's calendar; each hand-made case also says what it should be.
 """
 import calendar
 import os
-import random
 import struct
 import sys
 
@@ -14,11 +14,21 @@ sys.path[:0] = [os.path.dirname(__file__), os.path.join(os.path.dirname(__file__
 import generate  # noqa: E402
 import model  # noqa: E402
 import reports  # noqa: E402
-from formats import body, u32  # noqa: E402
-from generate import BREADTH, CUTOFF_NEWEST, NEWEST, OLDEST, Case, Pair  # noqa: E402
+import formats  # noqa: E402
+from formats import SHA1, SHA256, WIDTHS, hash_version, parent_line, u32  # noqa: E402
+from generate import BREADTH, CUTOFF_NEWEST, NEWEST, OLDEST, Case  # noqa: E402
 
 PLACES, COUNTS = 512, 26
 cases, lines = [], []
+width = SHA1  # of the ids of the case that is made
+
+
+def body(parents, seconds):
+    return formats.body(parents, seconds, width=width)
+
+
+def Pair(bodies, rows=None, **torn):
+    return generate.Pair(bodies, rows, width=width, **torn)
 
 
 def days():
@@ -36,7 +46,7 @@ def terms(case, months, want=None):
     assert want is None or want == (number or counts + [outside]), (want, number, counts, outside)
     order = {"breadth": 0, "newest": 1, "oldest": 2}[generate.ORDER[case.sorting]]
     parts = (case.pair.store, case.pair.graph, b"".join(case.tips), b"".join(case.hidden), b"".join(case.barred), b"".join(map(u32, months)))
-    out = struct.pack(">IIIQ", order, case.sorting >= CUTOFF_NEWEST, case.first, case.cutoff)
+    out = struct.pack(">IIIIQ", width, order, case.sorting >= CUTOFF_NEWEST, case.first, case.cutoff)
     out += b"".join(u32(len(part)) for part in parts) + b"".join(parts)
     assert len(out) <= 65536 and len(months) <= 64
     cases.append(u32(len(out)) + out)
@@ -45,7 +55,7 @@ def terms(case, months, want=None):
 
 
 def name(k):
-    return bytes([k]) * 20
+    return bytes([k]) * width
 
 
 def chain(seconds, rows=None, **settings):
@@ -130,16 +140,17 @@ def walks():
     terms(Case(Pair({name(1): b"tree"}), [name(1)], sorting=NEWEST), year, 8)
     terms(Case(Pair({}, store=b""), [name(1)]), year, 4)
     terms(Case(Pair({}, graph=b"CGPHxxxx"), []), year, 5)
-    terms(Case(Pair({}, graph=b"CGPH\1\1\4\0"), []), year, 6)
+    terms(Case(Pair({}, graph=b"CGPH\1" + bytes([hash_version(width), 4, 0])), []), year, 6)
+    terms(Case(Pair({}, graph=b"CGPH\1" + bytes([hash_version(SHA1 + SHA256 - width), 4, 0])), []), year, 5)     # of the other width
     long = chain([inside] * 200)
     assert long.walk().P > PLACES
     terms(long, year, 1)
 
 
 def generated(seed, count):
-    rng = random.Random("termcases %d" % seed)
-    for pair, drawn in reports.cases(rng, count):
-        if len(pair.store) + len(pair.graph) > 6000 or pair.files.fault is None and 8 + len(pair.store) // 48 + pair.files.count > PLACES - 200:
+    rng = generate.seeded("termcases %d" % seed, width)
+    for pair, drawn in reports.cases(rng, count, width):
+        if len(pair.store) + len(pair.graph) > 6000 or pair.files.fault is None and 8 + len(pair.store) // parent_line(width) + pair.files.count > PLACES - 200:
             continue
         for case in drawn:
             listed = reports.some_terms(rng)
@@ -150,11 +161,13 @@ def generated(seed, count):
 
 
 def main(out):
+    global width
     days()
-    months()
-    lists()
-    walks()
-    generated(1, 180)
+    for width in WIDTHS:
+        months()
+        lists()
+        walks()
+        generated(1, 180)
     open(os.path.join(out, "stdin"), "wb").write(b"".join(cases))
     open(os.path.join(out, "stdout"), "w").write("\n".join(lines) + "\n")
     kinds = {}

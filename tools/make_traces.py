@@ -1,7 +1,7 @@
 """make_traces.py DIR: writes DIR/stdin and DIR/stdout, the cases of the program `traces` and what it must print.
 
-A case is a start of 20 bytes, the moves, the length of the memo to lend, the length of the list, the list and the commit store; before it stands its own length. What is
-expected comes from document 02's words (compare/model.py, `trace`). Each case is run with a memo of 0 and 1 bytes, of half the entries and of all.
+A case is the kind of ids, a start, the moves, the length of the memo to lend, the length of the list, the list and the commit store; before it stands its own length. Each is made
+with ids of 20 bytes and of 32 (card 13). What is expected comes from document 02's words (compare/model.py, `trace`). Each case is run with a memo of 0 and 1 bytes, of half the entries and of all.
 """
 import os
 import random
@@ -12,16 +12,17 @@ import model  # noqa: E402
 from formats import *  # noqa: E402,F403
 
 cases, lines = [], []
+width = SHA1  # of the ids of the case that is made
 SAID = ("not forced", "at the start")
 
 
 def name(k):
     """An id for a number: its first byte tells it, so that ids rise with numbers."""
-    return bytes([k]) + bytes(19)
+    return bytes([k]) + bytes(width - 1)
 
 
 def commit(parents):
-    return b"tree " + b"0" * 40 + b"\n" + b"".join(b"parent %s\n" % p.hex().encode() for p in parents) + b"author A <a> 5 +0000\ncommitter A <a> 5 +0000\n"
+    return b"tree " + b"0" * (2 * width) + b"\n" + b"".join(b"parent %s\n" % p.hex().encode() for p in parents) + b"author A <a> 5 +0000\ncommitter A <a> 5 +0000\n"
 
 
 def history(links, names=name):
@@ -32,12 +33,12 @@ def history(links, names=name):
 def case(book, start, listed, moves, want=()):
     """listed: numbers, or bytes as they are. want: a refusal's number, None for not forced, True for the start, or the number of the parent in a list."""
     listed = listed if isinstance(listed, bytes) else b"".join(name(k) for k in listed)
-    result, said, number, parent = model.trace(book, start, listed, moves)
+    result, said, number, parent = model.trace(book, start, listed, moves, width)
     is_ = result if result else (None, True, [number])[said]
     assert want == () or is_ == want, (is_, want)
     entries = len(book) // 100 + 1
     for memo in (0, 1, 26 * (entries // 2) + 7, 26 * entries)[3 * (len(listed) > 1000):]:
-        body = start + u32(moves) + u32(memo) + u32(len(listed)) + listed + book
+        body = bytes([hash_version(width)]) + start + u32(moves) + u32(memo) + u32(len(listed)) + listed + book
         assert len(body) <= 65536 and memo <= 6656
         cases.append(u32(len(body)) + body)
         lines.append("refused %d" % result if result else SAID[said] if said < 2 else "%d %s" % (number, parent.hex()))
@@ -98,12 +99,13 @@ def faults():
     ok = history({1: [], 2: [1]})
     for moves in (13, 14, 4294967295):                                  # 25 before all else
         case(ok, name(2), [1], moves, 25)
-        case(b"", name(2), bytes(21), moves, 25)
-    case(b"", name(2), bytes(20500), 12, 2)                             # 2 before 3 before 4
-    case(b"", name(2), bytes(20480), 12, 4)
-    case(ok, name(2), bytes(20480), 12, None)
-    case(ok, name(2), bytes(20481), 12, 2)
-    for extra in (1, 19, 21, 39):
+        case(b"", name(2), bytes(width + 1), moves, 25)
+    most = 1024 * width
+    case(b"", name(2), bytes(most + width), 12, 2)                      # 2 before 3 before 4
+    case(b"", name(2), bytes(most), 12, 4)
+    case(ok, name(2), bytes(most), 12, None)
+    case(ok, name(2), bytes(most + 1), 12, 2)
+    for extra in (1, width - 1, width + 1, 2 * width - 1, SHA1 + SHA256 - width):  # the other width too
         case(b"", name(2), bytes(extra), 12, 3)
         case(ok, name(9), bytes(extra), 0, 3)
     for cut in (ok[:-1], ok[1:], b"", ok + b"\0"):                      # 4 before 13
@@ -119,9 +121,11 @@ def generated():
 
 
 def main(out):
-    shapes()
-    faults()
-    generated()
+    global width
+    for width in WIDTHS:
+        shapes()
+        faults()
+        generated()
     open(os.path.join(out, "stdin"), "wb").write(b"".join(cases))
     open(os.path.join(out, "stdout"), "w").write("\n".join(lines) + "\n")
     kinds = {}

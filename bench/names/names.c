@@ -57,7 +57,7 @@ static int check(digest *sha1, const uint8_t *store, size_t len) {
 
 static int library(const uint8_t *store, size_t len) {
     uint64_t numbers[LINENHATCH_CHECK_NUMBERS];
-    return (int)linenhatch_check_names(store, len, store, 0, numbers, LINENHATCH_CHECK_NUMBERS);
+    return (int)linenhatch_check_names(LINENHATCH_SHA1, store, len, store, 0, numbers, LINENHATCH_CHECK_NUMBERS);
 }
 
 struct commit {

@@ -77,14 +77,14 @@ class Library:
     def __init__(self, path, store, one, other):
         self.call = ctypes.CDLL(path).linenhatch_merge_base
         self.call.restype = ctypes.c_uint32
-        p = 2 + len(store) // 48
+        p = 2 + len(store) // formats.parent_line(formats.SHA1)
         kinds = [(ctypes.c_uint8, 20 * p), (ctypes.c_uint8, p), (ctypes.c_uint32, p), (ctypes.c_int64, p), (ctypes.c_uint32, 5 * p), (ctypes.c_uint8, 5120), (ctypes.c_uint8, 20), (ctypes.c_uint64, 1)]
         self.kept = [(ctypes.c_uint8 * len(x)).from_buffer_copy(x) for x in (store, one, other)] + [(kind * n)() for kind, n in kinds]
         self.words = [w for part in self.kept for w in (ctypes.cast(part, ctypes.c_void_p), ctypes.c_size_t(len(part)))]
 
     def run(self):
         before = time.process_time()
-        assert self.call(*self.words) == 0
+        assert self.call(ctypes.c_uint32(formats.SHA1), *self.words) == 0
         return time.process_time() - before
 
     def said(self):

@@ -13,7 +13,7 @@ use std::{
     time::Duration,
 };
 
-fn hex(id: &Id) -> String {
+fn hex(id: &[u8]) -> String {
     id.iter().map(|byte| format!("{byte:02x}")).collect()
 }
 
@@ -61,8 +61,8 @@ pub fn list(history: &History, walk: &Walk, limit: Duration) -> Option<Vec<Id>> 
     }
     assert!(status.success(), "git rev-list ends well");
     let digit = |byte: u8| (byte as char).to_digit(16).expect("a digit") as u8;
-    let lines = text.chunks_exact(41);
-    Some(lines.map(|line| std::array::from_fn(|at| digit(line[2 * at]) << 4 | digit(line[2 * at + 1]))).collect())
+    let lines = text.chunks_exact(2 * history.width() + 1);
+    Some(lines.map(|line| line.chunks_exact(2).map(|pair| digit(pair[0]) << 4 | digit(pair[1])).collect()).collect())
 }
 
 fn time(mut git: Command) -> Duration {

@@ -1,7 +1,8 @@
 //! A history of the bench and the walks over it.
 use std::{fs, path::Path};
 
-pub type Id = [u8; 20];
+/// 20 bytes, or 32 with SHA-256.
+pub type Id = Vec<u8>;
 
 pub struct History {
     pub name: String,
@@ -17,10 +18,15 @@ pub struct History {
 }
 
 fn id(hex: &str) -> Id {
-    std::array::from_fn(|at| u8::from_str_radix(&hex[2 * at..2 * at + 2], 16).expect("hexadecimal digits"))
+    (0..hex.len() / 2).map(|at| u8::from_str_radix(&hex[2 * at..2 * at + 2], 16).expect("hexadecimal digits")).collect()
 }
 
 impl History {
+    /// How many bytes an id has.
+    pub fn width(&self) -> usize {
+        self.tip.len()
+    }
+
     /// From a folder that histories.py has written.
     pub fn read(folder: &str) -> Self {
         let path = Path::new(folder);
@@ -75,7 +81,7 @@ const WALKS: [Walk; 6] = [
 
 /// The walks over a history, each without and with the graph file. First only where branches are.
 pub fn walks(history: &History) -> impl Iterator<Item = Walk> {
-    let has_branches = history.name == "real";
+    let has_branches = history.name.starts_with("real");
     let walks = WALKS.into_iter().filter(move |walk| has_branches || !walk.first);
     walks.flat_map(|walk| [Walk { graph: false, ..walk }, Walk { graph: true, ..walk }])
 }
@@ -98,7 +104,7 @@ pub struct Listed {
 
 impl Listed {
     #[inline]
-    pub fn id(&mut self, id: &Id) {
+    pub fn id(&mut self, id: &[u8]) {
         let bytes = u64::from_ne_bytes(id[..8].try_into().expect("8 bytes"));
         self.sum = (self.sum.rotate_left(5) ^ bytes).wrapping_mul(0x9e37_79b9_7f4a_7c15);
     }

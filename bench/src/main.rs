@@ -1,5 +1,6 @@
 //! bench [options] FOLDER...: times the lister, `Simple` and `git rev-list` on the histories that histories.py wrote, in one run, one after
-//! the other in each repetition, and prints the tables. First each walk is checked: the same commits from all three.
+//! the other in each repetition, and prints the tables. First each walk is checked: the same commits from all three. On histories with SHA-256 ids `Simple`
+//! is left out.
 //!
 //!     --repetitions N   at most so many for each row (7)
 //!     --seconds N       after so many a row is not repeated further, once it has three repetitions (20)
@@ -76,16 +77,17 @@ fn options() -> Options {
 
 /// The same commits from all three, or a panic: ours and Simple in every part and in order; git's as a set, and in order where git has the
 /// order. The result: how many, and whether git was stopped.
-fn check(history: &History, files: &simple::Files, walk: &Walk, limit: Duration) -> (usize, bool) {
-    let commits = files.list(history, walk);
-    if OURS {
-        let ours = ours::Memory::new(history, walk).list(history, walk);
+fn check(history: &History, files: Option<&simple::Files>, walk: &Walk, limit: Duration) -> (usize, bool) {
+    let ours = || ours::Memory::new(history, walk).list(history, walk);
+    let commits = files.map_or_else(ours, |files| files.list(history, walk));
+    if OURS && files.is_some() {
+        let ours = ours();
         assert_eq!(ours.len(), commits.len(), "ours and Simple list as many");
         for (ours, simple) in ours.iter().zip(&commits) {
             assert_eq!(ours, simple, "ours and Simple list the same");
         }
     }
-    let mut ids: Vec<_> = commits.iter().map(|commit| commit.id).collect();
+    let mut ids: Vec<_> = commits.iter().map(|commit| commit.id.clone()).collect();
     let Some(mut listed) = git::list(history, walk, limit) else {
         return (commits.len(), true);
     };
@@ -99,7 +101,7 @@ fn check(history: &History, files: &simple::Files, walk: &Walk, limit: Duration)
 }
 
 /// A row's repetitions: each has one sample of every peer, and the peers take turns at being first.
-fn measure(history: &History, files: &simple::Files, walk: &Walk, options: &Options) -> Row {
+fn measure(history: &History, files: Option<&simple::Files>, walk: &Walk, options: &Options) -> Row {
     let limit = Duration::from_secs_f64(options.git_limit);
     let (listed, stopped) = check(history, files, walk, limit);
     let mut row = Row {
@@ -145,6 +147,7 @@ fn measure(history: &History, files: &simple::Files, walk: &Walk, options: &Opti
                     }
                 }
                 1 => {
+                    let Some(files) = files else { continue };
                     let sample = files.sample(history, walk, times);
                     row.simple_opening.add(sample.opening);
                     row.simple_walking.add(sample.walking);
@@ -166,13 +169,16 @@ fn measure(history: &History, files: &simple::Files, walk: &Walk, options: &Opti
     row
 }
 
-fn spin(history: &History, files: &simple::Files, walk: &Walk, peer: &str) {
+fn spin(history: &History, files: Option<&simple::Files>, walk: &Walk, peer: &str) {
     let mut memory = ours::Memory::new(history, walk);
     let (start, mut runs) = (Instant::now(), 0);
     let (mut opening, mut walking, mut commits) = (Duration::ZERO, Duration::ZERO, 0);
     let mut least = f64::MAX;
     while start.elapsed() < Duration::from_secs(2) {
-        let sample = if peer == "ours" { memory.sample(history, walk, 1) } else { files.sample(history, walk, 1) };
+        let sample = match files {
+            Some(files) if peer != "ours" => files.sample(history, walk, 1),
+            _ => memory.sample(history, walk, 1),
+        };
         opening += sample.opening;
         walking += sample.walking;
         least = least.min(sample.walking.as_nanos() as f64 / sample.listed.commits as f64);
@@ -193,6 +199,9 @@ fn main() {
     for folder in &options.folders {
         let history = History::read(folder);
         let files = simple::Files::open(&history);
+        if files.is_none() && (!OURS || options.spin.as_ref().is_some_and(|peer| peer != "ours")) {
+            continue;
+        }
         for walk in history::walks(&history) {
             let wanted =
                 options.walk.as_ref().is_none_or(|name| name == walk.name) && options.graph.is_none_or(|graph| graph == walk.graph);
@@ -200,11 +209,11 @@ fn main() {
                 continue;
             }
             if let Some(peer) = &options.spin {
-                spin(&history, &files, &walk, peer);
+                spin(&history, files.as_ref(), &walk, peer);
                 continue;
             }
             let start = Instant::now();
-            let row = measure(&history, &files, &walk, &options);
+            let row = measure(&history, files.as_ref(), &walk, &options);
             let graph = if walk.graph { "with" } else { "without" };
             let stopped = if row.git_stopped.is_some() { "; git stopped at its limit" } else { "" };
             let seconds = start.elapsed().as_secs_f64();

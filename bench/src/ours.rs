@@ -37,9 +37,10 @@ impl<'a> Input<'a> {
         Input {
             tips: &history.tip,
             rest: ffi::Input {
+                width: history.width() as u32,
                 store: &history.store,
                 graph: if walk.graph { &history.graph } else { &[] },
-                hidden: if walk.hides { history.hidden.to_vec() } else { Vec::new() },
+                hidden: if walk.hides { history.hidden.clone() } else { Vec::new() },
                 excluded: Vec::new(),
                 sorting: match walk.sorting {
                     Sorting::Breadth => 0,
@@ -60,26 +61,26 @@ impl<'a> Input<'a> {
 
 /// How many bytes a walk is lent.
 pub fn lent_bytes(history: &History, walk: &Walk) -> usize {
-    53 * Input::new(history, walk).places() + 5_120
+    (33 + history.width()) * Input::new(history, walk).places() + 256 * history.width()
 }
 
 impl Memory {
     pub fn new(history: &History, walk: &Walk) -> Self {
-        Self::with(Input::new(history, walk).places())
+        Self::with(history.width(), Input::new(history, walk).places())
     }
 
-    fn with(places: usize) -> Self {
+    fn with(width: usize, places: usize) -> Self {
         Memory {
             lent: ffi::Memory {
-                names: vec![0; 20 * places],
+                names: vec![0; width * places],
                 marks: vec![0; places],
                 generations: vec![0; places],
                 times: vec![0; places],
                 line: vec![0; 5 * places],
-                parents: vec![0; 5_120],
+                parents: vec![0; 256 * width],
                 record: [0; ffi::RECORD],
             },
-            answer: ffi::Answer { id: [0; 20], numbers: [0; ffi::CALL_NUMBERS], seconds: [0; ffi::CALL_SECONDS] },
+            answer: ffi::Answer { id: vec![0; width], numbers: [0; ffi::CALL_NUMBERS], seconds: [0; ffi::CALL_SECONDS] },
         }
     }
 
@@ -97,9 +98,8 @@ impl Memory {
     }
 
     #[inline]
-    fn parents(&self) -> impl Iterator<Item = &Id> {
-        let ids = self.lent.parents[..20 * self.answer.numbers[PARENTS] as usize].chunks_exact(20);
-        ids.map(|id| id.try_into().expect("20 bytes"))
+    fn parents(&self) -> &[u8] {
+        &self.lent.parents[..self.answer.id.len() * self.answer.numbers[PARENTS] as usize]
     }
 
     fn walk(&mut self, input: &Input) -> Listed {
@@ -107,7 +107,11 @@ impl Memory {
         while self.next(input) {
             listed.commits += 1;
             listed.id(&self.answer.id);
-            self.parents().for_each(|id| listed.id(id));
+            // a constant each, as a caller that knows its width has it
+            match self.answer.id.len() {
+                20 => self.parents().chunks_exact(20).for_each(|id| listed.id(id)),
+                _ => self.parents().chunks_exact(32).for_each(|id| listed.id(id)),
+            }
         }
         listed
     }
@@ -119,8 +123,8 @@ impl Memory {
         let mut commits = Vec::new();
         while self.next(&input) {
             commits.push(Commit {
-                id: self.answer.id,
-                parents: self.parents().copied().collect(),
+                id: self.answer.id.clone(),
+                parents: self.parents().chunks_exact(history.width()).map(Id::from).collect(),
                 generation: (self.answer.numbers[HAS_GENERATION] == 1).then_some(self.answer.numbers[GENERATION] as u32),
                 seconds: (self.answer.numbers[HAS_TIME] == 1).then_some(self.answer.seconds[0]),
             });
@@ -149,7 +153,7 @@ impl Memory {
 pub fn sample_new_memory(history: &History, walk: &Walk) -> Duration {
     let start = clock::thread();
     let input = Input::new(history, walk);
-    let mut memory = Memory::with(input.places());
+    let mut memory = Memory::with(history.width(), input.places());
     memory.open(&input);
     std::hint::black_box(memory.walk(&input));
     drop(memory);

@@ -1,4 +1,4 @@
-//! The unaltered `Simple`.
+//! The unaltered `Simple`, of histories with SHA-1 ids: the crate as it stands here has no others.
 use crate::{
     clock,
     history::{Commit, History, Listed, Sorting, Walk},
@@ -22,6 +22,10 @@ fn all(_: &oid) -> bool {
     true
 }
 
+fn sha1(id: &[u8]) -> ObjectId {
+    ObjectId::from_bytes(id.try_into().expect("20 bytes"))
+}
+
 fn open<'a>(history: &History, store: &'a Store, graph: Option<Graph>, walk: &Walk) -> Simple<&'a Store, fn(&oid) -> bool> {
     let order = match (walk.sorting, walk.cutoff) {
         (Sorting::Breadth, _) => Order::BreadthFirst,
@@ -30,8 +34,8 @@ fn open<'a>(history: &History, store: &'a Store, graph: Option<Graph>, walk: &Wa
         (Sorting::Newest, true) => Order::ByCommitTimeCutoff { order: CommitTimeOrder::NewestFirst, seconds: history.cutoff },
         (Sorting::Oldest, true) => Order::ByCommitTimeCutoff { order: CommitTimeOrder::OldestFirst, seconds: history.cutoff },
     };
-    let hidden = walk.hides.then(|| ObjectId::from_bytes(history.hidden));
-    Simple::filtered([ObjectId::from_bytes(history.tip)], store, all as fn(&oid) -> bool)
+    let hidden = walk.hides.then(|| sha1(&history.hidden));
+    Simple::filtered([sha1(&history.tip)], store, all as fn(&oid) -> bool)
         .sorting(order)
         .expect("the tip is readable")
         .parents(if walk.first { Parents::First } else { Parents::All })
@@ -41,8 +45,9 @@ fn open<'a>(history: &History, store: &'a Store, graph: Option<Graph>, walk: &Wa
 }
 
 impl Files {
-    pub fn open(history: &History) -> Self {
-        Files { store: Store::from_bytes(history.store.clone()).expect("a good store") }
+    /// None where the ids are not of SHA-1.
+    pub fn open(history: &History) -> Option<Self> {
+        (history.width() == 20).then(|| Files { store: Store::from_bytes(history.store.clone()).expect("a good store") })
     }
 
     fn graph(history: &History, walk: &Walk) -> Option<Graph> {
@@ -54,8 +59,8 @@ impl Files {
         let commits = open(history, &self.store, Self::graph(history, walk), walk).map(|info| {
             let info = info.expect("a good history");
             Commit {
-                id: *info.id.as_bytes(),
-                parents: info.parent_ids.iter().map(|id| *id.as_bytes()).collect(),
+                id: info.id.as_bytes().to_vec(),
+                parents: info.parent_ids.iter().map(|id| id.as_bytes().to_vec()).collect(),
                 generation: info.generation,
                 seconds: info.commit_time,
             }

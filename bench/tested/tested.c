@@ -19,7 +19,9 @@ struct bytes {
 };
 
 static struct bytes store, graph, none = {(uint8_t[1]){0}, 0};
-static uint8_t tip[LINENHATCH_ID_BYTES];
+#define WIDTH LINENHATCH_SHA1
+
+static uint8_t tip[WIDTH];
 static uint32_t sorting;
 
 static size_t places;
@@ -79,38 +81,38 @@ static void *lend(size_t n, size_t size)
 
 static void lend_all(void)
 {
-    places = linenhatch_places(store.at, store.n, graph.at, graph.n, tip, sizeof tip, none.at, 0);
-    names = lend(LINENHATCH_NAMES(places), 1);
+    places = linenhatch_places(WIDTH, store.at, store.n, graph.at, graph.n, tip, sizeof tip, none.at, 0);
+    names = lend(LINENHATCH_NAMES(WIDTH, places), 1);
     marks = lend(LINENHATCH_MARKS(places), 1);
     generations = lend(LINENHATCH_GENERATIONS(places), 4);
     times = lend(LINENHATCH_TIMES(places), 8);
     line = lend(LINENHATCH_LINE(places), 4);
-    parents = lend(LINENHATCH_PARENTS, 1);
+    parents = lend(LINENHATCH_PARENTS(WIDTH), 1);
 }
 
 typedef uint32_t opening(
-    const uint8_t *, size_t, const uint8_t *, size_t, const uint8_t *, size_t, const uint8_t *, size_t, const uint8_t *, size_t,
+    uint32_t, const uint8_t *, size_t, const uint8_t *, size_t, const uint8_t *, size_t, const uint8_t *, size_t, const uint8_t *, size_t,
     uint32_t, uint32_t, int64_t, uint32_t, uint8_t *, size_t, uint8_t *, size_t, uint32_t *, size_t, int64_t *, size_t, uint32_t *, size_t,
     uint8_t *, size_t, uint64_t *, size_t, uint64_t *, size_t);
 
 static uint32_t open_by(opening *call, struct bytes g)
 {
-    return call(store.at, store.n, g.at, g.n, tip, sizeof tip, none.at, 0, none.at, 0, sorting, 0, 0, 0, names, LINENHATCH_NAMES(places), marks,
+    return call(WIDTH, store.at, store.n, g.at, g.n, tip, sizeof tip, none.at, 0, none.at, 0, sorting, 0, 0, 0, names, LINENHATCH_NAMES(WIDTH, places), marks,
                 LINENHATCH_MARKS(places), generations, LINENHATCH_GENERATIONS(places), times, LINENHATCH_TIMES(places), line,
-                LINENHATCH_LINE(places), parents, LINENHATCH_PARENTS, record, LINENHATCH_RECORD, numbers, LINENHATCH_NUMBERS);
+                LINENHATCH_LINE(places), parents, LINENHATCH_PARENTS(WIDTH), record, LINENHATCH_RECORD, numbers, LINENHATCH_NUMBERS);
 }
 
 /* Calls to the end; how many commits came, and a number in which each id and its place have a part. */
 static size_t list(struct bytes g, uint64_t *sum)
 {
-    uint8_t id[LINENHATCH_ID_BYTES];
+    uint8_t id[WIDTH];
     int64_t seconds[LINENHATCH_SECONDS];
     size_t count = 0;
     for (;;) {
         uint32_t result = linenhatch_next(
-            record, LINENHATCH_RECORD, store.at, store.n, g.at, g.n, none.at, 0, none.at, 0, sorting, 0, 0, 0, names, LINENHATCH_NAMES(places), marks,
+            WIDTH, record, LINENHATCH_RECORD, store.at, store.n, g.at, g.n, none.at, 0, none.at, 0, sorting, 0, 0, 0, names, LINENHATCH_NAMES(WIDTH, places), marks,
             LINENHATCH_MARKS(places), generations, LINENHATCH_GENERATIONS(places), times, LINENHATCH_TIMES(places), line,
-            LINENHATCH_LINE(places), parents, LINENHATCH_PARENTS, id, sizeof id, numbers, LINENHATCH_NUMBERS, seconds, LINENHATCH_SECONDS);
+            LINENHATCH_LINE(places), parents, LINENHATCH_PARENTS(WIDTH), id, sizeof id, numbers, LINENHATCH_NUMBERS, seconds, LINENHATCH_SECONDS);
         if (result != LINENHATCH_COMMIT)
             return result == LINENHATCH_END ? count : 0;
         uint64_t word;

@@ -13,6 +13,7 @@
 #include <stdlib.h>
 #include <string.h>
 
+#define WIDTH LINENHATCH_SHA1 /* of ids, in bytes */
 #define COMMITS 4
 #define STORE_ROOM 2048
 #define TREE "tree 0000000000000000000000000000000000000000\n"
@@ -29,17 +30,17 @@ static const char *const bodies[COMMITS] = {
 };
 
 /* The commits may come in any order: the writer sorts them. The result is the store's length. */
-static size_t make_store(uint8_t ids[COMMITS][LINENHATCH_ID_BYTES], uint8_t *store)
+static size_t make_store(uint8_t ids[COMMITS][WIDTH], uint8_t *store)
 {
     linenhatch_commit commits[COMMITS];
     linenhatch_store_size size;
     for (size_t k = 0; k < COMMITS; k++) {
-        memset(ids[k], 0x11 * (int)(k + 1), LINENHATCH_ID_BYTES);
+        memset(ids[k], 0x11 * (int)(k + 1), WIDTH);
         commits[k].id = ids[k];
         commits[k].body = bodies[k];
         commits[k].body_len = strlen(bodies[k]);
     }
-    uint32_t result = linenhatch_write_store(LINENHATCH_ID_BYTES, commits, COMMITS, store, STORE_ROOM, &size);
+    uint32_t result = linenhatch_write_store(WIDTH, commits, COMMITS, store, STORE_ROOM, &size);
     if (result != LINENHATCH_STORE_WRITTEN) {
         fprintf(stderr, "the store is not written: %" PRIu32 "\n", result);
         exit(1);
@@ -59,7 +60,7 @@ static void *lend(size_t n, size_t size)
 
 static void print_commit(const uint8_t *id, const uint64_t *numbers, const int64_t *seconds)
 {
-    for (size_t i = 0; i < LINENHATCH_ID_BYTES; i++)
+    for (size_t i = 0; i < WIDTH; i++)
         printf("%02x", id[i]);
     printf(" parents %" PRIu64, numbers[LINENHATCH_PARENT_IDS]);
     if (numbers[LINENHATCH_HAS_TIME])
@@ -72,32 +73,32 @@ static void print_commit(const uint8_t *id, const uint64_t *numbers, const int64
 int main(void)
 {
     static const uint8_t none[1]; /* for what there is none of: a pointer is never null */
-    uint8_t ids[COMMITS][LINENHATCH_ID_BYTES], store[STORE_ROOM];
+    uint8_t ids[COMMITS][WIDTH], store[STORE_ROOM];
     size_t store_len = make_store(ids, store);
     const uint8_t *tips = ids[COMMITS - 1];
-    size_t tips_len = LINENHATCH_ID_BYTES;
+    size_t tips_len = WIDTH;
 
-    size_t places = linenhatch_places(store, store_len, none, 0, tips, tips_len, none, 0);
-    uint8_t *names = lend(LINENHATCH_NAMES(places), sizeof *names);
+    size_t places = linenhatch_places(WIDTH, store, store_len, none, 0, tips, tips_len, none, 0);
+    uint8_t *names = lend(LINENHATCH_NAMES(WIDTH, places), sizeof *names);
     uint8_t *marks = lend(LINENHATCH_MARKS(places), sizeof *marks);
     uint32_t *generations = lend(LINENHATCH_GENERATIONS(places), sizeof *generations);
     int64_t *times = lend(LINENHATCH_TIMES(places), sizeof *times);
     uint32_t *line = lend(LINENHATCH_LINE(places), sizeof *line);
-    uint8_t *parents = lend(LINENHATCH_PARENTS, sizeof *parents);
+    uint8_t *parents = lend(LINENHATCH_PARENTS(WIDTH), sizeof *parents);
     uint64_t record[LINENHATCH_RECORD];
-    uint8_t id[LINENHATCH_ID_BYTES];
+    uint8_t id[WIDTH];
     uint64_t numbers[LINENHATCH_NUMBERS];
     int64_t seconds[LINENHATCH_SECONDS];
 
     uint32_t result = linenhatch_open(
-        store, store_len, none, 0, tips, tips_len, none, 0, none, 0,
+        WIDTH, store, store_len, none, 0, tips, tips_len, none, 0, none, 0,
         LINENHATCH_NEWEST, 0, 0, 0,
-        names, LINENHATCH_NAMES(places),
+        names, LINENHATCH_NAMES(WIDTH, places),
         marks, LINENHATCH_MARKS(places),
         generations, LINENHATCH_GENERATIONS(places),
         times, LINENHATCH_TIMES(places),
         line, LINENHATCH_LINE(places),
-        parents, LINENHATCH_PARENTS,
+        parents, LINENHATCH_PARENTS(WIDTH),
         record, LINENHATCH_RECORD,
         numbers, LINENHATCH_NUMBERS);
     if (result != LINENHATCH_ACCEPTED) {
@@ -108,16 +109,16 @@ int main(void)
     /* The same files, lists, settings and memory for every call, and nobody writes to the memory in between. */
     do {
         result = linenhatch_next(
-            record, LINENHATCH_RECORD,
+            WIDTH, record, LINENHATCH_RECORD,
             store, store_len, none, 0, none, 0, none, 0,
             LINENHATCH_NEWEST, 0, 0, 0,
-            names, LINENHATCH_NAMES(places),
+            names, LINENHATCH_NAMES(WIDTH, places),
             marks, LINENHATCH_MARKS(places),
             generations, LINENHATCH_GENERATIONS(places),
             times, LINENHATCH_TIMES(places),
             line, LINENHATCH_LINE(places),
-            parents, LINENHATCH_PARENTS,
-            id, LINENHATCH_ID_BYTES,
+            parents, LINENHATCH_PARENTS(WIDTH),
+            id, WIDTH,
             numbers, LINENHATCH_NUMBERS,
             seconds, LINENHATCH_SECONDS);
         if (result == LINENHATCH_COMMIT)

@@ -6,6 +6,10 @@
  * Every lent buffer is a pointer and a number of elements (not of bytes). A pointer is never null, also where the number is 0, and is
  * aligned for its type; no two buffers of one call overlap, but for those that are const. Nothing is kept between calls but what stands
  * in the caller's own buffers, and nothing is allocated. Nothing is asked of the contents: every function is safe on any bytes.
+ *
+ * width, the first parameter of every function, is how many bytes an id has: 32 for SHA-256, any other number for SHA-1 with 20. Ids, lists,
+ * the entries of the store, the rows of the graph file, the digests and the buffers follow it. A file of the other width is refused: a store
+ * with 4, a graph file with 5.
  */
 #ifndef LINENHATCH_H
 #define LINENHATCH_H
@@ -19,6 +23,10 @@ extern "C" {
 
 /* ---- settings, as numbers */
 
+/* The width of ids. Any other number is SHA-1. */
+#define LINENHATCH_SHA1 20u
+#define LINENHATCH_SHA256 32u
+
 /* The order of a walk. Any other number is breadth order. */
 #define LINENHATCH_BREADTH 0u
 #define LINENHATCH_NEWEST 1u
@@ -30,14 +38,15 @@ extern "C" {
 
 /* ---- sizes of the buffers, in elements; places is what linenhatch_places gives */
 
-#define LINENHATCH_ID_BYTES 20u
-#define LINENHATCH_NAMES(places) (LINENHATCH_ID_BYTES * (size_t)(places)) /* uint8_t */
+#define LINENHATCH_ID_BYTES(width) ((width) == LINENHATCH_SHA256 ? LINENHATCH_SHA256 : LINENHATCH_SHA1)
+#define LINENHATCH_MAX_ID_BYTES 32u                                       /* of either width */
+#define LINENHATCH_NAMES(width, places) (LINENHATCH_ID_BYTES(width) * (size_t)(places)) /* uint8_t */
 #define LINENHATCH_MARKS(places) ((size_t)(places))                       /* uint8_t */
 #define LINENHATCH_GENERATIONS(places) ((size_t)(places))                 /* uint32_t */
 #define LINENHATCH_TIMES(places) ((size_t)(places))                       /* int64_t */
 #define LINENHATCH_LINE(places) (5u * (size_t)(places))                   /* uint32_t */
-#define LINENHATCH_PARENTS 5120u                                          /* uint8_t: 256 ids */
-#define LINENHATCH_RECORD 19u                                             /* uint64_t */
+#define LINENHATCH_PARENTS(width) (256u * LINENHATCH_ID_BYTES(width))      /* uint8_t: 256 ids */
+#define LINENHATCH_RECORD 20u                                             /* uint64_t */
 #define LINENHATCH_OPEN_NUMBERS 3u                                        /* uint64_t, of an opening */
 #define LINENHATCH_NUMBERS 8u                                             /* uint64_t, of a call */
 #define LINENHATCH_SECONDS 2u                                             /* int64_t */
@@ -101,10 +110,10 @@ extern "C" {
 
 /* of an opening */
 #define LINENHATCH_BUFFER_TOO_SMALL 1u /* a buffer of names to parents is below its size */
-#define LINENHATCH_INPUT_TOO_LARGE 2u  /* store or graph over 16,777,216 bytes, or a list over 20,480 bytes */
+#define LINENHATCH_INPUT_TOO_LARGE 2u  /* store or graph over 16,777,216 bytes, or a list over 1,024 ids */
 #define LINENHATCH_PARTIAL_ID 3u       /* a list is not of whole ids */
 #define LINENHATCH_CORRUPT_STORE 4u    /* the layout of the commit store is broken */
-#define LINENHATCH_UNKNOWN_GRAPH 5u    /* the first 8 bytes of the graph file are other ones */
+#define LINENHATCH_UNKNOWN_GRAPH 5u    /* the first 8 bytes of the graph file are other ones, also those of the other width */
 #define LINENHATCH_CORRUPT_GRAPH 6u    /* the rest of its layout is broken */
 #define LINENHATCH_TIP_NOT_FOUND 7u    /* by time, a tip is not in the store */
 #define LINENHATCH_TIP_UNREADABLE 8u   /* by time, a tip's header cannot be read through its committer line */
@@ -142,9 +151,10 @@ extern "C" {
 /* of a trace */
 #define LINENHATCH_TOO_MANY_MOVES 25u /* over 12 moves */
 
-/* How many places a walk over these files and lists needs. It depends on no setting and on no excluded id, and is given for any bytes,
+/* How many places a walk over these files and lists needs. It depends on the width, on no other setting and on no excluded id, and is given for any bytes,
  * also for files that an opening would refuse. */
 size_t linenhatch_places(
+    uint32_t width,
     const uint8_t *store, size_t store_len,
     const uint8_t *graph, size_t graph_len,
     const uint8_t *tips, size_t tips_len,
@@ -152,7 +162,7 @@ size_t linenhatch_places(
 
 /* Opens a walk: 0 where it is accepted, else the number of the first refusal in the order 2 to 6, 1, 7, 8.
  *
- * store: the commit store. graph: git's commit-graph file, of length 0 where there is none. tips, hidden, excluded: ids of 20 bytes end to
+ * store: the commit store. graph: git's commit-graph file, of length 0 where there is none. tips, hidden, excluded: ids end to
  * end. sorting: see above. has_cutoff: 0 for no cutoff, any other number for one; breadth order has none. cutoff: the commits older than
  * these seconds are left out. first: 0 to follow all parents, any other number to follow first parents alone.
  *
@@ -160,6 +170,7 @@ size_t linenhatch_places(
  * after a refusal the record is the closed one (zeros), and the numbers are zeros. Where record or numbers is itself too short the result is
  * 101, before all other tests, and nothing at all is altered. */
 uint32_t linenhatch_open(
+    uint32_t width,
     const uint8_t *store, size_t store_len,
     const uint8_t *graph, size_t graph_len,
     const uint8_t *tips, size_t tips_len,
@@ -189,6 +200,7 @@ uint32_t linenhatch_open(
  * to parents is altered; with 13 to 15 parents is as it was, and what the others hold is not said. record, numbers and 101 are as of
  * linenhatch_open. It takes time in proportion to the links that are tested. */
 uint32_t linenhatch_open_tested(
+    uint32_t width,
     const uint8_t *store, size_t store_len,
     const uint8_t *graph, size_t graph_len,
     const uint8_t *tips, size_t tips_len,
@@ -206,7 +218,7 @@ uint32_t linenhatch_open_tested(
 
 /* One call of an opened walk: 0 where a commit is handed out, 100 at the end, else the number of a refusal.
  *
- * record: as the opening or the call before left it; the call sets down the one for the next call. store to first, but for the tips: as
+ * record: as the opening or the call before left it; the call sets down the one for the next call. width, and store to first, but for the tips: as
  * lent to the opening. names to line: as the opening or the call before left them, of the same lengths. generations and parents: of the same
  * lengths. Then the answers are those of the walk, one after another: no commit is handed out twice, call places + 2 at latest says end,
  * and after an end comes the end again. With anything else a call gives some result of these, and is safe.
@@ -222,6 +234,7 @@ uint32_t linenhatch_open_tested(
  * 12 alters neither the record nor the memory. Where record, id, numbers or seconds is itself too short the result is 101, no call is
  * made and nothing at all is altered. */
 uint32_t linenhatch_next(
+    uint32_t width,
     uint64_t *record, size_t record_len,
     const uint8_t *store, size_t store_len,
     const uint8_t *graph, size_t graph_len,
@@ -238,20 +251,21 @@ uint32_t linenhatch_next(
     uint64_t *numbers, size_t numbers_len,
     int64_t *seconds, size_t seconds_len);
 
-/* Checks names: 0 where each commit of the store is under the id that git makes of its body (the SHA-1 of `commit `, the body's length in
- * decimal, a zero byte and the body), and the graph file, if one is lent, ends in the SHA-1 of the rest; else the number of the first refusal
+/* Checks names: 0 where each commit of the store is under the id that git makes of its body (the digest of `commit `, the body's length in
+ * decimal, a zero byte and the body), and the graph file, if one is lent, ends in the digest of the rest; else the number of the first refusal
  * in the order 2, 4, 5, 6, 16, 17. A body need not be readable as a commit.
  *
  * numbers: after 16 the number of the first entry at fault, else 0. Where it has no room for that the result is 101, before all other tests,
  * and nothing is altered. */
 uint32_t linenhatch_check_names(
+    uint32_t width,
     const uint8_t *store, size_t store_len,
     const uint8_t *graph, size_t graph_len,
     uint64_t *numbers, size_t numbers_len);
 
 /* Where two series part (git's merge-base): 0 where it is said, else the number of the first refusal in the order 2, 4, 1, 13, 23.
  *
- * one, other: a tip each, of which the first 20 bytes count. A commit is common where it is reachable from both over the store's parents; a
+ * one, other: a tip each, of which the first bytes count, as many as an id has. A commit is common where it is reachable from both over the store's parents; a
  * tip is reachable from itself. A common commit is best where it is not reachable from another. Of the best ones the first is given: that with
  * the greatest committer seconds in the store, among equals that with the smallest id. So it is the same with the tips exchanged, and clocks
  * decide nothing else. numbers says 1 and id holds the commit; or 0 and zeros, exactly where no commit is common.
@@ -260,10 +274,11 @@ uint32_t linenhatch_check_names(
  * parents). 23: commits are common and none is best, which needs parents that run in a circle. After a refusal numbers says 0 and id zeros.
  *
  * names to parents are memory of the lengths above, with places = linenhatch_places of the store, no graph, the two tips end to end and nothing
- * hidden: 2 and a 48th of the store's length, rounded down. times and parents are not read or written: their lengths are tested. After
- * 2, 4 and 1 not a byte of it is altered; after all else what it holds is not said. Where one or other has under 20 bytes, or id or numbers is
+ * hidden: 2 and a 48th of the store's length, a 72nd with SHA-256, rounded down. times and parents are not read or written: their lengths are tested. After
+ * 2, 4 and 1 not a byte of it is altered; after all else what it holds is not said. Where one or other is shorter than an id, or id or numbers is
  * itself too short, the result is 101, before all other tests, and nothing at all is altered. It takes time in proportion to the links. */
 uint32_t linenhatch_merge_base(
+    uint32_t width,
     const uint8_t *store, size_t store_len,
     const uint8_t *one, size_t one_len,
     const uint8_t *other, size_t other_len,
@@ -278,7 +293,7 @@ uint32_t linenhatch_merge_base(
 
 /* How long the commit-graph file of a store is: 0 where it is said, else the number of the first refusal in the order 2, 4, 1, 18, 19.
  *
- * width: of the ids that the store has, 32 for SHA-256, any other number for SHA-1 with 20 bytes. numbers: the file's bytes, 0 after a refusal.
+ * numbers: the file's bytes, 0 after a refusal.
  * generations: one for each entry of the store, as many as its last four bytes say; 1: they are fewer. After 2, 4 and 1 they are as they were,
  * after all else what they hold is not said. 18: an entry of the store is not readable (a header line is bad, or it has over 256 parents), a
  * parent is not in the store, or parents run in a circle (a commit that is its own parent too). 19: the seconds of an entry are outside 0 to
@@ -289,7 +304,7 @@ uint32_t linenhatch_graph_length(
     uint32_t *generations, size_t generations_len,
     uint64_t *numbers, size_t numbers_len);
 
-/* Writes the commit-graph file of a store, git's version 1 with the chunks OIDF, OIDL, CDAT and, where a commit has over two parents, EDGE: 0 where it
+/* Writes the commit-graph file of a store, git's version 1 (hash version 2 with SHA-256) with the chunks OIDF, OIDL, CDAT and, where a commit has over two parents, EDGE: 0 where it
  * stands at the start of output, else the number of the first refusal in the order 2, 4, 1, 18, 19, 20.
  *
  * What is lent is that of linenhatch_graph_length, and output: of at least the length that it gives. 20: it is shorter. No byte of output past the
@@ -318,6 +333,7 @@ uint32_t linenhatch_write_graph(
  * after a refusal; where one of them is too short the result is 101, before all other tests, and nothing is altered. names to parents are working memory, of the
  * sizes that an opening asks for: after 1 to 8 not a byte there is altered, else what they hold is free. */
 uint32_t linenhatch_feed(
+    uint32_t width,
     const uint8_t *store, size_t store_len,
     const uint8_t *graph, size_t graph_len,
     const uint8_t *tips, size_t tips_len,
@@ -338,7 +354,7 @@ uint32_t linenhatch_feed(
 /* Tracing by turns: 0 where it is said, else the number of the first refusal in the order 25, 2, 3, 4, 13.
  *
  * Two benches trace back from a commit by turns, each choosing a parent, the cone bench first, moves times at most. The cone gets its way if the trace
- * reaches a commit of the list; a commit without parents off the list is none. start: of which the first 20 bytes count. list: the calibrations, as
+ * reaches a commit of the list; a commit without parents off the list is none. start: of which the first bytes count, as many as an id has. list: the calibrations, as
  * the lists of an opening. numbers says 1 where the start is on the list; 2 where the cone can force it however the bed chooses, and then
  * the number of the first parent by which it does, whose id stands in id; else 0. id is zeros but after 2.
  *
@@ -347,9 +363,10 @@ uint32_t linenhatch_feed(
  *
  * memo: memory of any length, also 0, in which what was found is remembered. The answer is the same whatever its length; with 26 bytes for each entry of the
  * store it takes time in proportion to the links, with none it may take 256 to the power of moves. After 25 and 2 to 4 it is as it was, after all else
- * what it holds is not said. Where start has under 20 bytes, or id or numbers is too short, the result is 101, before all other tests, and nothing at all is
+ * what it holds is not said. Where start is shorter than an id, or id or numbers is too short, the result is 101, before all other tests, and nothing at all is
  * altered. */
 uint32_t linenhatch_trace(
+    uint32_t width,
     const uint8_t *store, size_t store_len,
     const uint8_t *start, size_t start_len,
     const uint8_t *list, size_t list_len,
@@ -369,6 +386,7 @@ uint32_t linenhatch_trace(
  * each two months, or numbers is too short, the result is 101, before all other tests, and nothing is altered. names to parents are working memory: after 24
  * and 1 to 8 not a byte there is altered, else what they hold is free. */
 uint32_t linenhatch_terms(
+    uint32_t width,
     const uint8_t *store, size_t store_len,
     const uint8_t *graph, size_t graph_len,
     const uint8_t *tips, size_t tips_len,

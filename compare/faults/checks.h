@@ -21,6 +21,7 @@ struct base {
 struct walk {
     bool untouched;  /* the memory, the record, the files, the lists and the settings are the walk's own */
     bool foreign;    /* something else was lent to this call alone */
+    bool other_width; /* this call alone is told the other width than the opening was */
     bool tested;     /* the opening was a tested one */
     size_t places, turn, handed;
     uint64_t used;   /* commits handed out or refused */
@@ -32,7 +33,7 @@ static size_t base_count;
 static bool referenced;  /* the inputs and the settings are those of the base */
 static bool reference;   /* the base's own walk is being taken down */
 static struct walk walk;
-static uint8_t handed_out[MOST_TURNS][ID];
+static uint8_t handed_out[MOST_TURNS][MOST_ID];
 static uint64_t taken_down[MOST_TURNS];
 
 static const uint64_t *words(unsigned k)
@@ -142,7 +143,7 @@ static size_t needed(unsigned k, size_t places)
     switch (k) {
     case NAMES: return ID * places;
     case LINE: return 5 * places;
-    case PARENTS: return LINENHATCH_PARENTS;
+    case PARENTS: return LINENHATCH_PARENTS(width);
     default: return places;
     }
 }
@@ -179,7 +180,7 @@ static void check_places(uint32_t result)
     bool good = result == 0 || result == 1 || result == 7 || result == 8 || of_the_reach(result);
     if (input[GRAPH].n && !good)
         return;
-    size_t asked = input[TIPS].n / ID + input[HIDDEN].n / ID + input[STORE].n / 48 + graph_count();
+    size_t asked = input[TIPS].n / ID + input[HIDDEN].n / ID + input[STORE].n / PARENT_LINE + graph_count();
     if (places_given != asked)
         fail("%zu places for %zu", places_given, asked);
 }
@@ -243,6 +244,8 @@ static void check_accepted_opening(void)
     check_same(PARENTS, 0, "by an opening");
     if (words(RECORD)[0] != 1)
         fail("the record of an accepted opening is closed");
+    if (words(RECORD)[LINENHATCH_RECORD - 1] != (ID == LINENHATCH_SHA256 ? ID : 0))
+        fail("the record of an opening has another width");
     if (n[LINENHATCH_STRUCK] || n[LINENHATCH_ADMITTED] != n[LINENHATCH_WAITING])
         fail("the numbers of an opening do not add up");
 }
@@ -311,7 +314,7 @@ static void check_answer(uint32_t result)
         fail("a generation, time or zone beside a refusal or an end");
 }
 
-/* A record that is given back holds six yes or no, and a number of 32 bits in its tenth word. */
+/* A record that is given back holds six yes or no, a number of 32 bits in its tenth word, and a width in its last. */
 static void check_words(void)
 {
     for (unsigned k = 0; k < 6; k++)
@@ -319,6 +322,9 @@ static void check_words(void)
             fail("word %u of the record is neither yes nor no", k);
     if (words(RECORD)[9] >> 32)
         fail("word 9 of the record is over 32 bits");
+    uint64_t wide = words(RECORD)[LINENHATCH_RECORD - 1];
+    if (wide && wide != LINENHATCH_SHA256)
+        fail("the last word of the record is no kind's");
 }
 
 static void check_closed(void)
@@ -336,9 +342,19 @@ static bool no_room(void)
            lent[SECONDS].count < LINENHATCH_SECONDS;
 }
 
+static bool known_next(uint32_t result)
+{
+    return result == 0 || result == END || (result >= 9 && result <= 12);
+}
+
 static void check_next(uint32_t result)
 {
     check_around();
+    if (walk.other_width) { /* a walk of one width, a call of the other: safe, and some result */
+        if (!known_next(result) && result != NO_ROOM)
+            fail("a call with the other width gives %" PRIu32, result);
+        return;
+    }
     if (no_room()) {
         if (result != NO_ROOM)
             fail("a call without room gives %" PRIu32, result);
@@ -346,7 +362,7 @@ static void check_next(uint32_t result)
             check_same(k, 0, "where there is no room");
         return;
     }
-    if (result != 0 && result != END && (result < 9 || result > 12))
+    if (!known_next(result))
         fail("a call gives %" PRIu32, result);
     check_same(RECORD, 8 * LINENHATCH_RECORD, "past its words");
     check_same(IDENT, ID, "past the id");

@@ -35,7 +35,7 @@ static uint32_t call_counting(void)
 {
     const struct lent *b = lent;
     return spoiled_counting(linenhatch_terms(
-        input[STORE].at, input[STORE].n, input[GRAPH].at, input[GRAPH].n, input[TIPS].at, input[TIPS].n, input[HIDDEN].at, input[HIDDEN].n,
+        width, input[STORE].at, input[STORE].n, input[GRAPH].at, input[GRAPH].n, input[TIPS].at, input[TIPS].n, input[HIDDEN].at, input[HIDDEN].n,
         input[EXCLUDED].at, input[EXCLUDED].n, settings.sorting, settings.limited, settings.cutoff, settings.first,
         (const uint32_t *)b[SECONDS].at, months_n,
         b[NAMES].at, b[NAMES].count, b[MARKS].at, b[MARKS].count, (uint32_t *)b[GENERATIONS].at, b[GENERATIONS].count,

@@ -72,7 +72,7 @@ static void choose_base(void)
 /* As many elements as asked for this many places, and some more. */
 static void size_lent(size_t places, size_t more)
 {
-    static const size_t other[LENT] = {[RECORD] = LINENHATCH_RECORD, [IDENT] = ID, [NUMBERS] = LINENHATCH_NUMBERS, [SECONDS] = LINENHATCH_SECONDS};
+    const size_t other[LENT] = {[RECORD] = LINENHATCH_RECORD, [IDENT] = ID, [NUMBERS] = LINENHATCH_NUMBERS, [SECONDS] = LINENHATCH_SECONDS};
     if (places > MOST_PLACES)
         places = MOST_PLACES;
     for (unsigned k = 0; k < LENT; k++) {
@@ -168,9 +168,9 @@ static size_t number_in_store(void)
 {
     size_t n = work_n[STORE];
     uint64_t start = be32(work[STORE] + n - 8), count = be32(work[STORE] + n - 4);
-    if (chance(40) || !count || start + 24 * count + 8 != n)
+    if (chance(40) || !count || start + ENTRY * count + 8 != n)
         return n - 4 * (1 + below(2));
-    return start + 24 * below(count) + 20;
+    return start + ENTRY * below(count) + ID;
 }
 
 /* In the chunk table, and in OIDF, CDAT (parents, generation and seconds) and EDGE. */
@@ -185,7 +185,7 @@ static size_t number_in_graph(void)
     if (from >= to || to + 4 > n || chance(10))
         return 4;
     if (!memcmp(g + row, "CDAT", 4))
-        return from + 36 * below((to - from) / 36) + 20 + 4 * below(4);
+        return from + ROW * below((to - from) / ROW) + ID + 4 * below(4);
     return from + 4 * below((to - from) / 4);
 }
 
@@ -222,10 +222,10 @@ static uint32_t odd_number(uint32_t old, size_t n)
     case 8: return 0x70000000u;
     case 9: return 0x80000000u | (uint32_t)below(20);
     case 10: return old ^ 1u << below(32);
-    case 11: return UINT32_MAX / 24 + (uint32_t)below(3);
+    case 11: return UINT32_MAX / (uint32_t)ENTRY + (uint32_t)below(3);
     case 12: return (uint32_t)below(64);
     case 13: return (uint32_t)(n - below(64));
-    case 14: return old + 24 * ((uint32_t)below(5) - 2);
+    case 14: return old + (uint32_t)ENTRY * ((uint32_t)below(5) - 2);
     default: return (uint32_t)draw();
     }
 }
@@ -294,8 +294,8 @@ static void some_id(uint8_t *out)
     const uint8_t *s = base->part[STORE];
     size_t n = base->n[STORE];
     uint64_t start = n < 8 ? 0 : be32(s + n - 8), count = n < 8 ? 0 : be32(s + n - 4);
-    if (chance(90) && count && start + 24 * count + 8 == n)
-        memcpy(out, s + start + 24 * below(count), ID);
+    if (chance(90) && count && start + ENTRY * count + 8 == n)
+        memcpy(out, s + start + ENTRY * below(count), ID);
     else if (chance(80) && base->n[TIPS] >= ID)
         memcpy(out, base->part[TIPS] + ID * below(base->n[TIPS] / ID), ID);
     else
@@ -315,9 +315,9 @@ static void other_list(unsigned k, size_t ids)
 
 static void ragged_list(unsigned k)
 {
-    size_t n = work_n[k] + 1 + below(19);
+    size_t n = work_n[k] + 1 + below(ID - 1);
     fill_random(work[k] + work_n[k], n - work_n[k]);
-    work_n[k] = chance(50) && work_n[k] ? work_n[k] - 1 - below(work_n[k] < 19 ? work_n[k] : 19) : n;
+    work_n[k] = chance(50) && work_n[k] ? work_n[k] - 1 - below(work_n[k] < ID - 1 ? work_n[k] : ID - 1) : n;
 }
 
 static void damage_list(unsigned k)

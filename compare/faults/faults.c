@@ -5,6 +5,7 @@
  * that an access outside a buffer and a write to a file are signals. Each case is drawn from the seed and its number alone.
  *
  *     --seed N      other cases
+ *     --width N     the ids of the base cases have 32 bytes, or with any other number 20
  *     --calls N     at least so many openings and next calls (5,000,000)
  *     --only N      the case with this number alone, each call printed
  *     --plain       every buffer from malloc, anew for each call, so that valgrind sees its ends
@@ -116,7 +117,7 @@ static void files_exchanged(void)
 /* A file of n bytes, about 16 MiB: the base's file with zeros put in before its entries or its checksum, so that its layout may hold. */
 static void lend_huge(unsigned k, size_t n)
 {
-    size_t old = work_n[k], tail = k == STORE ? 24 * (size_t)be32(work[STORE] + old - 4) + 8 : 20, more = n - old;
+    size_t old = work_n[k], tail = k == STORE ? ENTRY * (size_t)be32(work[STORE] + old - 4) + 8 : ID, more = n - old;
     size_t start = chance(50) ? huge.size - n : 0;
     uint8_t *at = huge.back + start;
     memset(huge.back, 0, huge.size);
@@ -139,7 +140,7 @@ static void lend_huge(unsigned k, size_t n)
 static bool whole_store(void)
 {
     size_t n = work_n[STORE];
-    return n >= 8 && (uint64_t)be32(work[STORE] + n - 8) + 24 * (uint64_t)be32(work[STORE] + n - 4) + 8 == n;
+    return n >= 8 && (uint64_t)be32(work[STORE] + n - 8) + ENTRY * (uint64_t)be32(work[STORE] + n - 4) + 8 == n;
 }
 
 static void files_huge(void)
@@ -214,6 +215,17 @@ static void opening_without_room(void)
         go_on(NULL, FEW_CALLS);
 }
 
+/* The base's files and lists, with the other width; or with a number that is neither, which is SHA-1. */
+static void opening_of_the_other_width(void)
+{
+    static const uint32_t odd[] = {0, 1, 19, 21, 31, 33, 64, 0x14000000u, 0x20000000u, UINT32_MAX};
+    load_base();
+    width = chance(70) ? (base_width == LINENHATCH_SHA256 ? LINENHATCH_SHA1 : LINENHATCH_SHA256) : odd[below(10)];
+    referenced = LINENHATCH_ID_BYTES(width) == LINENHATCH_ID_BYTES(base_width);
+    if (begin(chance(50) ? 0 : 40) != ANY)
+        go_on(NULL, FEW_CALLS);
+}
+
 /* ---- what comes between the calls of a walk */
 
 static uint64_t *record(void)
@@ -245,6 +257,18 @@ static void call_with_lengths(unsigned from, unsigned to)
         lent[k].count = kept[k];
 }
 
+/* A call that is told the other width than the opening was. */
+static void call_with_width(void)
+{
+    bool foreign = walk.foreign;
+    width = LINENHATCH_ID_BYTES(width) == LINENHATCH_SHA256 ? LINENHATCH_SHA1 : LINENHATCH_SHA256;
+    walk.foreign = walk.other_width = true;
+    next();
+    walk.foreign = foreign;
+    walk.other_width = false;
+    width = base_width;
+}
+
 static void short_memory(void) { call_with_lengths(NAMES, MEMORY); }
 static void short_answer(void) { call_with_lengths(RECORD, LENT); }
 
@@ -262,7 +286,7 @@ static void call_with_record(const uint64_t *other)
         memcpy(record(), kept, sizeof kept);
 }
 
-/* A word for a record: small, near the number of places, near what stands there, or such that a product of it with 5 or 20 runs over. */
+/* A word for a record: small, near the number of places, near what stands there, or such that a product of it with 5 or an id's bytes runs over. */
 static uint64_t odd_word(uint64_t old)
 {
     switch (below(14)) {
@@ -275,7 +299,7 @@ static uint64_t odd_word(uint64_t old)
     case 6: return walk.places + below(5) - 2;
     case 7: return below(walk.places + 1);
     case 8: return UINT64_C(1) << below(64);
-    case 9: return UINT64_MAX / (chance(50) ? 5 : 20) + below(3);
+    case 9: return UINT64_MAX / (chance(50) ? 5 : ID) + below(3);
     case 10: return (UINT64_C(1) << 32) - 2 + below(4);
     case 11: return old ^ UINT64_C(1) << below(64);
     case 12: return 5 * walk.places + below(5) - 2;
@@ -301,6 +325,8 @@ static void random_words(void)
         other[0] = 1;
     if (chance(60))
         other[6] = chance(50) ? walk.places : below(walk.places + 1);
+    if (chance(80))
+        other[LINENHATCH_RECORD - 1] = record()[LINENHATCH_RECORD - 1];
     call_with_record(other);
 }
 
@@ -495,6 +521,7 @@ static void disturbed(void (*disturb)(void), size_t more)
 static void refilled(void) { disturbed(refill, chance(50) ? 0 : 40); }
 static void next_short(void) { disturbed(short_memory, 0); }
 static void next_without_room(void) { disturbed(short_answer, 0); }
+static void next_other_width(void) { disturbed(call_with_width, chance(50) ? 0 : 40); }
 static void record_word(void) { disturbed(one_word, chance(50) ? 0 : 300); }
 static void record_random(void) { disturbed(random_words, chance(50) ? 0 : 300); }
 static void record_earlier(void) { disturbed(earlier, 0); }
@@ -536,6 +563,7 @@ static void make_up(void)
     r[9] = below(cap + 2);
     r[10] = r[8] + below(cap + 1);
     r[11] = below(r[10] + 1);
+    r[LINENHATCH_RECORD - 1] = chance(90) ? ID : odd_word(ID);
     if (chance(20))
         r[6 + below(6)] = odd_word(cap);
 }
@@ -580,6 +608,7 @@ static void all_random(void)
             record()[k] = k < 6 ? below(2) : odd_word(places);
         record()[0] = chance(90);
         record()[6] = chance(80) ? places : odd_word(places);
+        record()[LINENHATCH_RECORD - 1] = chance(80) ? ID : odd_word(places);
     }
     go_on(NULL, 8);
 }
@@ -588,7 +617,7 @@ static void anything(void)
 {
     static void (*const all[])(void) = {
         refill, short_memory, short_answer, one_word, random_words, earlier, closed_record, put_back, touch_names, touch_marks,
-        touch_times, touch_line, touch_all, other_store, other_graph, other_lists, other_settings, other_base};
+        touch_times, touch_line, touch_all, call_with_width, other_store, other_graph, other_lists, other_settings, other_base};
     all[below(sizeof all / sizeof *all)]();
 }
 
@@ -630,6 +659,8 @@ static const struct {
     {"files of about 16 MiB", files_huge, 1},
     {"opening: short memory", opening_short, 6},
     {"opening: no room for the answer", opening_without_room, 6},
+    {"opening: the other width", opening_of_the_other_width, 6},
+    {"call: the other width", next_other_width, 6},
     {"call: short memory", next_short, 6},
     {"call: no room for the answer", next_without_room, 6},
     {"record: one word altered", record_word, 10},
@@ -673,6 +704,7 @@ static void start_case(uint64_t number)
     rng = seed * 0xD1342543DE82EF95u + number;
     draw();
     referenced = reference = tested = false;
+    width = base_width;
     walk = (struct walk){0};
 }
 
@@ -809,6 +841,8 @@ static bool option(const char *name, uint64_t value)
         calls = value;
     else if (!strcmp(name, "--only"))
         single = true, single_case = value;
+    else if (!strcmp(name, "--width"))
+        base_width = (uint32_t)value;
     else if (!strcmp(name, "--watchdog"))
         patience = (unsigned)value;
 #ifdef FAULTY
@@ -864,7 +898,7 @@ int main(int count, char **given)
 {
     const char *path = options(count, given);
     if (!path) {
-        fprintf(stderr, "faults CASES [--seed N] [--calls N] [--only N] [--plain] [--blank] [--watchdog N]\n");
+        fprintf(stderr, "faults CASES [--seed N] [--width N] [--calls N] [--only N] [--plain] [--blank] [--watchdog N]\n");
         return 2;
     }
     setvbuf(stdout, NULL, _IOLBF, 0);

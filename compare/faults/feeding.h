@@ -33,7 +33,7 @@ static uint32_t call_feeding(void)
 {
     const struct lent *b = lent;
     return spoiled_feeding(linenhatch_feed(
-        input[STORE].at, input[STORE].n, input[GRAPH].at, input[GRAPH].n, input[TIPS].at, input[TIPS].n, input[HIDDEN].at, input[HIDDEN].n,
+        width, input[STORE].at, input[STORE].n, input[GRAPH].at, input[GRAPH].n, input[TIPS].at, input[TIPS].n, input[HIDDEN].at, input[HIDDEN].n,
         input[EXCLUDED].at, input[EXCLUDED].n, settings.sorting, settings.limited, settings.cutoff, settings.first,
         input[embargoed].at, embargoed_n, outside, b[NAMES].at, b[NAMES].count, b[MARKS].at, b[MARKS].count, (uint32_t *)b[GENERATIONS].at, b[GENERATIONS].count,
         (int64_t *)b[TIMES].at, b[TIMES].count, (uint32_t *)b[LINE].at, b[LINE].count, b[PARENTS].at, b[PARENTS].count,
@@ -78,7 +78,7 @@ static void check_feeding(uint32_t result)
         known |= result == feeding_result[k];
     if (!known)
         fail("a feed report gives %" PRIu32, result);
-    if (embargoed_n % LINENHATCH_ID_BYTES && result != 2 && result != 3)
+    if (embargoed_n % ID && result != 2 && result != 3)
         fail("a feed report with a ragged list of embargoed ids gives %" PRIu32, result);
     for (unsigned k = 0; k < MEMORY && result >= 1 && result <= 8; k++)
         check_same(k, 0, "by a feed report that is refused before the walk");
@@ -119,9 +119,9 @@ static void fed(void)
     if (!ask_places())
         return;
     embargoed = (unsigned)below(INPUTS);
-    embargoed_n = chance(20) ? input[embargoed].n : input[embargoed].n / 20 * 20;
-    if (embargoed_n > 20480 && chance(90))
-        embargoed_n = 20480;
+    embargoed_n = chance(20) ? input[embargoed].n : input[embargoed].n / ID * ID;
+    if (embargoed_n > MOST_LIST && chance(90))
+        embargoed_n = MOST_LIST;
     outside = chance(50) ? 0 : chance(50) ? 1 : (uint32_t)draw();
     size_lent(places_given, chance(50) ? 0 : 40);
     if (chance(15))

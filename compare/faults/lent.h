@@ -16,17 +16,25 @@
 
 #define PAGE 4096u
 #define MOST_FILE 16777216u
-#define MOST_LIST 20480u
+#define MOST_LIST (1024u * ID)
 #define FILE_ROOM (128u * PAGE) /* of a file or list that is damaged */
 #define MOST_PLACES 4096u       /* that memory is lent for */
 #define GUARD 0x5C              /* stands beside each lent buffer */
 
-#define ID LINENHATCH_ID_BYTES
+#define MOST_ID LINENHATCH_MAX_ID_BYTES
+#define ID ((size_t)LINENHATCH_ID_BYTES(width)) /* bytes of an id */
+#define ENTRY (ID + 4)                          /* of an entry of the store */
+#define ROW (ID + 16)                           /* of a row of the graph */
+#define PARENT_LINE (2 * ID + 8)                /* of a parent line */
 #define END LINENHATCH_END
 #define CLOSED LINENHATCH_CLOSED
 #define SHORT LINENHATCH_BUFFER_TOO_SMALL
 #define NO_ROOM LINENHATCH_NO_ROOM
 #define ANY 1000u
+
+/* ---- the width of ids: that of the base cases, and what a call is told */
+
+static uint32_t base_width = LINENHATCH_SHA1, width = LINENHATCH_SHA1;
 
 /* ---- what is lent */
 
@@ -72,12 +80,12 @@ static struct input input[INPUTS] = {
     [HIDDEN] = {.name = "hidden"}, [EXCLUDED] = {.name = "excluded"}};
 
 static struct lent lent[LENT] = {
-    [NAMES] = {.name = "names", .unit = 1, .room = ID * MOST_PLACES},
+    [NAMES] = {.name = "names", .unit = 1, .room = MOST_ID * MOST_PLACES},
     [MARKS] = {.name = "marks", .unit = 1, .room = MOST_PLACES},
     [GENERATIONS] = {.name = "generations", .unit = 4, .room = 4 * MOST_PLACES},
     [TIMES] = {.name = "times", .unit = 8, .room = 8 * MOST_PLACES},
     [LINE] = {.name = "line", .unit = 4, .room = 20 * MOST_PLACES},
-    [PARENTS] = {.name = "parents", .unit = 1, .room = 2 * PAGE},
+    [PARENTS] = {.name = "parents", .unit = 1, .room = 3 * PAGE},
     [RECORD] = {.name = "record", .unit = 8, .room = PAGE},
     [IDENT] = {.name = "id", .unit = 1, .room = PAGE},
     [NUMBERS] = {.name = "numbers", .unit = 8, .room = PAGE},
@@ -370,7 +378,7 @@ static size_t places_given;
 static uint32_t call_places(void)
 {
     places_given = linenhatch_places(
-        input[STORE].at, input[STORE].n, input[GRAPH].at, input[GRAPH].n, input[TIPS].at, input[TIPS].n, input[HIDDEN].at, input[HIDDEN].n);
+        width, input[STORE].at, input[STORE].n, input[GRAPH].at, input[GRAPH].n, input[TIPS].at, input[TIPS].n, input[HIDDEN].at, input[HIDDEN].n);
     return 0;
 }
 
@@ -386,7 +394,7 @@ static uint32_t call_open(void)
     const struct input *i = input;
     const struct lent *b = lent;
     return spoiled_open((tested ? linenhatch_open_tested : linenhatch_open)(
-        i[STORE].at, i[STORE].n, i[GRAPH].at, i[GRAPH].n, i[TIPS].at, i[TIPS].n, i[HIDDEN].at, i[HIDDEN].n, i[EXCLUDED].at, i[EXCLUDED].n,
+        width, i[STORE].at, i[STORE].n, i[GRAPH].at, i[GRAPH].n, i[TIPS].at, i[TIPS].n, i[HIDDEN].at, i[HIDDEN].n, i[EXCLUDED].at, i[EXCLUDED].n,
         settings.sorting, settings.limited, settings.cutoff, settings.first,
         b[NAMES].at, b[NAMES].count, b[MARKS].at, b[MARKS].count, (uint32_t *)b[GENERATIONS].at, b[GENERATIONS].count,
         (int64_t *)b[TIMES].at, b[TIMES].count, (uint32_t *)b[LINE].at, b[LINE].count, b[PARENTS].at, b[PARENTS].count,
@@ -398,7 +406,7 @@ static uint32_t call_next(void)
     const struct input *i = input;
     const struct lent *b = lent;
     return spoiled_next(linenhatch_next(
-        (uint64_t *)b[RECORD].at, b[RECORD].count,
+        width, (uint64_t *)b[RECORD].at, b[RECORD].count,
         i[STORE].at, i[STORE].n, i[GRAPH].at, i[GRAPH].n, i[HIDDEN].at, i[HIDDEN].n, i[EXCLUDED].at, i[EXCLUDED].n,
         settings.sorting, settings.limited, settings.cutoff, settings.first,
         b[NAMES].at, b[NAMES].count, b[MARKS].at, b[MARKS].count, (uint32_t *)b[GENERATIONS].at, b[GENERATIONS].count,

@@ -17,7 +17,7 @@ static uint32_t spoiled_parting(uint32_t result)
     if (fault == 42 && result == 0 && lent[PARENTS].bytes) /* parents is written to */
         lent[PARENTS].at[0] ^= 1;
     if (fault == 43 && result == 0 && exchanged && numbers[0]) /* another commit with the tips exchanged */
-        lent[IDENT].at[19] ^= 1;
+        lent[IDENT].at[ID - 1] ^= 1;
     if (fault == 44 && result == 13) /* a result that is none of this call's */
         return 9;
     if (fault == 45 && result == NO_ROOM) /* the number of a ragged list */
@@ -33,7 +33,7 @@ static uint32_t call_parting(void)
     const struct input *one = &input[exchanged ? HIDDEN : TIPS], *other = &input[exchanged ? TIPS : HIDDEN];
     const struct lent *b = lent;
     return spoiled_parting(linenhatch_merge_base(
-        input[STORE].at, input[STORE].n, one->at, one->n, other->at, other->n,
+        width, input[STORE].at, input[STORE].n, one->at, one->n, other->at, other->n,
         b[NAMES].at, b[NAMES].count, b[MARKS].at, b[MARKS].count, (uint32_t *)b[GENERATIONS].at, b[GENERATIONS].count,
         (const int64_t *)b[TIMES].at, b[TIMES].count, (uint32_t *)b[LINE].at, b[LINE].count, b[PARENTS].at, b[PARENTS].count,
         b[IDENT].at, b[IDENT].count, (uint64_t *)b[NUMBERS].at, b[NUMBERS].count));
@@ -118,7 +118,7 @@ static void parted(void)
     some_tip(TIPS);
     some_tip(HIDDEN);
     referenced = false;
-    places_given = 2 + input[STORE].n / 48;
+    places_given = 2 + input[STORE].n / PARENT_LINE;
     size_lent(places_given, chance(50) ? 0 : 40);
     if (chance(25))
         shorten(NAMES, MEMORY);

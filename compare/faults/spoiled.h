@@ -84,7 +84,7 @@ static uint32_t spoil_answer(uint32_t result)
     if (fault == 19 && result == CLOSED) /* a closed record is at its end */
         return END;
     if (fault == 20 && result == 0 && lent[PARENTS].bytes) /* an answer that depends on what stood in parents, behind the ids of an answer */
-        lent[IDENT].at[19] ^= lent[PARENTS].at[lent[PARENTS].bytes - 1];
+        lent[IDENT].at[ID - 1] ^= lent[PARENTS].at[lent[PARENTS].bytes - 1];
     if (fault == 21 && result == 0) /* a count from nowhere */
         numbers[LINENHATCH_WAITING]++;
     if (fault == 26 && result == 0 && numbers[LINENHATCH_HAS_GENERATION]) /* a zone of a commit from the graph */

@@ -32,7 +32,7 @@ static uint32_t call_tracing(void)
 {
     const struct lent *b = lent;
     return spoiled_tracing(linenhatch_trace(
-        input[STORE].at, input[STORE].n, input[TIPS].at, input[TIPS].n, input[HIDDEN].at, input[HIDDEN].n, trace_moves,
+        width, input[STORE].at, input[STORE].n, input[TIPS].at, input[TIPS].n, input[HIDDEN].at, input[HIDDEN].n, trace_moves,
         b[NAMES].at, b[NAMES].count, b[IDENT].at, b[IDENT].count, (uint64_t *)b[NUMBERS].at, b[NUMBERS].count));
 }
 
@@ -100,7 +100,7 @@ static uint32_t trace_once(void)
 static void traced(void)
 {
     static const uint32_t moves[] = {0, 1, 2, 3, 4, 12, 13, UINT32_MAX};
-    uint64_t kept[6] = {0};
+    uint64_t kept[7] = {0};
     load_base();
     if (chance(50)) {
         damage_file(STORE);
@@ -113,12 +113,12 @@ static void traced(void)
     }
     referenced = false;
     trace_moves = moves[below(8)];
-    size_lent(2 + input[STORE].n / 24, 0);
+    size_lent(2 + input[STORE].n / ENTRY, 0);
     if (chance(10))
         shorten(IDENT, SECONDS);
     for (unsigned turn = 0; turn < 3; turn++) {
-        uint64_t said[6] = {0};
-        size_t whole = 26 * (2 + input[STORE].n / 24);
+        uint64_t said[7] = {0};
+        size_t whole = 26 * (2 + input[STORE].n / ENTRY);
         lent[NAMES].count = turn == 0 || trace_moves == 12 ? whole : turn == 1 ? below(whole + 1) : below(26);
         if (lent[NAMES].count > lent[NAMES].room)
             lent[NAMES].count = lent[NAMES].room;

@@ -44,12 +44,12 @@ static uint32_t call_writing(void)
         (uint64_t *)b[NUMBERS].at, b[NUMBERS].count));
 }
 
-/* A file of 20-byte ids is one that an opening takes, with a true checksum. */
+/* A file that was written is one that an opening of its width takes, with a true checksum. */
 static void check_file(size_t n)
 {
     static const uint8_t no_commits[8];
     uint64_t entry;
-    uint32_t result = id_width == 32 ? 0 : linenhatch_check_names(no_commits, 8, lent[NAMES].at, n, &entry, 1);
+    uint32_t result = linenhatch_check_names(id_width, no_commits, 8, lent[NAMES].at, n, &entry, 1);
     if (result)
         fail("a file that was written is refused with %" PRIu32, result);
 }
@@ -117,7 +117,7 @@ static uint32_t write_once(void)
 /* The length, then the file: the same refusal, or 20; the same length. */
 static void written(void)
 {
-    static const uint32_t widths[] = {20, 20, 20, 20, 20, 32, 0, UINT32_MAX};
+    const uint32_t widths[] = {width, width, width, width, 20, 32, 0, UINT32_MAX};
     uint64_t length = 0;
     uint32_t said = ANY;
     load_base();
@@ -127,7 +127,7 @@ static void written(void)
     }
     referenced = false;
     id_width = widths[below(8)];
-    size_lent(2 + input[STORE].n / 24, chance(50) ? 0 : 40);
+    size_lent(2 + input[STORE].n / ENTRY, chance(50) ? 0 : 40);
     if (chance(25))
         shorten(GENERATIONS, GENERATIONS + 1);
     if (chance(10))

@@ -22,29 +22,29 @@ static const struct entry twice[] = {
 /* The report of a walk from commit 5; the memory is that of an opening. outside: 0 for the shop's reader, who sees all. */
 static void report(struct file store, const char *embargoed, uint32_t outside)
 {
-    uint8_t tips[LINENHATCH_ID_BYTES], embargo[LINENHATCH_ID_BYTES];
-    size_t embargo_len = ids_of(embargoed, embargo);
-    struct lent lent = lent_store(store.bytes, store.length);
+    uint8_t tips[LINENHATCH_SHA1], embargo[LINENHATCH_SHA1];
+    size_t embargo_len = ids_of(LINENHATCH_SHA1, embargoed, embargo);
+    struct lent lent = lent_store(LINENHATCH_SHA1, store.bytes, store.length);
     lent.tips = tips;
-    lent.tips_len = ids_of("5", tips);
+    lent.tips_len = ids_of(LINENHATCH_SHA1, "5", tips);
     lent.sorting = LINENHATCH_NEWEST;
     size_t places = linenhatch_places(
-        lent.store, lent.store_len, lent.graph, lent.graph_len, lent.tips, lent.tips_len, lent.hidden, lent.hidden_len);
-    struct memory memory = memory_for(places);
+        lent.width, lent.store, lent.store_len, lent.graph, lent.graph_len, lent.tips, lent.tips_len, lent.hidden, lent.hidden_len);
+    struct memory memory = memory_for(LINENHATCH_SHA1, places);
     uint64_t numbers[LINENHATCH_FEED_NUMBERS];
     int64_t difference[LINENHATCH_FEED_DIFFERENCES];
 
     uint32_t result = linenhatch_feed(
-        lent.store, lent.store_len, lent.graph, lent.graph_len,
+        lent.width, lent.store, lent.store_len, lent.graph, lent.graph_len,
         lent.tips, lent.tips_len, lent.hidden, lent.hidden_len, lent.excluded, lent.excluded_len,
         lent.sorting, lent.has_cutoff, lent.cutoff, lent.first,
         embargo, embargo_len, outside,
-        memory.names, LINENHATCH_NAMES(places),
+        memory.names, LINENHATCH_NAMES(lent.width, places),
         memory.marks, LINENHATCH_MARKS(places),
         memory.generations, LINENHATCH_GENERATIONS(places),
         memory.times, LINENHATCH_TIMES(places),
         memory.line, LINENHATCH_LINE(places),
-        memory.parents, LINENHATCH_PARENTS,
+        memory.parents, LINENHATCH_PARENTS(lent.width),
         numbers, LINENHATCH_FEED_NUMBERS,
         difference, LINENHATCH_FEED_DIFFERENCES);
     if (result == LINENHATCH_ACCEPTED)
@@ -59,7 +59,7 @@ static void report(struct file store, const char *embargoed, uint32_t outside)
 
 int main(void)
 {
-    struct file store = store_of(history, sizeof history / sizeof *history), faulty = store_of(twice, 1);
+    struct file store = store_of(LINENHATCH_SHA1, history, sizeof history / sizeof *history), faulty = store_of(LINENHATCH_SHA1, twice, 1);
     report(store, "4", 0);
     report(store, "4", 1);
     report(faulty, "5", 0);

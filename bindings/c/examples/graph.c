@@ -17,10 +17,10 @@ static const struct entry history[] = {
 
 static uint32_t opened(struct file store, struct file graph, size_t graph_len)
 {
-    uint8_t tips[LINENHATCH_ID_BYTES];
-    struct lent lent = lent_store(store.bytes, store.length);
+    uint8_t tips[LINENHATCH_SHA1];
+    struct lent lent = lent_store(LINENHATCH_SHA1, store.bytes, store.length);
     lent.tips = tips;
-    lent.tips_len = ids_of("3", tips);
+    lent.tips_len = ids_of(LINENHATCH_SHA1, "3", tips);
     lent.graph = graph.bytes;
     lent.graph_len = graph_len;
     lent.sorting = LINENHATCH_NEWEST;
@@ -35,18 +35,18 @@ static uint32_t opened(struct file store, struct file graph, size_t graph_len)
 
 int main(void)
 {
-    struct file store = store_of(history, COMMITS);
+    struct file store = store_of(LINENHATCH_SHA1, history, COMMITS);
     uint32_t generations[COMMITS]; /* one for each entry of the store */
     uint64_t numbers[LINENHATCH_GRAPH_NUMBERS];
 
     /* How long it is, then the file. */
     uint32_t result = linenhatch_graph_length(
-        LINENHATCH_ID_BYTES, store.bytes, store.length, generations, COMMITS, numbers, LINENHATCH_GRAPH_NUMBERS);
+        LINENHATCH_SHA1, store.bytes, store.length, generations, COMMITS, numbers, LINENHATCH_GRAPH_NUMBERS);
     if (result != LINENHATCH_ACCEPTED)
         give_up("the graph file has no length", result);
     struct file graph = {lend((size_t)numbers[LINENHATCH_FILE_BYTES], 1), (size_t)numbers[LINENHATCH_FILE_BYTES]};
     result = linenhatch_write_graph(
-        LINENHATCH_ID_BYTES, store.bytes, store.length, generations, COMMITS,
+        LINENHATCH_SHA1, store.bytes, store.length, generations, COMMITS,
         graph.bytes, graph.length, numbers, LINENHATCH_GRAPH_NUMBERS);
     if (result != LINENHATCH_ACCEPTED)
         give_up("the graph file is not written", result);

@@ -18,12 +18,12 @@ static const struct entry history[] = {
 
 static void list(struct file store, const char *hidden)
 {
-    uint8_t tips[LINENHATCH_ID_BYTES], hides[3 * LINENHATCH_ID_BYTES];
-    struct lent lent = lent_store(store.bytes, store.length);
+    uint8_t tips[LINENHATCH_SHA1], hides[3 * LINENHATCH_SHA1];
+    struct lent lent = lent_store(LINENHATCH_SHA1, store.bytes, store.length);
     lent.tips = tips;
-    lent.tips_len = ids_of("6", tips);
+    lent.tips_len = ids_of(LINENHATCH_SHA1, "6", tips);
     lent.hidden = hides;
-    lent.hidden_len = ids_of(hidden, hides);
+    lent.hidden_len = ids_of(LINENHATCH_SHA1, hidden, hides);
     lent.sorting = LINENHATCH_NEWEST;
 
     struct walk walk;
@@ -41,7 +41,7 @@ static void list(struct file store, const char *hidden)
 
 int main(void)
 {
-    struct file store = store_of(history, sizeof history / sizeof *history);
+    struct file store = store_of(LINENHATCH_SHA1, history, sizeof history / sizeof *history);
     list(store, "");
     list(store, "2");
     list(store, "4");

@@ -20,22 +20,23 @@ static const struct entry history[] = {
 static void part(struct file store, const char *one, const char *other)
 {
     static const uint8_t none[1];
-    uint8_t tips[2 * LINENHATCH_ID_BYTES];
-    size_t half = ids_of(one, tips);
-    ids_of(other, tips + half);
-    struct memory memory = memory_for(linenhatch_places(store.bytes, store.length, none, 0, tips, sizeof tips, none, 0));
-    uint8_t id[LINENHATCH_ID_BYTES];
+    uint8_t tips[2 * LINENHATCH_SHA1];
+    size_t half = ids_of(LINENHATCH_SHA1, one, tips);
+    ids_of(LINENHATCH_SHA1, other, tips + half);
+    struct memory memory = memory_for(
+        LINENHATCH_SHA1, linenhatch_places(LINENHATCH_SHA1, store.bytes, store.length, none, 0, tips, sizeof tips, none, 0));
+    uint8_t id[LINENHATCH_SHA1];
     uint64_t numbers[LINENHATCH_BASE_NUMBERS];
 
     uint32_t result = linenhatch_merge_base(
-        store.bytes, store.length, tips, half, tips + half, half,
-        memory.names, LINENHATCH_NAMES(memory.places),
+        LINENHATCH_SHA1, store.bytes, store.length, tips, half, tips + half, half,
+        memory.names, LINENHATCH_NAMES(LINENHATCH_SHA1, memory.places),
         memory.marks, LINENHATCH_MARKS(memory.places),
         memory.generations, LINENHATCH_GENERATIONS(memory.places),
         memory.times, LINENHATCH_TIMES(memory.places),
         memory.line, LINENHATCH_LINE(memory.places),
-        memory.parents, LINENHATCH_PARENTS,
-        id, LINENHATCH_ID_BYTES,
+        memory.parents, LINENHATCH_PARENTS(LINENHATCH_SHA1),
+        id, LINENHATCH_SHA1,
         numbers, LINENHATCH_BASE_NUMBERS);
     if (result != LINENHATCH_ACCEPTED)
         printf("%s and %s: refused %" PRIu32 "\n", one, other, result);
@@ -48,7 +49,7 @@ static void part(struct file store, const char *one, const char *other)
 
 int main(void)
 {
-    struct file store = store_of(history, sizeof history / sizeof *history);
+    struct file store = store_of(LINENHATCH_SHA1, history, sizeof history / sizeof *history);
     part(store, "6", "7");
     part(store, "7", "6");
     part(store, "4", "7");

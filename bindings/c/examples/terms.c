@@ -31,27 +31,27 @@ static const uint32_t out_of_order[] = {MONTH(2025, 1), MONTH(2025, 3), MONTH(20
 
 static void report(struct file store, const uint32_t *months, size_t months_len)
 {
-    uint8_t tips[LINENHATCH_ID_BYTES];
-    struct lent lent = lent_store(store.bytes, store.length);
+    uint8_t tips[LINENHATCH_SHA1];
+    struct lent lent = lent_store(LINENHATCH_SHA1, store.bytes, store.length);
     lent.tips = tips;
-    lent.tips_len = ids_of("6", tips);
+    lent.tips_len = ids_of(LINENHATCH_SHA1, "6", tips);
     lent.sorting = LINENHATCH_NEWEST;
     size_t places = linenhatch_places(
-        lent.store, lent.store_len, lent.graph, lent.graph_len, lent.tips, lent.tips_len, lent.hidden, lent.hidden_len);
-    struct memory memory = memory_for(places);
+        lent.width, lent.store, lent.store_len, lent.graph, lent.graph_len, lent.tips, lent.tips_len, lent.hidden, lent.hidden_len);
+    struct memory memory = memory_for(LINENHATCH_SHA1, places);
     uint64_t counts[LINENHATCH_MAX_TERMS], numbers[LINENHATCH_TERMS_NUMBERS];
 
     uint32_t result = linenhatch_terms(
-        lent.store, lent.store_len, lent.graph, lent.graph_len,
+        lent.width, lent.store, lent.store_len, lent.graph, lent.graph_len,
         lent.tips, lent.tips_len, lent.hidden, lent.hidden_len, lent.excluded, lent.excluded_len,
         lent.sorting, lent.has_cutoff, lent.cutoff, lent.first,
         months, months_len,
-        memory.names, LINENHATCH_NAMES(places),
+        memory.names, LINENHATCH_NAMES(lent.width, places),
         memory.marks, LINENHATCH_MARKS(places),
         memory.generations, LINENHATCH_GENERATIONS(places),
         memory.times, LINENHATCH_TIMES(places),
         memory.line, LINENHATCH_LINE(places),
-        memory.parents, LINENHATCH_PARENTS,
+        memory.parents, LINENHATCH_PARENTS(lent.width),
         counts, LINENHATCH_MAX_TERMS,
         numbers, LINENHATCH_TERMS_NUMBERS);
     if (result == LINENHATCH_ACCEPTED) {
@@ -66,7 +66,7 @@ static void report(struct file store, const uint32_t *months, size_t months_len)
 
 int main(void)
 {
-    struct file store = store_of(history, sizeof history / sizeof *history);
+    struct file store = store_of(LINENHATCH_SHA1, history, sizeof history / sizeof *history);
     report(store, terms, MONTHS(terms));
     report(store, out_of_order, MONTHS(out_of_order));
     free(store.bytes);

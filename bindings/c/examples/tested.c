@@ -15,10 +15,10 @@ static const struct entry set_back[] = {{'1', "", 100, ""}, {'2', "1", 50, ""}, 
 /* Opens tested, newest first from commit 3, and lists if it may. */
 static void try_history(const char *what, struct file store, struct file graph)
 {
-    uint8_t tips[LINENHATCH_ID_BYTES];
-    struct lent lent = lent_store(store.bytes, store.length);
+    uint8_t tips[LINENHATCH_SHA1];
+    struct lent lent = lent_store(LINENHATCH_SHA1, store.bytes, store.length);
     lent.tips = tips;
-    lent.tips_len = ids_of("3", tips);
+    lent.tips_len = ids_of(LINENHATCH_SHA1, "3", tips);
     lent.graph = graph.bytes;
     lent.graph_len = graph.length;
     lent.sorting = LINENHATCH_NEWEST;
@@ -36,11 +36,11 @@ static void try_history(const char *what, struct file store, struct file graph)
 
 int main(void)
 {
-    struct file elsewhere = store_of(other, 3), graph = graph_of(elsewhere), none = {lend(0, 1), 0};
-    try_history("good", store_of(good, 3), none);
-    try_history("a commit is lacking", store_of(lacking, 2), none);
-    try_history("the graph file is another history's", store_of(good, 3), graph);
-    try_history("a clock was set back", store_of(set_back, 3), none);
+    struct file elsewhere = store_of(LINENHATCH_SHA1, other, 3), graph = graph_of(LINENHATCH_SHA1, elsewhere), none = {lend(0, 1), 0};
+    try_history("good", store_of(LINENHATCH_SHA1, good, 3), none);
+    try_history("a commit is lacking", store_of(LINENHATCH_SHA1, lacking, 2), none);
+    try_history("the graph file is another history's", store_of(LINENHATCH_SHA1, good, 3), graph);
+    try_history("a clock was set back", store_of(LINENHATCH_SHA1, set_back, 3), none);
     free(elsewhere.bytes);
     free(graph.bytes);
     free(none.bytes);

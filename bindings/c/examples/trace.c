@@ -20,11 +20,11 @@ static const struct entry history[] = {
 
 static void trace(struct file store, const char *start, uint32_t moves)
 {
-    uint8_t from[LINENHATCH_ID_BYTES], list[2 * LINENHATCH_ID_BYTES], memo[MEMO], id[LINENHATCH_ID_BYTES];
+    uint8_t from[LINENHATCH_SHA1], list[2 * LINENHATCH_SHA1], memo[MEMO], id[LINENHATCH_SHA1];
     uint64_t numbers[LINENHATCH_TRACE_NUMBERS];
-    size_t from_len = ids_of(start, from), list_len = ids_of("12", list);
+    size_t from_len = ids_of(LINENHATCH_SHA1, start, from), list_len = ids_of(LINENHATCH_SHA1, "12", list);
     uint32_t result = linenhatch_trace(
-        store.bytes, store.length, from, from_len, list, list_len, moves,
+        LINENHATCH_SHA1, store.bytes, store.length, from, from_len, list, list_len, moves,
         memo, sizeof memo, id, sizeof id, numbers, LINENHATCH_TRACE_NUMBERS);
     printf("from %s with %" PRIu32 " moves: ", start, moves);
     if (result != LINENHATCH_ACCEPTED)
@@ -37,7 +37,7 @@ static void trace(struct file store, const char *start, uint32_t moves)
 
 int main(void)
 {
-    struct file store = store_of(history, sizeof history / sizeof *history);
+    struct file store = store_of(LINENHATCH_SHA1, history, sizeof history / sizeof *history);
     trace(store, "8", 1);
     trace(store, "8", 2);
     trace(store, "6", 1);

@@ -21,9 +21,10 @@ void *lend(size_t count, size_t size)
     return memory;
 }
 
-struct lent lent_store(const uint8_t *store, size_t store_len)
+struct lent lent_store(uint32_t width, const uint8_t *store, size_t store_len)
 {
     struct lent lent = {0};
+    lent.width = width;
     lent.store = store;
     lent.store_len = store_len;
     lent.graph = lent.tips = lent.hidden = lent.excluded = none; /* no pointer is ever null */
@@ -31,16 +32,17 @@ struct lent lent_store(const uint8_t *store, size_t store_len)
     return lent;
 }
 
-struct memory memory_for(size_t places)
+struct memory memory_for(uint32_t width, size_t places)
 {
     struct memory memory;
+    memory.width = width;
     memory.places = places;
-    memory.names = lend(LINENHATCH_NAMES(places), sizeof *memory.names);
+    memory.names = lend(LINENHATCH_NAMES(width, places), sizeof *memory.names);
     memory.marks = lend(LINENHATCH_MARKS(places), sizeof *memory.marks);
     memory.generations = lend(LINENHATCH_GENERATIONS(places), sizeof *memory.generations);
     memory.times = lend(LINENHATCH_TIMES(places), sizeof *memory.times);
     memory.line = lend(LINENHATCH_LINE(places), sizeof *memory.line);
-    memory.parents = lend(LINENHATCH_PARENTS, sizeof *memory.parents);
+    memory.parents = lend(LINENHATCH_PARENTS(width), sizeof *memory.parents);
     return memory;
 }
 
@@ -56,7 +58,7 @@ void memory_free(struct memory *memory)
 
 /* The two openings are lent the same. */
 typedef uint32_t opening(
-    const uint8_t *, size_t, const uint8_t *, size_t, const uint8_t *, size_t, const uint8_t *, size_t, const uint8_t *, size_t,
+    uint32_t, const uint8_t *, size_t, const uint8_t *, size_t, const uint8_t *, size_t, const uint8_t *, size_t, const uint8_t *, size_t,
     uint32_t, uint32_t, int64_t, uint32_t,
     uint8_t *, size_t, uint8_t *, size_t, uint32_t *, size_t, int64_t *, size_t, uint32_t *, size_t, uint8_t *, size_t,
     uint64_t *, size_t, uint64_t *, size_t);
@@ -64,19 +66,19 @@ typedef uint32_t opening(
 static uint32_t open_by(opening *open, struct walk *walk, const struct lent *lent)
 {
     walk->lent = *lent;
-    walk->memory = memory_for(linenhatch_places(
-        lent->store, lent->store_len, lent->graph, lent->graph_len, lent->tips, lent->tips_len, lent->hidden, lent->hidden_len));
+    walk->memory = memory_for(lent->width, linenhatch_places(
+        lent->width, lent->store, lent->store_len, lent->graph, lent->graph_len, lent->tips, lent->tips_len, lent->hidden, lent->hidden_len));
     struct memory *memory = &walk->memory;
     return open(
-        lent->store, lent->store_len, lent->graph, lent->graph_len,
+        lent->width, lent->store, lent->store_len, lent->graph, lent->graph_len,
         lent->tips, lent->tips_len, lent->hidden, lent->hidden_len, lent->excluded, lent->excluded_len,
         lent->sorting, lent->has_cutoff, lent->cutoff, lent->first,
-        memory->names, LINENHATCH_NAMES(memory->places),
+        memory->names, LINENHATCH_NAMES(memory->width, memory->places),
         memory->marks, LINENHATCH_MARKS(memory->places),
         memory->generations, LINENHATCH_GENERATIONS(memory->places),
         memory->times, LINENHATCH_TIMES(memory->places),
         memory->line, LINENHATCH_LINE(memory->places),
-        memory->parents, LINENHATCH_PARENTS,
+        memory->parents, LINENHATCH_PARENTS(memory->width),
         walk->record, LINENHATCH_RECORD,
         walk->numbers, LINENHATCH_NUMBERS);
 }
@@ -101,16 +103,16 @@ uint32_t walk_next(struct walk *walk)
     const struct lent *lent = &walk->lent;
     struct memory *memory = &walk->memory;
     return linenhatch_next(
-        walk->record, LINENHATCH_RECORD,
+        lent->width, walk->record, LINENHATCH_RECORD,
         lent->store, lent->store_len, lent->graph, lent->graph_len, lent->hidden, lent->hidden_len, lent->excluded, lent->excluded_len,
         lent->sorting, lent->has_cutoff, lent->cutoff, lent->first,
-        memory->names, LINENHATCH_NAMES(memory->places),
+        memory->names, LINENHATCH_NAMES(memory->width, memory->places),
         memory->marks, LINENHATCH_MARKS(memory->places),
         memory->generations, LINENHATCH_GENERATIONS(memory->places),
         memory->times, LINENHATCH_TIMES(memory->places),
         memory->line, LINENHATCH_LINE(memory->places),
-        memory->parents, LINENHATCH_PARENTS,
-        walk->id, LINENHATCH_ID_BYTES,
+        memory->parents, LINENHATCH_PARENTS(memory->width),
+        walk->id, LINENHATCH_ID_BYTES(lent->width),
         walk->numbers, LINENHATCH_NUMBERS,
         walk->seconds, LINENHATCH_SECONDS);
 }

@@ -13,6 +13,7 @@ void give_up(const char *what, uint32_t result);
 
 /* What the caller lends. The files and lists stay the caller's, and neither they nor the settings may change until the walk is closed. */
 struct lent {
+    uint32_t width; /* of ids: LINENHATCH_SHA1 or LINENHATCH_SHA256 */
     const uint8_t *store;
     size_t store_len;
     const uint8_t *graph; /* of length 0 where there is none */
@@ -25,6 +26,7 @@ struct lent {
 
 /* What the walk works in. Nobody else writes to it. */
 struct memory {
+    uint32_t width;
     size_t places;
     uint8_t *names, *marks, *parents;
     uint32_t *generations, *line;
@@ -36,16 +38,16 @@ struct walk {
     struct memory memory;
     uint64_t record[LINENHATCH_RECORD];
     /* the last answer; the parents' ids stand at the start of memory.parents */
-    uint8_t id[LINENHATCH_ID_BYTES];
+    uint8_t id[LINENHATCH_MAX_ID_BYTES];
     uint64_t numbers[LINENHATCH_NUMBERS];
     int64_t seconds[LINENHATCH_SECONDS];
 };
 
 /* Files, lists and settings with nothing in them but a store: breadth order, no cutoff, all parents. */
-struct lent lent_store(const uint8_t *store, size_t store_len);
+struct lent lent_store(uint32_t width, const uint8_t *store, size_t store_len);
 
-/* The memory for so many places, and its end. */
-struct memory memory_for(size_t places);
+/* The memory for ids of a width and so many places, and its end. */
+struct memory memory_for(uint32_t width, size_t places);
 void memory_free(struct memory *memory);
 
 /* Opens a walk, tested or not: 0 or the refusal. walk_close ends it, also after a refusal. */

@@ -6,7 +6,7 @@
 #include <stdlib.h>
 #include <string.h>
 
-#define ID LINENHATCH_ID_BYTES
+#define ID LINENHATCH_SHA1
 
 static int failed;
 
@@ -29,18 +29,18 @@ static void *room(size_t bytes)
 }
 
 /* The result of an opening without tips, breadth first: the layout is tested, and nothing else can be refused. */
-static uint32_t opened(const uint8_t *store, size_t length)
+static uint32_t opened(uint32_t width, const uint8_t *store, size_t length)
 {
     static const uint8_t none[1];
-    size_t places = linenhatch_places(store, length, none, 0, none, 0, none, 0);
+    size_t places = linenhatch_places(width, store, length, none, 0, none, 0, none, 0);
     uint64_t record[LINENHATCH_RECORD], numbers[LINENHATCH_OPEN_NUMBERS];
-    uint8_t *names = room(LINENHATCH_NAMES(places)), *marks = room(LINENHATCH_MARKS(places)), *parents = room(LINENHATCH_PARENTS);
+    uint8_t *names = room(LINENHATCH_NAMES(width, places)), *marks = room(LINENHATCH_MARKS(places)), *parents = room(LINENHATCH_PARENTS(width));
     uint32_t *generations = room(4 * LINENHATCH_GENERATIONS(places)), *line = room(4 * LINENHATCH_LINE(places));
     int64_t *times = room(8 * LINENHATCH_TIMES(places));
     uint32_t result = linenhatch_open(
-        store, length, none, 0, none, 0, none, 0, none, 0, LINENHATCH_BREADTH, 0, 0, 0,
-        names, LINENHATCH_NAMES(places), marks, LINENHATCH_MARKS(places), generations, LINENHATCH_GENERATIONS(places),
-        times, LINENHATCH_TIMES(places), line, LINENHATCH_LINE(places), parents, LINENHATCH_PARENTS,
+        width, store, length, none, 0, none, 0, none, 0, none, 0, LINENHATCH_BREADTH, 0, 0, 0,
+        names, LINENHATCH_NAMES(width, places), marks, LINENHATCH_MARKS(places), generations, LINENHATCH_GENERATIONS(places),
+        times, LINENHATCH_TIMES(places), line, LINENHATCH_LINE(places), parents, LINENHATCH_PARENTS(width),
         record, LINENHATCH_RECORD, numbers, LINENHATCH_OPEN_NUMBERS);
     free(names);
     free(marks);
@@ -61,7 +61,7 @@ static void the_empty_store(void)
     expect(linenhatch_write_store(ID, &no_commit, 0, output, sizeof output, &size) == 0, "the empty store is written");
     expect(size.bytes == 8 && size.commits == 0 && size.at == 0, "its size");
     expect(memcmp(output, zeros, 8) == 0 && output[8] == 0x5a, "8 zeros, and no byte more");
-    expect(opened(output, 8) == LINENHATCH_ACCEPTED, "it opens");
+    expect(opened(ID, output, 8) == LINENHATCH_ACCEPTED, "it opens");
 }
 
 static void sorted_and_once(uint32_t width)
@@ -87,6 +87,8 @@ static void sorted_and_once(uint32_t width)
     n += id + 4;
     memcpy(wanted + n, "\0\0\0\14\0\0\0\2", 8);
     expect(memcmp(output, wanted, n + 8) == 0, "every byte of the store");
+    expect(opened(width, output, n + 8) == LINENHATCH_ACCEPTED, "it opens with its own width");
+    expect(opened(id == 32 ? 20 : 32, output, n + 8) == LINENHATCH_CORRUPT_STORE, "it is 4 with the other");
     for (n += 8; n < sizeof output; n++)
         expect(output[n] == 0x5a, "no byte past it");
 }
@@ -119,7 +121,7 @@ static void short_output(void)
     expect(size.bytes == 32, "it says how many it needs");
     expect(memcmp(output, before, sizeof output) == 0, "nothing is written");
     expect(linenhatch_write_store(ID, &commit, 1, output, 32, &size) == 0, "as many as it needs");
-    expect(opened(output, 32) == LINENHATCH_ACCEPTED, "a commit of no bytes opens");
+    expect(opened(ID, output, 32) == LINENHATCH_ACCEPTED, "a commit of no bytes opens");
 }
 
 static void too_large(void)
@@ -132,7 +134,7 @@ static void too_large(void)
     linenhatch_commit commit = {one, body, most};
     linenhatch_store_size size;
     expect(linenhatch_write_store(ID, &commit, 1, output, LINENHATCH_MAX_STORE, &size) == 0, "the largest store");
-    expect(size.bytes == LINENHATCH_MAX_STORE && opened(output, LINENHATCH_MAX_STORE) == LINENHATCH_ACCEPTED, "it opens");
+    expect(size.bytes == LINENHATCH_MAX_STORE && opened(ID, output, LINENHATCH_MAX_STORE) == LINENHATCH_ACCEPTED, "it opens");
     commit.body_len++;
     expect(linenhatch_write_store(ID, &commit, 1, output, LINENHATCH_MAX_STORE, &size) == LINENHATCH_STORE_TOO_LARGE, "a byte more is 2");
     expect(size.bytes == LINENHATCH_MAX_STORE + 1u && size.commits == 1, "it says how many it would have");
@@ -166,7 +168,7 @@ static void many(size_t count)
     expect(size.commits < count && size.bytes == 8 + 28 * (uint64_t)size.commits, "repeats are left out");
     for (size_t i = 1; i < count; i++)
         expect(memcmp(commits[i - 1].id, commits[i].id, ID) <= 0, "in order");
-    expect(opened(output, (size_t)size.bytes) == LINENHATCH_ACCEPTED, "many open");
+    expect(opened(ID, output, (size_t)size.bytes) == LINENHATCH_ACCEPTED, "many open");
     free(ids);
     free(commits);
     free(output);

@@ -98,5 +98,5 @@ fn part<'a>(rest: &mut &'a [u8]) -> Option<&'a [u8]> {
 }
 
 fn ids(bytes: &[u8]) -> Vec<ObjectId> {
-    bytes.chunks_exact(20).map(|id| ObjectId(id.try_into().expect("20 bytes"))).collect()
+    bytes.chunks_exact(20).map(|id| ObjectId::from_bytes(id).expect("20 bytes")).collect()
 }

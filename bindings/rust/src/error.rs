@@ -98,8 +98,6 @@ pub enum Error {
     Git(String),
     /// The repository has no commits yet.
     Empty,
-    /// The repository has SHA-256 ids.
-    Sha256,
     /// A text that is no name of one commit, and no `^A` or `A..B` either.
     BadName(OsString),
     /// A name that stands for no commit of the repository.
@@ -120,7 +118,7 @@ impl Error {
     /// ```
     /// use linenhatch::{Error, Refusal};
     ///
-    /// assert_eq!((Error::from(Refusal::UnreadableReach).number(), Error::Sha256.number()), (Some(13), None));
+    /// assert_eq!((Error::from(Refusal::UnreadableReach).number(), Error::Empty.number()), (Some(13), None));
     /// ```
     pub fn number(&self) -> Option<u32> {
         self.refused().map(Refused::number)
@@ -131,7 +129,7 @@ impl Error {
     /// ```
     /// use linenhatch::{Error, Refusal};
     ///
-    /// assert_eq!((Error::from(Refusal::UnreadableReach).word(), Error::Sha256.word()), (Some("unreadable reach"), None));
+    /// assert_eq!((Error::from(Refusal::UnreadableReach).word(), Error::Empty.word()), (Some("unreadable reach"), None));
     /// ```
     pub fn word(&self) -> Option<&'static str> {
         self.refused().map(Refused::word)
@@ -165,10 +163,6 @@ impl fmt::Display for Error {
                 _ => f.write_str(said),
             },
             Error::Empty => f.write_str("this repository has no commits yet"),
-            Error::Sha256 => f.write_str(
-                "this repository has SHA-256 ids of 32 bytes, which are not yet supported: the list is over SHA-1 ids of 20 bytes alone \
-                 (`git rev-list` lists it)",
-            ),
             Error::BadName(name) => match name.to_string_lossy() {
                 text if text.is_empty() || text.starts_with('-') => write!(f, "'{text}' is no name of a commit"),
                 text => write!(f, "'{text}' is not the name of one commit; A, ^A and A..B are known, and A...B is not"),

@@ -7,7 +7,7 @@
 #![allow(unsafe_code)]
 
 /// How many words a walk's record has.
-pub(crate) const RECORD: usize = 19;
+pub(crate) const RECORD: usize = 20;
 /// How many numbers an opening sets down.
 pub(crate) const OPEN_NUMBERS: usize = 3;
 /// How many numbers a next call sets down.
@@ -32,6 +32,8 @@ pub(crate) const TERMS_NUMBERS: usize = 1;
 /// The files, lists and settings that an opening and each of its calls are lent. No call reads the tips.
 #[derive(Clone, Debug)]
 pub(crate) struct Input<'a> {
+    /// Of the ids: 20 or 32.
+    pub width: u32,
     pub store: &'a [u8],
     pub graph: &'a [u8],
     pub hidden: Vec<u8>,
@@ -57,13 +59,15 @@ pub(crate) struct Memory {
 /// Where a next call sets its answer down.
 #[derive(Clone, Debug)]
 pub(crate) struct Answer {
-    pub id: [u8; 20],
+    /// As many bytes as an id has.
+    pub id: Vec<u8>,
     pub numbers: [u64; CALL_NUMBERS],
     pub seconds: [i64; CALL_SECONDS],
 }
 
 unsafe extern "C" {
     fn linenhatch_places(
+        width: u32,
         store: *const u8,
         store_len: usize,
         graph: *const u8,
@@ -75,6 +79,7 @@ unsafe extern "C" {
     ) -> usize;
 
     fn linenhatch_open(
+        width: u32,
         store: *const u8,
         store_len: usize,
         graph: *const u8,
@@ -108,6 +113,7 @@ unsafe extern "C" {
     ) -> u32;
 
     fn linenhatch_open_tested(
+        width: u32,
         store: *const u8,
         store_len: usize,
         graph: *const u8,
@@ -141,6 +147,7 @@ unsafe extern "C" {
     ) -> u32;
 
     fn linenhatch_next(
+        width: u32,
         record: *mut u64,
         record_len: usize,
         store: *const u8,
@@ -176,6 +183,7 @@ unsafe extern "C" {
     ) -> u32;
 
     fn linenhatch_check_names(
+        width: u32,
         store: *const u8,
         store_len: usize,
         graph: *const u8,
@@ -185,6 +193,7 @@ unsafe extern "C" {
     ) -> u32;
 
     fn linenhatch_merge_base(
+        width: u32,
         store: *const u8,
         store_len: usize,
         one: *const u8,
@@ -232,6 +241,7 @@ unsafe extern "C" {
     ) -> u32;
 
     fn linenhatch_feed(
+        width: u32,
         store: *const u8,
         store_len: usize,
         graph: *const u8,
@@ -268,6 +278,7 @@ unsafe extern "C" {
     ) -> u32;
 
     fn linenhatch_trace(
+        width: u32,
         store: *const u8,
         store_len: usize,
         start: *const u8,
@@ -284,6 +295,7 @@ unsafe extern "C" {
     ) -> u32;
 
     fn linenhatch_terms(
+        width: u32,
         store: *const u8,
         store_len: usize,
         graph: *const u8,
@@ -325,6 +337,7 @@ pub(crate) fn places(input: &Input<'_>, tips: &[u8]) -> usize {
     // the call lasts. All are only read, so they may overlap.
     unsafe {
         linenhatch_places(
+            input.width,
             input.store.as_ptr(),
             input.store.len(),
             input.graph.as_ptr(),
@@ -356,6 +369,7 @@ pub(crate) fn open(how: Opening, input: &Input<'_>, tips: &[u8], memory: &mut Me
     // `memory` or `numbers`, borrowed alone through `&mut`, so it overlaps neither another nor anything that is read.
     unsafe {
         call(
+            input.width,
             input.store.as_ptr(),
             input.store.len(),
             input.graph.as_ptr(),
@@ -395,6 +409,7 @@ pub(crate) fn next(input: &Input<'_>, memory: &mut Memory, answer: &mut Answer) 
     // SAFETY: as in `open`; the mutable ones are all of one field each of `memory` and `answer`.
     unsafe {
         linenhatch_next(
+            input.width,
             memory.record.as_mut_ptr(),
             memory.record.len(),
             input.store.as_ptr(),
@@ -432,24 +447,27 @@ pub(crate) fn next(input: &Input<'_>, memory: &mut Memory, answer: &mut Answer) 
 }
 
 /// Checks names: 0, or the number of the refusal; never 101, as in `open`.
-pub(crate) fn check_names(store: &[u8], graph: &[u8], numbers: &mut [u64; CHECK_NUMBERS]) -> u32 {
+pub(crate) fn check_names(width: u32, store: &[u8], graph: &[u8], numbers: &mut [u64; CHECK_NUMBERS]) -> u32 {
     // SAFETY: as in `open`; `numbers` is borrowed alone through `&mut`.
-    unsafe { linenhatch_check_names(store.as_ptr(), store.len(), graph.as_ptr(), graph.len(), numbers.as_mut_ptr(), numbers.len()) }
+    unsafe { linenhatch_check_names(width, store.as_ptr(), store.len(), graph.as_ptr(), graph.len(), numbers.as_mut_ptr(), numbers.len()) }
 }
 
-/// Tracing by turns: 0, or the number of the refusal; never 101, as in `open`.
+/// Tracing by turns: 0, or the number of the refusal; 101 exactly where `start` or `id` is shorter than the width.
+#[allow(clippy::too_many_arguments)]
 pub(crate) fn trace(
+    width: u32,
     store: &[u8],
-    start: &[u8; 20],
+    start: &[u8],
     list: &[u8],
     moves: u32,
     memo: &mut [u8],
-    id: &mut [u8; 20],
+    id: &mut [u8],
     numbers: &mut [u64; TRACE_NUMBERS],
 ) -> u32 {
     // SAFETY: as in `open`; `memo`, `id` and `numbers` are each borrowed alone through `&mut`.
     unsafe {
         linenhatch_trace(
+            width,
             store.as_ptr(),
             store.len(),
             start.as_ptr(),
@@ -467,18 +485,20 @@ pub(crate) fn trace(
     }
 }
 
-/// Where two series part: 0, or the number of the refusal; never 101, as in `open`. The memory's record plays no part.
+/// Where two series part: 0, or the number of the refusal; 101 exactly where `one`, `other` or `id` is shorter than the width. The memory's record plays no part.
 pub(crate) fn merge_base(
+    width: u32,
     store: &[u8],
-    one: &[u8; 20],
-    other: &[u8; 20],
+    one: &[u8],
+    other: &[u8],
     memory: &mut Memory,
-    id: &mut [u8; 20],
+    id: &mut [u8],
     numbers: &mut [u64; BASE_NUMBERS],
 ) -> u32 {
     // SAFETY: as in `open`; the mutable ones are all of one field each of `memory`, `id` and `numbers`, each borrowed alone through `&mut`.
     unsafe {
         linenhatch_merge_base(
+            width,
             store.as_ptr(),
             store.len(),
             one.as_ptr(),
@@ -552,6 +572,7 @@ pub(crate) fn feed(
     // SAFETY: as in `open`; the mutable ones are all of one field each of `memory`, `numbers` and `difference`.
     unsafe {
         linenhatch_feed(
+            input.width,
             input.store.as_ptr(),
             input.store.len(),
             input.graph.as_ptr(),
@@ -601,6 +622,7 @@ pub(crate) fn terms(
     // SAFETY: as in `open`; the mutable ones are all of one field each of `memory`, `counts` and `numbers`.
     unsafe {
         linenhatch_terms(
+            input.width,
             input.store.as_ptr(),
             input.store.len(),
             input.graph.as_ptr(),
@@ -641,7 +663,7 @@ pub(crate) fn terms(
 #[cfg(test)]
 mod tests {
     use super::*;
-    use crate::NoRoom;
+    use crate::{Kind, NoRoom};
 
     /// How much is lent of each of the library's own buffers.
     #[derive(Clone, Copy)]
@@ -652,25 +674,27 @@ mod tests {
         seconds: usize,
     }
 
-    const ALL: Room = Room { record: RECORD, numbers: CALL_NUMBERS, id: 20, seconds: CALL_SECONDS };
+    fn all(kind: Kind) -> Room {
+        Room { record: RECORD, numbers: CALL_NUMBERS, id: kind.len_in_bytes(), seconds: CALL_SECONDS }
+    }
 
     /// The buffers for a walk over a store without commits, which needs no places.
     #[derive(Clone, Debug, PartialEq)]
     struct Lent {
         record: [u64; RECORD],
         numbers: [u64; CALL_NUMBERS],
-        id: [u8; 20],
+        id: [u8; 32],
         seconds: [i64; CALL_SECONDS],
-        parents: [u8; 5120],
+        parents: [u8; 8192],
     }
 
     const STORE: [u8; 8] = [0; 8];
     const SEVENS: Lent =
-        Lent { record: [7; RECORD], numbers: [7; CALL_NUMBERS], id: [7; 20], seconds: [7; CALL_SECONDS], parents: [7; 5120] };
+        Lent { record: [7; RECORD], numbers: [7; CALL_NUMBERS], id: [7; 32], seconds: [7; CALL_SECONDS], parents: [7; 8192] };
 
     impl Lent {
         #[rustfmt::skip]
-        fn open(&mut self, how: Opening, room: Room) -> u32 {
+        fn open(&mut self, kind: Kind, how: Opening, room: Room) -> u32 {
             let call = match how { Opening::Plain => linenhatch_open, Opening::Tested => linenhatch_open_tested };
             let (list, store, parents) = ([0u8; 0], STORE.as_ptr(), &mut self.parents);
             let (mut names, mut marks, mut generations, mut times, mut line) = ([0u8; 0], [0u8; 0], [0u32; 0], [0i64; 0], [0u32; 0]);
@@ -678,21 +702,21 @@ mod tests {
             // SAFETY: each pointer is an array's of its own, and no length is over the array's.
             unsafe {
                 call(
-                    store, STORE.len(), list.as_ptr(), 0, list.as_ptr(), 0, list.as_ptr(), 0, list.as_ptr(), 0, 0, 0, 0, 0, names.as_mut_ptr(), 0,
+                    kind.width(), store, STORE.len(), list.as_ptr(), 0, list.as_ptr(), 0, list.as_ptr(), 0, list.as_ptr(), 0, 0, 0, 0, 0, names.as_mut_ptr(), 0,
                     marks.as_mut_ptr(), 0, generations.as_mut_ptr(), 0, times.as_mut_ptr(), 0, line.as_mut_ptr(), 0, parents.as_mut_ptr(), parents.len(),
                     self.record.as_mut_ptr(), room.record, self.numbers.as_mut_ptr(), room.numbers)
             }
         }
 
         #[rustfmt::skip]
-        fn next(&mut self, room: Room) -> u32 {
+        fn next(&mut self, kind: Kind, room: Room) -> u32 {
             let (list, store, parents) = ([0u8; 0], STORE.as_ptr(), &mut self.parents);
             let (mut names, mut marks, mut generations, mut times, mut line) = ([0u8; 0], [0u8; 0], [0u32; 0], [0i64; 0], [0u32; 0]);
-            assert!(room.record <= RECORD && room.numbers <= CALL_NUMBERS && room.id <= 20 && room.seconds <= CALL_SECONDS);
+            assert!(room.record <= RECORD && room.numbers <= CALL_NUMBERS && room.id <= 32 && room.seconds <= CALL_SECONDS);
             // SAFETY: as in `open`.
             unsafe {
                 linenhatch_next(
-                    self.record.as_mut_ptr(), room.record, store, STORE.len(), list.as_ptr(), 0, list.as_ptr(), 0, list.as_ptr(), 0, 0, 0, 0, 0,
+                    kind.width(), self.record.as_mut_ptr(), room.record, store, STORE.len(), list.as_ptr(), 0, list.as_ptr(), 0, list.as_ptr(), 0, 0, 0, 0, 0,
                     names.as_mut_ptr(), 0, marks.as_mut_ptr(), 0, generations.as_mut_ptr(), 0, times.as_mut_ptr(), 0, line.as_mut_ptr(), 0,
                     parents.as_mut_ptr(), parents.len(), self.id.as_mut_ptr(), room.id, self.numbers.as_mut_ptr(), room.numbers,
                     self.seconds.as_mut_ptr(), room.seconds)
@@ -702,49 +726,52 @@ mod tests {
 
     #[test]
     fn an_opening_without_room() {
-        for how in [Opening::Plain, Opening::Tested] {
-            for room in [Room { record: RECORD - 1, ..ALL }, Room { numbers: OPEN_NUMBERS - 1, ..ALL }] {
+        for (kind, how) in Kind::ALL.into_iter().flat_map(|kind| [(kind, Opening::Plain), (kind, Opening::Tested)]) {
+            for room in [Room { record: RECORD - 1, ..all(kind) }, Room { numbers: OPEN_NUMBERS - 1, ..all(kind) }] {
                 let mut lent = SEVENS;
-                assert_eq!(lent.open(how, room), NoRoom::NUMBER);
+                assert_eq!(lent.open(kind, how, room), NoRoom::NUMBER);
                 assert_eq!(lent, SEVENS);
             }
-            assert_eq!(SEVENS.clone().open(how, Room { numbers: OPEN_NUMBERS, ..ALL }), 0);
+            assert_eq!(SEVENS.clone().open(kind, how, Room { numbers: OPEN_NUMBERS, ..all(kind) }), 0);
         }
     }
 
     /// Before all else: also of a store that would be refused.
     #[test]
     fn a_check_without_room() {
-        for store in [&STORE[..], &STORE[..7]] {
+        for (width, store) in [(20, &STORE[..]), (32, &STORE[..]), (20, &STORE[..7]), (32, &STORE[..7])] {
             let mut numbers = [7u64; CHECK_NUMBERS];
             // SAFETY: as in `open`.
-            let result = unsafe { linenhatch_check_names(store.as_ptr(), store.len(), STORE.as_ptr(), 0, numbers.as_mut_ptr(), 0) };
+            let result = unsafe { linenhatch_check_names(width, store.as_ptr(), store.len(), STORE.as_ptr(), 0, numbers.as_mut_ptr(), 0) };
             assert_eq!((result, numbers), (NoRoom::NUMBER, [7]));
         }
         let mut numbers = [7u64; CHECK_NUMBERS];
-        assert_eq!((check_names(&STORE, &[], &mut numbers), numbers), (0, [0]));
-        assert_eq!((check_names(&STORE[..7], &[], &mut numbers), numbers), (4, [0]));
+        for width in [20, 32, 0, u32::MAX] {
+            assert_eq!((check_names(width, &STORE, &[], &mut numbers), numbers), (0, [0]));
+            assert_eq!((check_names(width, &STORE[..7], &[], &mut numbers), numbers), (4, [0]));
+        }
     }
 
     /// Before all else: also of a store that would be refused.
     #[test]
     fn a_parting_without_room() {
-        for store in [&STORE[..], &STORE[..7]] {
-            for (one, other, id, count) in [(19, 20, 20, 1), (20, 19, 20, 1), (20, 20, 19, 1), (20, 20, 20, 0), (0, 0, 0, 0)] {
-                let mut memory = Memory { parents: vec![7; 5120], ..Memory::with_places(2) };
+        for (kind, store) in Kind::ALL.into_iter().flat_map(|kind| [(kind, &STORE[..]), (kind, &STORE[..7])]) {
+            let w = kind.len_in_bytes();
+            for (one, other, id, count) in [(w - 1, w, w, 1), (w, w - 1, w, 1), (w, w, w - 1, 1), (w, w, w, 0), (0, 0, 0, 0)] {
+                let mut memory = Memory { parents: vec![7; 256 * w], ..Memory::with_places(kind, 2) };
                 memory.names.fill(7);
                 let before = format!("{memory:?}");
-                let (tip, mut out, mut numbers) = ([0u8; 20], [7u8; 20], [7u64; BASE_NUMBERS]);
+                let (tip, mut out, mut numbers) = ([0u8; 32], [7u8; 32], [7u64; BASE_NUMBERS]);
                 // SAFETY: as in `open`; no length is over the array's.
                 #[rustfmt::skip]
                 let result = unsafe {
                     linenhatch_merge_base(
-                        store.as_ptr(), store.len(), tip.as_ptr(), one, tip.as_ptr(), other, memory.names.as_mut_ptr(), memory.names.len(),
+                        kind.width(), store.as_ptr(), store.len(), tip.as_ptr(), one, tip.as_ptr(), other, memory.names.as_mut_ptr(), memory.names.len(),
                         memory.marks.as_mut_ptr(), memory.marks.len(), memory.generations.as_mut_ptr(), memory.generations.len(), memory.times.as_ptr(),
                         memory.times.len(), memory.line.as_mut_ptr(), memory.line.len(), memory.parents.as_ptr(), memory.parents.len(),
                         out.as_mut_ptr(), id, numbers.as_mut_ptr(), count)
                 };
-                assert_eq!((result, out, numbers, format!("{memory:?}")), (NoRoom::NUMBER, [7; 20], [7], before));
+                assert_eq!((result, out, numbers, format!("{memory:?}")), (NoRoom::NUMBER, [7; 32], [7], before));
             }
         }
     }
@@ -781,9 +808,9 @@ mod tests {
     /// Before all else: also of a store that would be refused.
     #[test]
     fn a_feed_report_without_room() {
-        for store in [&STORE[..], &STORE[..7]] {
+        for (kind, store) in Kind::ALL.into_iter().flat_map(|kind| [(kind, &STORE[..]), (kind, &STORE[..7])]) {
             for (count, signed) in [(FEED_NUMBERS - 1, FEED_DIFFERENCES), (FEED_NUMBERS, 0), (0, 0)] {
-                let mut memory = Memory { parents: vec![7; 5120], ..Memory::with_places(2) };
+                let mut memory = Memory { parents: vec![7; 8192], ..Memory::with_places(kind, 2) };
                 memory.names.fill(7);
                 let before = format!("{memory:?}");
                 let (list, mut numbers, mut difference) = ([0u8; 0], [7u64; FEED_NUMBERS], [7i64; FEED_DIFFERENCES]);
@@ -791,7 +818,7 @@ mod tests {
                 #[rustfmt::skip]
                 let result = unsafe {
                     linenhatch_feed(
-                        store.as_ptr(), store.len(), list.as_ptr(), 0, list.as_ptr(), 0, list.as_ptr(), 0, list.as_ptr(), 0, 0, 0, 0, 0,
+                        kind.width(), store.as_ptr(), store.len(), list.as_ptr(), 0, list.as_ptr(), 0, list.as_ptr(), 0, list.as_ptr(), 0, 0, 0, 0, 0,
                         list.as_ptr(), 0, 0, memory.names.as_mut_ptr(), memory.names.len(), memory.marks.as_mut_ptr(), memory.marks.len(), memory.generations.as_mut_ptr(),
                         memory.generations.len(), memory.times.as_mut_ptr(), memory.times.len(), memory.line.as_mut_ptr(), memory.line.len(),
                         memory.parents.as_mut_ptr(), memory.parents.len(), numbers.as_mut_ptr(), count, difference.as_mut_ptr(), signed)
@@ -804,9 +831,9 @@ mod tests {
     /// Before all else: also of a list of terms that would be refused.
     #[test]
     fn a_report_by_terms_without_room() {
-        for terms in [[0u32, 0, 1, 1], [1, 0, 0, 9]] {
+        for (kind, terms) in Kind::ALL.into_iter().flat_map(|kind| [(kind, [0u32, 0, 1, 1]), (kind, [1, 0, 0, 9])]) {
             for (places, count) in [(1, TERMS_NUMBERS), (2, 0), (0, 0)] {
-                let mut memory = Memory { parents: vec![7; 5120], ..Memory::with_places(2) };
+                let mut memory = Memory { parents: vec![7; 8192], ..Memory::with_places(kind, 2) };
                 memory.names.fill(7);
                 let before = format!("{memory:?}");
                 let (list, mut counts, mut numbers) = ([0u8; 0], [7u64; 2], [7u64; TERMS_NUMBERS]);
@@ -814,7 +841,7 @@ mod tests {
                 #[rustfmt::skip]
                 let result = unsafe {
                     linenhatch_terms(
-                        STORE.as_ptr(), STORE.len(), list.as_ptr(), 0, list.as_ptr(), 0, list.as_ptr(), 0, list.as_ptr(), 0, 0, 0, 0, 0,
+                        kind.width(), STORE.as_ptr(), STORE.len(), list.as_ptr(), 0, list.as_ptr(), 0, list.as_ptr(), 0, list.as_ptr(), 0, 0, 0, 0, 0,
                         terms.as_ptr(), terms.len(), memory.names.as_mut_ptr(), memory.names.len(), memory.marks.as_mut_ptr(), memory.marks.len(),
                         memory.generations.as_mut_ptr(), memory.generations.len(), memory.times.as_mut_ptr(), memory.times.len(),
                         memory.line.as_mut_ptr(), memory.line.len(), memory.parents.as_mut_ptr(), memory.parents.len(), counts.as_mut_ptr(), places,
@@ -828,15 +855,18 @@ mod tests {
     /// Also of a record that is not open, which with room is refused with 12.
     #[test]
     fn a_call_without_room() {
-        let (record, numbers) = (Room { record: RECORD - 1, ..ALL }, Room { numbers: CALL_NUMBERS - 1, ..ALL });
-        for room in [record, numbers, Room { id: 19, ..ALL }, Room { seconds: CALL_SECONDS - 1, ..ALL }] {
-            let mut lent = SEVENS;
-            assert_eq!(lent.next(room), NoRoom::NUMBER);
-            assert_eq!(lent, SEVENS);
+        for kind in Kind::ALL {
+            let all = all(kind);
+            let (record, numbers) = (Room { record: RECORD - 1, ..all }, Room { numbers: CALL_NUMBERS - 1, ..all });
+            for room in [record, numbers, Room { id: kind.len_in_bytes() - 1, ..all }, Room { seconds: CALL_SECONDS - 1, ..all }] {
+                let mut lent = SEVENS;
+                assert_eq!(lent.next(kind, room), NoRoom::NUMBER);
+                assert_eq!(lent, SEVENS);
+            }
+            for how in [Opening::Plain, Opening::Tested] {
+                let mut lent = SEVENS;
+                assert_eq!((lent.next(kind, all), lent.open(kind, how, all), lent.next(kind, all)), (12, 0, 100));
+            }
         }
-        let mut lent = SEVENS;
-        assert_eq!((lent.next(ALL), lent.open(Opening::Plain, ALL), lent.next(ALL)), (12, 0, 100));
-        let mut lent = SEVENS;
-        assert_eq!((lent.next(ALL), lent.open(Opening::Tested, ALL), lent.next(ALL)), (12, 0, 100));
     }
 }

@@ -1,10 +1,8 @@
 //! Writing commit-graph files.
 
 use crate::ffi;
-use crate::id::ID_BYTES;
+use crate::id::Kind;
 use crate::refusal::Refusal;
-
-const WIDTH: u32 = ID_BYTES as u32;
 
 /// The commit-graph file of a store: git's version 1 file with a row for each of its commits, the bytes that `git commit-graph write` gives with
 /// `commitGraph.generationVersion` 1 and no changed paths.
@@ -34,10 +32,26 @@ const WIDTH: u32 = ID_BYTES as u32;
 /// # Ok::<(), Box<dyn std::error::Error>>(())
 /// ```
 pub fn write_graph(store: &[u8]) -> Result<Vec<u8>, Refusal> {
-    let entries = entries(store)?;
-    let (mut generations, mut file) = (vec![0; entries], vec![0; most(entries, store.len())]);
+    write_graph_in(Kind::Sha1, store)
+}
+
+/// The same of a store of either kind; with SHA-256 it is a file of hash version 2.
+///
+/// ```
+/// use linenhatch::{store_from_commits, write_graph_in, Kind, Lister, ObjectId};
+///
+/// let id = ObjectId::Sha256([0x11; 32]);
+/// let store = store_from_commits([(id, format!("tree {}\nauthor A <a> 5 +0000\ncommitter A <a> 5 +0000\n\n", "0".repeat(64)))])?;
+/// let graph = write_graph_in(Kind::Sha256, &store)?;
+/// assert_eq!((&graph[..6], graph.len()), (&b"CGPH\x01\x02"[..], 8 + 48 + 1024 + 32 + 48 + 32));
+/// assert_eq!(Lister::new(&store).graph(&graph).tips(&[id]).list()?.count(), 1);
+/// # Ok::<(), Box<dyn std::error::Error>>(())
+/// ```
+pub fn write_graph_in(kind: Kind, store: &[u8]) -> Result<Vec<u8>, Refusal> {
+    let entries = entries(kind, store)?;
+    let (mut generations, mut file) = (vec![0; entries], vec![0; most(kind, entries, store.len())]);
     let mut numbers = [0; ffi::GRAPH_NUMBERS];
-    let length = length(ffi::write_graph(WIDTH, store, &mut generations, &mut file, &mut numbers), numbers)?;
+    let length = length(ffi::write_graph(kind.width(), store, &mut generations, &mut file, &mut numbers), numbers)?;
     file.truncate(length);
     Ok(file)
 }
@@ -49,14 +63,25 @@ pub fn write_graph(store: &[u8]) -> Result<Vec<u8>, Refusal> {
 /// assert_eq!(linenhatch::graph_length(&[0; 8]), Ok(8 + 48 + 1024 + 20));
 /// ```
 pub fn graph_length(store: &[u8]) -> Result<usize, Refusal> {
+    graph_length_in(Kind::Sha1, store)
+}
+
+/// The same of a store of either kind.
+///
+/// ```
+/// use linenhatch::{graph_length_in, Kind};
+///
+/// assert_eq!(graph_length_in(Kind::Sha256, &[0; 8]), Ok(8 + 48 + 1024 + 32));
+/// ```
+pub fn graph_length_in(kind: Kind, store: &[u8]) -> Result<usize, Refusal> {
     let mut numbers = [0; ffi::GRAPH_NUMBERS];
-    length(ffi::graph_length(WIDTH, store, &mut vec![0; entries(store)?], &mut numbers), numbers)
+    length(ffi::graph_length(kind.width(), store, &mut vec![0; entries(kind, store)?], &mut numbers), numbers)
 }
 
 /// The number of commits in a store whose size and layout are good; or the refusal.
-fn entries(store: &[u8]) -> Result<usize, Refusal> {
+fn entries(kind: Kind, store: &[u8]) -> Result<usize, Refusal> {
     // The layout is tested before the lent memory, so a call without memory finds its faults.
-    match ffi::graph_length(WIDTH, store, &mut [], &mut [0; ffi::GRAPH_NUMBERS]) {
+    match ffi::graph_length(kind.width(), store, &mut [], &mut [0; ffi::GRAPH_NUMBERS]) {
         2 => Err(Refusal::InputTooLarge),
         4 => Err(Refusal::CorruptStore),
         _ => Ok(u32::from_be_bytes(*store.last_chunk().expect("a trailer")) as usize),
@@ -64,9 +89,10 @@ fn entries(store: &[u8]) -> Result<usize, Refusal> {
 }
 
 /// No file is longer: the header, a table of four chunks, the fan-out and the checksum; an id and a row for each commit; a number for a parent,
-/// whose line in the store has 48 bytes.
-fn most(entries: usize, store_bytes: usize) -> usize {
-    68 + 1024 + (ID_BYTES + ID_BYTES + 16) * entries + 4 * (store_bytes / 48) + ID_BYTES
+/// whose line in the store has 48 bytes, or 72.
+fn most(kind: Kind, entries: usize, store_bytes: usize) -> usize {
+    let id = kind.len_in_bytes();
+    68 + 1024 + (id + kind.row_bytes()) * entries + 4 * (store_bytes / kind.parent_line_bytes()) + id
 }
 
 fn length(result: u32, numbers: [u64; ffi::GRAPH_NUMBERS]) -> Result<usize, Refusal> {

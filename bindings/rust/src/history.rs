@@ -1,8 +1,8 @@
 //! From a repository to a list in two calls.
 
 use crate::error::Error;
-use crate::graph::write_graph;
-use crate::id::ObjectId;
+use crate::graph::write_graph_in;
+use crate::id::{Kind, ObjectId};
 use crate::order::Order;
 use crate::repository::Repository;
 use crate::revs::Revs;
@@ -14,6 +14,7 @@ use crate::walk::{Infos, Lister};
 /// one; then the clocks decide, and they are tested.
 #[derive(Clone, Debug)]
 pub struct History {
+    kind: Kind,
     tips: Vec<ObjectId>,
     hidden: Vec<ObjectId>,
     store: Vec<u8>,
@@ -50,8 +51,8 @@ impl Repository {
         let (absent, cut) = (std::mem::take(&mut commits.absent), std::mem::take(&mut commits.cut));
         let store = commits.store()?;
         // Where there is no such file the opening is refused, or tested by the clocks.
-        let graph = write_graph(&store).unwrap_or_default();
-        Ok(History { tips, hidden, store, graph, absent, cut })
+        let graph = write_graph_in(self.kind(), &store).unwrap_or_default();
+        Ok(History { kind: self.kind(), tips, hidden, store, graph, absent, cut })
     }
 }
 
@@ -168,7 +169,7 @@ impl History {
     /// # }
     /// ```
     pub fn lister(&self) -> Lister<'_> {
-        Lister::new(&self.store).graph(&self.graph).order(Order::Newest).tips(&self.tips).hide(&self.hidden)
+        Lister::new(&self.store).kind(self.kind).graph(&self.graph).order(Order::Newest).tips(&self.tips).hide(&self.hidden)
     }
 
     /// The list, newest first: exactly what is reachable and not hidden, each once. Refused where a commit is not there or cannot be read (13), with

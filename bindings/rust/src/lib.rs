@@ -24,6 +24,8 @@
 //! # fn main() {}
 //! ```
 //!
+//! Ids are of SHA-1 or of SHA-256 ([`Kind`]): a lister goes by the kind of the ids that it is given, and what is given no id has a form that takes the kind.
+//!
 //! Without the feature `walk`, which links the library, there are ids, refusals and the store writer.
 #![deny(unsafe_code)]
 #![warn(missing_docs)]
@@ -57,21 +59,21 @@ mod walk;
 
 pub use error::{Error, Refused};
 #[cfg(feature = "walk")]
-pub use graph::{graph_length, write_graph};
+pub use graph::{graph_length, graph_length_in, write_graph, write_graph_in};
 #[cfg(feature = "walk")]
 pub use history::History;
-pub use id::{ObjectId, ParseIdError, ID_BYTES};
+pub use id::{Kind, ObjectId, ParseIdError, ParseKindError, ID_BYTES};
 #[cfg(feature = "walk")]
 pub use merge_base::merge_base;
 #[cfg(feature = "walk")]
-pub use names::{check_names, Fault};
+pub use names::{check_names, check_names_in, Fault};
 pub use order::Order;
 pub use refusal::{NoRoom, Refusal};
 #[cfg(feature = "walk")]
 pub use reports::{FeedReport, Reader, TermsReport};
 pub use repository::{Commits, References, Repository};
 pub use revs::Revs;
-pub use store::{entries, header, parents, store_from_commits, StoreBuilder, TooLarge, MAX_FILE_BYTES, MAX_IDS};
+pub use store::{entries, header, parents, parents_in, store_from_commits, StoreBuilder, TooLarge, MAX_FILE_BYTES, MAX_IDS};
 #[cfg(feature = "walk")]
 pub use survey::survey;
 pub use terms::{Month, ParseTermError, Term, MAX_TERMS};

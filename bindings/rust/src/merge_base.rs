@@ -1,7 +1,7 @@
 //! Where two series part: the best common ancestor of two commits.
 
 use crate::ffi::{self, Memory};
-use crate::id::{ObjectId, ID_BYTES};
+use crate::id::ObjectId;
 use crate::refusal::Refusal;
 use crate::walk::Lister;
 
@@ -13,7 +13,8 @@ use crate::walk::Lister;
 /// everyone, and with the two exchanged. Times decide nothing else.
 ///
 /// The refusals come in the order 2, 4, 13, 23: the store is too large or its layout is broken; a commit that one of the two reaches is not in the
-/// store or cannot be read there; or parents run in a circle, so that of the common commits none is best.
+/// store or cannot be read there; or parents run in a circle, so that of the common commits none is best. The store's ids are of the first commit's kind;
+/// a second one of the other kind is not in it.
 ///
 /// ```
 /// use linenhatch::{merge_base, store_from_commits, ObjectId};
@@ -32,15 +33,21 @@ use crate::walk::Lister;
 /// # Ok::<(), Box<dyn std::error::Error>>(())
 /// ```
 pub fn merge_base(store: &[u8], one: ObjectId, other: ObjectId) -> Result<Option<ObjectId>, Refusal> {
-    let (mut id, mut numbers) = ([0; ID_BYTES], [0; ffi::BASE_NUMBERS]);
-    let mut call = |places| ffi::merge_base(store, &one.0, &other.0, &mut Memory::with_places(places), &mut id, &mut numbers);
+    let kind = one.kind();
+    let (mut id, mut numbers) = (vec![0; kind.len_in_bytes()], [0; ffi::BASE_NUMBERS]);
+    let second = if other.kind() == kind { other } else { one };
+    let mut call = |places| {
+        let mut memory = Memory::with_places(kind, places);
+        ffi::merge_base(kind.width(), store, one.as_bytes(), second.as_bytes(), &mut memory, &mut id, &mut numbers)
+    };
     // The store is tested before memory, so a first try without memory finds its faults, and memory is made for a good store alone.
     let mut result = call(0);
     if result == Refusal::BufferTooSmall.number() {
-        result = call(Lister::new(store).tips(&[one, other]).places());
+        result = call(Lister::new(store).tips(&[one, second]).places());
     }
     match result {
-        0 => Ok((numbers[0] == 1).then_some(ObjectId(id))),
+        0 | 13 | 23 if other.kind() != kind => Err(Refusal::UnreadableReach),
+        0 => Ok(ObjectId::from_bytes(&id).filter(|_| numbers[0] == 1)),
         number => Err(Refusal::from_number(number).expect("a refusal's number")),
     }
 }

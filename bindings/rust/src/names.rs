@@ -4,6 +4,7 @@ use std::error::Error;
 use std::fmt;
 
 use crate::ffi;
+use crate::id::Kind;
 use crate::refusal::Refusal;
 
 /// What a check of names found.
@@ -43,8 +44,23 @@ impl Error for Fault {}
 /// # Ok::<(), linenhatch::TooLarge>(())
 /// ```
 pub fn check_names(store: &[u8], graph: &[u8]) -> Result<(), Fault> {
+    check_names_in(Kind::Sha1, store, graph)
+}
+
+/// The same of either kind, with its digest.
+///
+/// ```
+/// use linenhatch::{check_names_in, store_from_commits, Kind, ObjectId};
+///
+/// let tree = "6ef19b41225c5369f1c104d45d8d85efa9b057b53b14b4b9b939dd74decc5321";
+/// let body = format!("tree {tree}\nauthor A <a> 5 +0000\ncommitter A <a> 5 +0000\n\n");
+/// let id: ObjectId = "212fd6b650c88e43077125b21ae40148a1d8c276aa0e0ca71cb4ba329a5cd669".parse()?;
+/// assert_eq!(check_names_in(Kind::Sha256, &store_from_commits([(id, body)])?, &[]), Ok(()));
+/// # Ok::<(), Box<dyn std::error::Error>>(())
+/// ```
+pub fn check_names_in(kind: Kind, store: &[u8], graph: &[u8]) -> Result<(), Fault> {
     let mut numbers = [0; ffi::CHECK_NUMBERS];
-    match ffi::check_names(store, graph, &mut numbers) {
+    match ffi::check_names(kind.width(), store, graph, &mut numbers) {
         0 => Ok(()),
         number => Err(Fault { refusal: Refusal::from_number(number).expect("a refusal's number"), entry: numbers[0] as usize }),
     }

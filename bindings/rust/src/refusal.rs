@@ -14,11 +14,11 @@ pub enum Refusal {
     BufferTooSmall,
     /// 2: the commit store or the commit-graph file has over 16,777,216 bytes, or a list over 1,024 ids.
     InputTooLarge,
-    /// 3: a list is not made of whole ids. A list of [`ObjectId`](crate::ObjectId) always is.
+    /// 3: a list is not made of whole ids of one width. Here: one of them is of another [`Kind`](crate::Kind).
     PartialId,
     /// 4: the layout of the commit store is broken.
     CorruptStore,
-    /// 5: the first 8 bytes are not those of a version 1 commit-graph file with 20-byte ids and no base file.
+    /// 5: the first 8 bytes are not those of a version 1 commit-graph file with ids of this width and no base file.
     UnknownGraph,
     /// 6: the rest of the commit-graph file's layout is broken.
     CorruptGraph,
@@ -185,9 +185,9 @@ impl Refusal {
             Refusal::InputTooLarge => {
                 "an input is too large: the commit store and the commit-graph file may have 16,777,216 bytes each, a list of commits 1,024 ids"
             }
-            Refusal::PartialId => "a list of commits is not made of whole 20-byte ids",
+            Refusal::PartialId => "a list of commits is not made of whole ids of one width",
             Refusal::CorruptStore => "the layout of the commit store is broken",
-            Refusal::UnknownGraph => "the commit-graph file is of another kind than version 1 with 20-byte ids and no base file",
+            Refusal::UnknownGraph => "the commit-graph file is of another kind than version 1 with ids of this width and no base file",
             Refusal::CorruptGraph => "the layout of the commit-graph file is broken",
             Refusal::TipNotFound => "a commit to start from is not in the commit store, where an order by time needs it",
             Refusal::TipUnreadable => "a commit to start from cannot be read through its committer line, which an order by time needs",

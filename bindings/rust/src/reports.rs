@@ -1,7 +1,7 @@
 //! Reports over a whole walk.
 
 use crate::ffi::{self, Input, Memory};
-use crate::id::ObjectId;
+use crate::id::{Kind, ObjectId};
 use crate::refusal::Refusal;
 use crate::terms::Term;
 use crate::walk::{joined, refusal, Lister};
@@ -115,7 +115,7 @@ impl Lister<'_> {
     /// The same for a reader, with a list of embargoed commits.
     ///
     /// For an outside reader a commit on the list counts as one with neither reading, and its message causes no 21 or 22. The shop's reader sees all. The
-    /// list is refused with 2 where it has over [`MAX_IDS`](crate::MAX_IDS) ids, whoever the report is for.
+    /// list is refused with 2 where it has over [`MAX_IDS`](crate::MAX_IDS) ids, and with 3 where one is of another kind than the tips, whoever the report is for.
     ///
     /// Where two stores differ only in the digits of readings of commits on the list, by as many, their reports for an outside reader are the same, and so
     /// are the lists of a walk. That is no promise about [`check_names`](crate::check_names), which depends on every byte, nor about the time that a call
@@ -139,9 +139,11 @@ impl Lister<'_> {
     /// ```
     pub fn feed_report_for(&self, reader: Reader, embargoed: &[ObjectId]) -> Result<FeedReport, Refusal> {
         let (input, tips) = self.lent();
-        let (embargoed, outside) = (joined(embargoed), u32::from(reader == Reader::Outside));
+        let (embargoed, outside) = (joined(self.own_kind(), embargoed), u32::from(reader == Reader::Outside));
         let (mut numbers, mut difference) = ([0; ffi::FEED_NUMBERS], [0; ffi::FEED_DIFFERENCES]);
-        with_memory(&input, &tips, |memory| ffi::feed(&input, &tips, &embargoed, outside, memory, &mut numbers, &mut difference))?;
+        with_memory(self.own_kind(), &input, &tips, |memory| {
+            ffi::feed(&input, &tips, &embargoed, outside, memory, &mut numbers, &mut difference)
+        })?;
         let ([both, cone_alone, bed_alone, neither, cone_sum, bed_sum], [difference]) = (numbers, difference);
         Ok(FeedReport { both, cone_alone, bed_alone, neither, cone_sum, bed_sum, difference })
     }
@@ -189,17 +191,17 @@ impl Lister<'_> {
         let (input, tips) = self.lent();
         let months: Vec<u32> = terms.iter().flat_map(|term| [term.first.number(), term.last.number()]).collect();
         let (mut counts, mut numbers) = (vec![0; terms.len()], [0; ffi::TERMS_NUMBERS]);
-        with_memory(&input, &tips, |memory| ffi::terms(&input, &tips, &months, memory, &mut counts, &mut numbers))?;
+        with_memory(self.own_kind(), &input, &tips, |memory| ffi::terms(&input, &tips, &months, memory, &mut counts, &mut numbers))?;
         let [outside] = numbers;
         Ok(TermsReport { counts, outside })
     }
 }
 
 /// Files and lists are tested before memory, so a first try without memory finds their faults, and memory is made for good files alone.
-fn with_memory(input: &Input<'_>, tips: &[u8], mut call: impl FnMut(&mut Memory) -> u32) -> Result<(), Refusal> {
-    let mut result = call(&mut Memory::with_places(0));
+fn with_memory(kind: Kind, input: &Input<'_>, tips: &[u8], mut call: impl FnMut(&mut Memory) -> u32) -> Result<(), Refusal> {
+    let mut result = call(&mut Memory::with_places(kind, 0));
     if result == Refusal::BufferTooSmall.number() {
-        result = call(&mut Memory::with_places(ffi::places(input, tips)));
+        result = call(&mut Memory::with_places(kind, ffi::places(input, tips)));
     }
     match result {
         0 => Ok(()),

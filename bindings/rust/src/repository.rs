@@ -11,12 +11,12 @@ use std::sync::mpsc::{channel, Receiver};
 use std::thread;
 
 use crate::error::Error;
-use crate::id::ObjectId;
-use crate::store::{header, parents, StoreBuilder, TooLarge, MAX_FILE_BYTES};
+use crate::id::{Kind, ObjectId};
+use crate::store::{header, parents_in, StoreBuilder, TooLarge, MAX_FILE_BYTES};
 
 /// A git repository: with files or bare, a worktree, or a shallow clone. It is read by running `git`, which must be there.
 ///
-/// Replacements and grafts are not followed. Its ids must have 20 bytes.
+/// Replacements and grafts are not followed. Its ids are of the kind that its object format says ([`kind`](Repository::kind)).
 ///
 /// ```
 /// # include!(concat!(env!("CARGO_MANIFEST_DIR"), "/tests/repositories/sample.rs"));
@@ -37,6 +37,7 @@ use crate::store::{header, parents, StoreBuilder, TooLarge, MAX_FILE_BYTES};
 #[derive(Clone, Debug)]
 pub struct Repository {
     dir: PathBuf,
+    kind: Kind,
     shallow: bool,
 }
 
@@ -91,6 +92,7 @@ impl Commits {
 
 /// Commits as they come from git.
 struct Reading<'a> {
+    kind: Kind,
     /// Commits that count as having no parents, since history was cut off there.
     boundary: &'a HashSet<ObjectId>,
     each: &'a mut dyn FnMut(ObjectId, &[u8]),
@@ -116,11 +118,11 @@ impl Reading<'_> {
             return;
         }
         (self.each)(id, body);
-        if self.boundary.contains(&id) && parents(body).next().is_some() {
+        if self.boundary.contains(&id) && parents_in(self.kind, body).next().is_some() {
             self.commits.cut.push(id);
             return self.store(id, &without_parents(body));
         }
-        self.named.extend(parents(body));
+        self.named.extend(parents_in(self.kind, body));
         self.store(id, body);
     }
 
@@ -140,15 +142,29 @@ impl Repository {
     /// assert!(matches!(error, Error::Git(_)));
     /// ```
     pub fn open(dir: impl Into<PathBuf>) -> Result<Repository, Error> {
-        let mut repository = Repository { dir: dir.into(), shallow: false };
+        let mut repository = Repository { dir: dir.into(), kind: Kind::Sha1, shallow: false };
         let asked = repository.text(&["rev-parse", "--git-dir", "--show-object-format", "--is-shallow-repository"]);
         let text = asked?;
         let mut lines = text.rsplit(|&byte| byte == b'\n');
         repository.shallow = lines.next() == Some(b"true");
-        if lines.next() == Some(b"sha256") {
-            return Err(Error::Sha256);
-        }
+        let format = String::from_utf8_lossy(lines.next().unwrap_or_default());
+        repository.kind = format.parse().map_err(|error| Error::Git(format!("git names an object format '{format}': {error}")))?;
         Ok(repository)
+    }
+
+    /// The kind of its ids, as its object format says.
+    ///
+    /// ```
+    /// # include!(concat!(env!("CARGO_MANIFEST_DIR"), "/tests/repositories/sample.rs"));
+    /// # fn main() -> Result<(), linenhatch::Error> {
+    /// # let Some(sample) = sample() else { return Ok(()) };
+    /// # let folder = sample.path();
+    /// assert_eq!(linenhatch::Repository::open(folder)?.kind(), linenhatch::Kind::Sha1);
+    /// # Ok(())
+    /// # }
+    /// ```
+    pub fn kind(&self) -> Kind {
+        self.kind
     }
 
     fn git(&self) -> Command {
@@ -393,7 +409,8 @@ impl Repository {
         mut each: impl FnMut(ObjectId, &[u8]),
     ) -> Result<Commits, Error> {
         let each = &mut each;
-        let mut reading = Reading { boundary, each, commits: Commits::default(), answered: HashSet::new(), named: from.to_vec() };
+        let mut reading =
+            Reading { kind: self.kind, boundary, each, commits: Commits::default(), answered: HashSet::new(), named: from.to_vec() };
         if from.is_empty() {
             return Ok(reading.commits);
         }

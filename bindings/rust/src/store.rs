@@ -5,7 +5,7 @@ use std::error::Error;
 use std::fmt;
 use std::ops::Range;
 
-use crate::id::{ObjectId, ID_BYTES};
+use crate::id::{Kind, ObjectId};
 
 /// The most bytes that a commit store may have; so may a commit-graph file.
 pub const MAX_FILE_BYTES: usize = 16_777_216;
@@ -13,12 +13,11 @@ pub const MAX_FILE_BYTES: usize = 16_777_216;
 /// The most ids that a list of tips, of hidden tips or of excluded ids may have.
 pub const MAX_IDS: usize = 1_024;
 
-const ENTRY_BYTES: u64 = ID_BYTES as u64 + 4;
 const TRAILER_BYTES: u64 = 8;
 
 /// Writes a commit store.
 ///
-/// The file has the bodies end to end in the order of their ids; then an entry for each body, its 20-byte id and the offset of its end; then
+/// The file has the bodies end to end in the order of their ids; then an entry for each body, its id of 20 or 32 bytes and the offset of its end; then
 /// a trailer of 8 bytes, the start of the entries and their number. Offsets and number are big-endian and have 4 bytes.
 ///
 /// ```
@@ -30,10 +29,16 @@ const TRAILER_BYTES: u64 = 8;
 /// let bytes = store.finish()?;
 /// assert!(bytes.starts_with(b"first second"));
 /// assert_eq!(bytes.len(), 12 + 2 * 24 + 8);
+///
+/// let mut wide = StoreBuilder::new();
+/// wide.add(ObjectId::Sha256([0x11; 32]), b"first ");
+/// assert_eq!(wide.finish()?.len(), 6 + 36 + 8);
 /// # Ok::<(), linenhatch::TooLarge>(())
 /// ```
 #[derive(Clone, Debug, Default)]
 pub struct StoreBuilder {
+    /// The first id's.
+    kind: Option<Kind>,
     bodies: Vec<u8>,
     parts: BTreeMap<ObjectId, Range<usize>>,
     body_bytes: u64,
@@ -53,6 +58,10 @@ impl StoreBuilder {
     ///
     /// Once the store would be too large bodies are no longer kept, only counted, so memory stays bounded.
     ///
+    /// # Panics
+    ///
+    /// If the id is of another kind than the first one: the ids of a store are of one width.
+    ///
     /// ```
     /// use linenhatch::{ObjectId, StoreBuilder};
     ///
@@ -63,6 +72,7 @@ impl StoreBuilder {
     /// # Ok::<(), linenhatch::TooLarge>(())
     /// ```
     pub fn add(&mut self, id: ObjectId, body: &[u8]) {
+        assert_eq!(id.kind(), *self.kind.get_or_insert(id.kind()), "the ids of a commit store are of one kind");
         if self.parts.contains_key(&id) {
             return;
         }
@@ -93,7 +103,7 @@ impl StoreBuilder {
     /// assert_eq!(store.bytes(), 5 + 24 + 8);
     /// ```
     pub fn bytes(&self) -> u64 {
-        self.body_bytes + ENTRY_BYTES * self.parts.len() as u64 + TRAILER_BYTES
+        self.body_bytes + (self.kind.unwrap_or_default().entry_bytes() * self.parts.len()) as u64 + TRAILER_BYTES
     }
 
     fn is_too_large(&self) -> bool {
@@ -119,7 +129,7 @@ impl StoreBuilder {
         let mut end = 0;
         for (id, part) in &self.parts {
             end += part.len() as u32;
-            store.extend_from_slice(&id.0);
+            store.extend_from_slice(id.as_bytes());
             store.extend_from_slice(&end.to_be_bytes());
         }
         store.extend_from_slice(&start.to_be_bytes());
@@ -152,6 +162,7 @@ pub fn store_from_commits<B: AsRef<[u8]>>(commits: impl IntoIterator<Item = (Obj
 }
 
 /// The commits of a store in the order of their ids, each with its body: what [`StoreBuilder`] was given. Of bytes that are no store there are none.
+/// Of which kind the ids are is seen by the trailer: entries have 24 bytes or 36.
 ///
 /// ```
 /// use linenhatch::{entries, store_from_commits, ObjectId};
@@ -160,27 +171,31 @@ pub fn store_from_commits<B: AsRef<[u8]>>(commits: impl IntoIterator<Item = (Obj
 /// let all: Vec<_> = entries(&store).collect();
 /// assert_eq!(all, [(ObjectId([1; 20]), &b"first"[..]), (ObjectId([2; 20]), b"second")]);
 /// assert_eq!(entries(b"no store").count(), 0);
+///
+/// let wide = store_from_commits([(ObjectId::Sha256([1; 32]), "first")])?;
+/// assert_eq!(entries(&wide).collect::<Vec<_>>(), [(ObjectId::Sha256([1; 32]), &b"first"[..])]);
 /// # Ok::<(), linenhatch::TooLarge>(())
 /// ```
 pub fn entries(store: &[u8]) -> impl Iterator<Item = (ObjectId, &[u8])> {
-    let table = entry_table(store).unwrap_or_default();
+    let (kind, table) = entry_table(store).unwrap_or_default();
     let mut from = 0;
-    table.chunks_exact(ENTRY_BYTES as usize).map_while(move |entry| {
-        let (id, end) = entry.split_at(ID_BYTES);
+    table.chunks_exact(kind.entry_bytes()).map_while(move |entry| {
+        let (id, end) = entry.split_at(kind.len_in_bytes());
         let end = u32::from_be_bytes(end.try_into().ok()?) as usize;
         let body = store.get(from..end)?;
         from = end;
-        Some((ObjectId(id.try_into().ok()?), body))
+        Some((ObjectId::from_bytes(id)?, body))
     })
 }
 
-/// The bytes between the bodies and the trailer, where the trailer says that they are entries.
-fn entry_table(store: &[u8]) -> Option<&[u8]> {
+/// The bytes between the bodies and the trailer, where the trailer says that they are entries, and the kind of their ids.
+fn entry_table(store: &[u8]) -> Option<(Kind, &[u8])> {
     let (rest, trailer) = store.split_last_chunk::<{ TRAILER_BYTES as usize }>()?;
     let (start, count) = trailer.split_at(4);
     let number = |bytes: &[u8]| bytes.iter().fold(0u64, |number, &byte| number << 8 | u64::from(byte));
     let table = rest.get(number(start) as usize..)?;
-    (table.len() as u64 == ENTRY_BYTES * number(count)).then_some(table)
+    let kind = Kind::ALL.into_iter().find(|kind| table.len() as u64 == kind.entry_bytes() as u64 * number(count))?;
+    Some((kind, table))
 }
 
 /// The commit store would have over [`MAX_FILE_BYTES`] bytes, and no opening would take it.
@@ -234,7 +249,7 @@ fn line_end(body: &[u8], at: usize, word: &[u8]) -> Option<usize> {
     Some(at + newline + 1)
 }
 
-/// The parents that a commit's body names: the good parent lines after its tree line.
+/// The parents that a commit's body names: the good parent lines after its tree line, of SHA-1 ids.
 ///
 /// This is for whoever gathers the commits of a store. What a walk takes for the parents of a commit is its own reading.
 ///
@@ -245,11 +260,24 @@ fn line_end(body: &[u8], at: usize, word: &[u8]) -> Option<usize> {
 /// assert_eq!(parents(body.as_bytes()).collect::<Vec<_>>(), [ObjectId([0x11; 20])]);
 /// ```
 pub fn parents(body: &[u8]) -> impl Iterator<Item = ObjectId> + '_ {
+    parents_in(Kind::Sha1, body)
+}
+
+/// The same of either kind: a line with an id of the other kind is none.
+///
+/// ```
+/// use linenhatch::{parents_in, Kind, ObjectId};
+///
+/// let body = format!("tree 6ef19b41\nparent {}\nauthor A <a> 5 +0000\ncommitter A <a> 5 +0000\n\n", "11".repeat(32));
+/// assert_eq!(parents_in(Kind::Sha256, body.as_bytes()).collect::<Vec<_>>(), [ObjectId::Sha256([0x11; 32])]);
+/// assert_eq!(parents_in(Kind::Sha1, body.as_bytes()).count(), 0);
+/// ```
+pub fn parents_in(kind: Kind, body: &[u8]) -> impl Iterator<Item = ObjectId> + '_ {
     let mut at = line_end(body, 0, b"tree ");
     std::iter::from_fn(move || {
         let start = at.take()?;
         let end = line_end(body, start, b"parent ")?;
-        let id = ObjectId::from_hex(&body[start + b"parent ".len()..end - 1])?;
+        let id = ObjectId::from_hex(&body[start + b"parent ".len()..end - 1]).filter(|id| id.kind() == kind)?;
         at = Some(end);
         Some(id)
     })
@@ -287,6 +315,31 @@ mod tests {
         }
         expected.extend([0, 0, 0, 4, 0, 0, 0, 3]);
         assert_eq!(store, expected);
+    }
+
+    #[test]
+    fn ids_of_32_bytes() {
+        let commits = [(ObjectId::Sha256([3; 32]), &b"ccc"[..]), (ObjectId::Sha256([1; 32]), b"a"), (ObjectId::Sha256([2; 32]), b"")];
+        let store = store_from_commits(commits).unwrap();
+        let mut expected = b"accc".to_vec();
+        for (id, end) in [(1, 1), (2, 1), (3, 4)] {
+            expected.extend([id; 32]);
+            expected.extend([0, 0, 0, end]);
+        }
+        expected.extend([0, 0, 0, 4, 0, 0, 0, 3]);
+        assert_eq!(store, expected);
+        assert_eq!(entries(&store).collect::<Vec<_>>(), [commits[1], commits[2], commits[0]]);
+        for at in 0..store.len() {
+            let mut other = store.clone();
+            other[at] ^= 0x81;
+            assert!(entries(&store[at..]).count() <= 3 && entries(&other).count() <= 3);
+        }
+    }
+
+    #[test]
+    #[should_panic(expected = "one kind")]
+    fn ids_of_two_kinds() {
+        let _ = store_from_commits([(ObjectId([1; 20]), ""), (ObjectId::Sha256([1; 32]), "")]);
     }
 
     #[test]
@@ -343,6 +396,13 @@ mod tests {
         assert_eq!(parents(body.as_bytes()).collect::<Vec<_>>(), [ObjectId([0x11; 20]), ObjectId([0x22; 20])]);
         let body = format!("tree t\nparent {one}\nparent x\nparent {two}\n");
         assert_eq!(parents(body.as_bytes()).collect::<Vec<_>>(), [ObjectId([0x11; 20])]);
+        let (three, four) = ("3".repeat(64), "4".repeat(64));
+        let body = format!("tree t\nparent {three}\nparent {four}\nparent {one}\nauthor A\ncommitter C\n");
+        assert_eq!(
+            parents_in(Kind::Sha256, body.as_bytes()).collect::<Vec<_>>(),
+            [ObjectId::Sha256([0x33; 32]), ObjectId::Sha256([0x44; 32])]
+        );
+        assert_eq!(parents(body.as_bytes()).count(), 0);
         assert_eq!(parents(format!("parent {one}\n").as_bytes()).count(), 0);
         assert_eq!(parents(BODY).count(), 0);
     }

@@ -4,10 +4,10 @@ use std::collections::{HashMap, HashSet};
 
 use crate::error::Refused;
 use crate::id::ObjectId;
-use crate::names::check_names;
+use crate::names::check_names_in;
 use crate::order::Order;
 use crate::refusal::Refusal;
-use crate::store::{entries, parents, store_from_commits, MAX_IDS};
+use crate::store::{entries, parents_in, store_from_commits, MAX_IDS};
 use crate::walk::{Info, Lister};
 
 /// All commits that some ids reach, as far as they can be read, each once. They have their times; and where no commit-graph file is lent their zones,
@@ -89,9 +89,12 @@ impl Lister<'_> {
             }
             Refusal::GraphAtOdds => at_odds(store, graph, &from()),
             Refusal::PairNotFalling => not_falling(store, graph, &from()),
-            Refusal::FalseName => {
-                check_names(store, &[]).err().and_then(|fault| entries(store).nth(fault.entry)).map(|(id, _)| id).into_iter().collect()
-            }
+            Refusal::FalseName => check_names_in(self.own_kind(), store, &[])
+                .err()
+                .and_then(|fault| entries(store).nth(fault.entry))
+                .map(|(id, _)| id)
+                .into_iter()
+                .collect(),
             Refusal::UnfitSeconds => unfit_seconds(store, &from()),
             Refusal::ReadingTwice | Refusal::ReadingUnreadable => self.first_faulty(refusal, &[]).into_iter().collect(),
             _ => Vec::new(),
@@ -124,7 +127,7 @@ fn reached(bodies: &HashMap<ObjectId, &[u8]>, from: &[ObjectId]) -> HashSet<Obje
     let (mut all, mut left) = (HashSet::new(), from.to_vec());
     while let Some(id) = left.pop() {
         if all.insert(id) {
-            left.extend(bodies.get(&id).into_iter().flat_map(|body| parents(body)));
+            left.extend(bodies.get(&id).into_iter().flat_map(|body| parents_in(id.kind(), body)));
         }
     }
     all

@@ -1,17 +1,15 @@
 //! Tracing by turns: whether one bench can force the trace to a calibration.
 
 use crate::ffi;
-use crate::id::{ObjectId, ID_BYTES};
+use crate::id::ObjectId;
 use crate::refusal::Refusal;
+use crate::walk::joined;
 
 /// The most moves of a trace.
 pub const MAX_MOVES: u32 = 12;
 
 /// The bytes of the memo for one entry of the store.
 const ROW: usize = 26;
-
-/// The bytes of an entry of the store.
-const ENTRY: usize = 24;
 
 /// What [`trace`] says of a start.
 #[derive(Clone, Copy, Debug, PartialEq, Eq)]
@@ -34,7 +32,7 @@ pub enum Prospect {
 /// Two benches trace back from `start` by turns, each choosing a parent, the cone first, `moves` times at most ([`MAX_MOVES`]). The cone gets its way if
 /// the trace reaches a commit of `list`, however the bed chooses; a commit without parents off the list is none.
 ///
-/// The refusals come in the order 25, 2, 3, 4, 13: too many moves; the store or the list is too large; the store's layout is broken; or a commit within
+/// The refusals come in the order 25, 2, 3, 4, 13: too many moves; the store or the list is too large; the list has an id of another kind than the start; the store's layout is broken; or a commit within
 /// `moves` parent steps of the start, the start too, is not in the store or cannot be read there. It takes time in proportion to the links of the store.
 ///
 /// ```
@@ -54,14 +52,15 @@ pub enum Prospect {
 /// # Ok::<(), Box<dyn std::error::Error>>(())
 /// ```
 pub fn trace(store: &[u8], start: ObjectId, list: &[ObjectId], moves: u32) -> Result<Prospect, Refusal> {
-    let list: Vec<u8> = list.iter().flat_map(|id| id.0).collect();
+    let kind = start.kind();
+    let list = joined(kind, list);
     // A store has no more entries than fit its bytes; one that is too large, or too many moves, is refused before the memo is looked at.
-    let rows = if moves > MAX_MOVES || store.len() > crate::MAX_FILE_BYTES { 0 } else { entries(store) };
-    let (mut memo, mut id, mut numbers) = (vec![0; rows * ROW], [0; ID_BYTES], [0; ffi::TRACE_NUMBERS]);
-    match ffi::trace(store, &start.0, &list, moves, &mut memo, &mut id, &mut numbers) {
+    let rows = if moves > MAX_MOVES || store.len() > crate::MAX_FILE_BYTES { 0 } else { entries(store, kind.entry_bytes()) };
+    let (mut memo, mut id, mut numbers) = (vec![0; rows * ROW], vec![0; kind.len_in_bytes()], [0; ffi::TRACE_NUMBERS]);
+    match ffi::trace(kind.width(), store, start.as_bytes(), &list, moves, &mut memo, &mut id, &mut numbers) {
         0 => Ok(match numbers {
             [1, _] => Prospect::AtStart,
-            [2, number] => Prospect::Forced { number: number as usize, parent: ObjectId(id) },
+            [2, number] => Prospect::Forced { number: number as usize, parent: ObjectId::from_bytes(&id).expect("an id of this kind") },
             _ => Prospect::NotForced,
         }),
         number => Err(Refusal::from_number(number).expect("a refusal's number")),
@@ -69,7 +68,7 @@ pub fn trace(store: &[u8], start: ObjectId, list: &[ObjectId], moves: u32) -> Re
 }
 
 /// How many entries a store says that it has, at most as many as its bytes have room for.
-fn entries(store: &[u8]) -> usize {
+fn entries(store: &[u8], entry: usize) -> usize {
     let said = store.last_chunk().map_or(0, |last| u32::from_be_bytes(*last) as usize);
-    said.min(store.len() / ENTRY)
+    said.min(store.len() / entry)
 }

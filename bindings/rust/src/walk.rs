@@ -4,12 +4,12 @@ use std::fmt;
 use std::iter::FusedIterator;
 
 use crate::ffi::{self, Answer, Input, Memory, Opening};
-use crate::id::{ObjectId, ID_BYTES};
+use crate::id::{Kind, ObjectId};
 use crate::order::Order;
 use crate::refusal::{NoRoom, Refusal};
 
-/// The buffer of an answer's parents holds 256 ids.
-const PARENT_BYTES: usize = 256 * ID_BYTES;
+/// The buffer of an answer's parents holds so many ids.
+const PARENTS: usize = 256;
 
 /// What a walk goes over: files, lists and settings. Made with [`Lister::new`], set up call by call, opened with [`Lister::open`] or, with
 /// its histories tested, [`Lister::open_tested`].
@@ -29,6 +29,7 @@ const PARENT_BYTES: usize = 256 * ID_BYTES;
 pub struct Lister<'a> {
     pub(crate) store: &'a [u8],
     pub(crate) graph: &'a [u8],
+    kind: Option<Kind>,
     pub(crate) tips: Vec<ObjectId>,
     pub(crate) hidden: Vec<ObjectId>,
     excluded: Vec<ObjectId>,
@@ -57,6 +58,7 @@ impl<'a> Lister<'a> {
         Lister {
             store,
             graph: &[],
+            kind: None,
             tips: Vec::new(),
             hidden: Vec::new(),
             excluded: Vec::new(),
@@ -85,6 +87,34 @@ impl<'a> Lister<'a> {
     pub fn graph(mut self, graph: &'a [u8]) -> Lister<'a> {
         self.graph = graph;
         self
+    }
+
+    /// Of which kind the ids of the files are, and of the lists. It needs to be said only where no id is given: else the kind of the first one counts, of the
+    /// tips, then of the hidden tips, then of the excluded ids. An opening is refused with 3 where an id is of another kind, and with 4 or 5 where a
+    /// file is.
+    ///
+    /// ```
+    /// # fn main() -> Result<(), Box<dyn std::error::Error>> {
+    /// use linenhatch::{store_from_commits, Kind, Lister, ObjectId, Refusal};
+    ///
+    /// let id = ObjectId::Sha256([0x11; 32]);
+    /// let store = store_from_commits([(id, format!("tree {}\nauthor A <a> 5 +0000\ncommitter A <a> 5 +0000\n\n", "0".repeat(64)))])?;
+    /// assert_eq!(Lister::new(&store).tips(&[id]).list()?.map(|info| info.id).collect::<Vec<_>>(), [id]);
+    /// assert_eq!(Lister::new(&store).kind(Kind::Sha256).list()?.count(), 0); // no tips, no commits
+    /// assert_eq!(Lister::new(&store).list().err(), Some(Refusal::CorruptStore)); // no store of SHA-1 ids
+    /// assert_eq!(Lister::new(&store).tips(&[id, ObjectId([0x11; 20])]).list().err(), Some(Refusal::PartialId));
+    /// # Ok(())
+    /// # }
+    /// ```
+    pub fn kind(mut self, kind: Kind) -> Lister<'a> {
+        self.kind = Some(kind);
+        self
+    }
+
+    /// The kind that counts.
+    pub(crate) fn own_kind(&self) -> Kind {
+        let first = self.tips.iter().chain(&self.hidden).chain(&self.excluded).next();
+        self.kind.or_else(|| first.map(ObjectId::kind)).unwrap_or_default()
     }
 
     /// Adds commits to start from. Repeats are dropped.
@@ -210,8 +240,8 @@ impl<'a> Lister<'a> {
         self
     }
 
-    /// Tests files and lists, and opens the walk with memory of its own; or says which of refusals 2 and 4 to 8 comes first, in the order 2,
-    /// 4 to 8.
+    /// Tests files and lists, and opens the walk with memory of its own; or says which of refusals 2 to 8 comes first; 3 comes where
+    /// an id is of another kind than the first one.
     ///
     /// ```
     /// # fn main() -> Result<(), Box<dyn std::error::Error>> {
@@ -279,14 +309,14 @@ impl<'a> Lister<'a> {
 
     fn opened(&self, how: Opening) -> Result<Walk<'a>, Refusal> {
         let input = self.input();
-        let tips = joined(&self.tips);
+        let (kind, tips) = (self.own_kind(), joined(self.own_kind(), &self.tips));
         // Files and lists are tested before memory, so a first try without memory finds their faults, and memory is made for good files alone:
         // a broken commit-graph file may claim any number of commits.
-        let mut memory = Memory::with_places(0);
+        let mut memory = Memory::with_places(kind, 0);
         let mut numbers = [0; ffi::OPEN_NUMBERS];
         let mut result = ffi::open(how, &input, &tips, &mut memory, &mut numbers);
         if result == Refusal::BufferTooSmall.number() {
-            memory = Memory::with_places(ffi::places(&input, &tips));
+            memory = Memory::with_places(kind, ffi::places(&input, &tips));
             result = ffi::open(how, &input, &tips, &mut memory, &mut numbers);
         }
         if result != 0 {
@@ -294,9 +324,10 @@ impl<'a> Lister<'a> {
         }
         let [admitted, struck, waiting] = numbers;
         Ok(Walk {
+            kind,
             input,
             memory,
-            answer: Answer { id: [0; ID_BYTES], numbers: [0; ffi::CALL_NUMBERS], seconds: [0; ffi::CALL_SECONDS] },
+            answer: Answer { id: vec![0; kind.len_in_bytes()], numbers: [0; ffi::CALL_NUMBERS], seconds: [0; ffi::CALL_SECONDS] },
             numbers: Numbers { admitted, struck, waiting },
             ended: false,
         })
@@ -304,20 +335,22 @@ impl<'a> Lister<'a> {
 
     /// How many places the walk needs.
     pub(crate) fn places(&self) -> usize {
-        ffi::places(&self.input(), &joined(&self.tips))
+        ffi::places(&self.input(), &joined(self.own_kind(), &self.tips))
     }
 
     /// Files, lists and settings as the library takes them, and the tips.
     pub(crate) fn lent(&self) -> (Input<'a>, Vec<u8>) {
-        (self.input(), joined(&self.tips))
+        (self.input(), joined(self.own_kind(), &self.tips))
     }
 
     fn input(&self) -> Input<'a> {
+        let kind = self.own_kind();
         Input {
+            width: kind.width(),
             store: self.store,
             graph: self.graph,
-            hidden: joined(&self.hidden),
-            excluded: joined(&self.excluded),
+            hidden: joined(kind, &self.hidden),
+            excluded: joined(kind, &self.excluded),
             sorting: match self.order {
                 Order::Breadth => 0,
                 Order::Newest => 1,
@@ -330,8 +363,13 @@ impl<'a> Lister<'a> {
     }
 }
 
-pub(crate) fn joined(ids: &[ObjectId]) -> Vec<u8> {
-    ids.iter().flat_map(|id| id.0).collect()
+/// The bytes of a list. One with an id of another kind is no list of whole ids, whatever its length: with a byte too few it is one for refusal 3.
+pub(crate) fn joined(kind: Kind, ids: &[ObjectId]) -> Vec<u8> {
+    let mut bytes: Vec<u8> = ids.iter().flat_map(ObjectId::as_bytes).copied().collect();
+    if ids.iter().any(|id| id.kind() != kind) {
+        bytes.resize(ids.len() * kind.len_in_bytes() - 1, 0);
+    }
+    bytes
 }
 
 pub(crate) fn refusal(number: u32) -> Refusal {
@@ -343,14 +381,14 @@ pub(crate) fn refusal(number: u32) -> Refusal {
 }
 
 impl Memory {
-    pub(crate) fn with_places(places: usize) -> Memory {
+    pub(crate) fn with_places(kind: Kind, places: usize) -> Memory {
         Memory {
-            names: vec![0; ID_BYTES * places],
+            names: vec![0; kind.len_in_bytes() * places],
             marks: vec![0; places],
             generations: vec![0; places],
             times: vec![0; places],
             line: vec![0; 5 * places],
-            parents: vec![0; PARENT_BYTES],
+            parents: vec![0; kind.len_in_bytes() * PARENTS],
             record: [0; ffi::RECORD],
         }
     }
@@ -365,6 +403,7 @@ impl Memory {
 /// The walk borrows the files and alone has its lists, settings, memory and record, so every call is lent what the opening was lent, and
 /// memory untouched since: the one thing that the library's promise about a whole list of calls asks of a caller.
 pub struct Walk<'a> {
+    kind: Kind,
     input: Input<'a>,
     memory: Memory,
     answer: Answer,
@@ -411,24 +450,24 @@ impl Walk<'_> {
     /// ```
     pub fn parents(&self) -> impl ExactSizeIterator<Item = ObjectId> + '_ {
         let count = self.answer.numbers[3] as usize;
-        self.memory.parents.chunks_exact(ID_BYTES).take(count).map(|bytes| {
-            let mut id = [0; ID_BYTES];
-            id.copy_from_slice(bytes);
-            ObjectId(id)
-        })
+        self.memory.parents.chunks_exact(self.kind.len_in_bytes()).take(count).map(id_of)
     }
 
     fn info(&self) -> Info {
         let [.., has_generation, generation, has_time, has_zone] = self.answer.numbers;
         let [time, zone] = self.answer.seconds;
         Info {
-            id: ObjectId(self.answer.id),
+            id: id_of(&self.answer.id),
             parents: self.parents().collect(),
             generation: (has_generation != 0).then_some(generation as u32),
             time: (has_time != 0).then_some(time),
             zone: (has_zone != 0).then_some(zone as i32),
         }
     }
+}
+
+fn id_of(bytes: &[u8]) -> ObjectId {
+    ObjectId::from_bytes(bytes).expect("as many bytes as an id of the walk's kind has")
 }
 
 impl Iterator for Walk<'_> {

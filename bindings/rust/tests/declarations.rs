@@ -47,21 +47,22 @@ fn rust_type(kind: &str) -> &str {
 #[test]
 fn the_same_in_both_languages() {
     for (name, parameters) in [
-        ("linenhatch_places", 8),
-        ("linenhatch_open", 30),
-        ("linenhatch_open_tested", 30),
-        ("linenhatch_next", 32),
-        ("linenhatch_check_names", 6),
-        ("linenhatch_merge_base", 22),
+        ("linenhatch_places", 9),
+        ("linenhatch_open", 31),
+        ("linenhatch_open_tested", 31),
+        ("linenhatch_next", 33),
+        ("linenhatch_check_names", 7),
+        ("linenhatch_merge_base", 23),
         ("linenhatch_graph_length", 7),
         ("linenhatch_write_graph", 9),
-        ("linenhatch_feed", 33),
-        ("linenhatch_trace", 13),
-        ("linenhatch_terms", 32),
+        ("linenhatch_feed", 34),
+        ("linenhatch_trace", 14),
+        ("linenhatch_terms", 33),
     ] {
         let rust = in_rust(name);
         assert_eq!(rust.0.len(), parameters, "{name}");
         assert_eq!(rust, in_c(name), "{name}");
+        assert_eq!(rust.0[0], ("width".to_string(), "u32".to_string()), "{name}");
     }
     assert_eq!(in_rust("linenhatch_open_tested"), in_rust("linenhatch_open"));
 }
@@ -85,7 +86,10 @@ fn the_same_numbers() {
     ] {
         assert_eq!(between(RUST, &format!("const {line} = "), ";"), defined(name).to_string(), "{name}");
     }
-    assert_eq!(defined("ID_BYTES") as usize, linenhatch::ID_BYTES);
+    assert_eq!(defined("SHA1") as usize, linenhatch::ID_BYTES);
+    assert_eq!(defined("SHA1") as usize, linenhatch::Kind::Sha1.len_in_bytes());
+    assert_eq!(defined("SHA256") as usize, linenhatch::Kind::Sha256.len_in_bytes());
+    assert_eq!(defined("MAX_ID_BYTES") as usize, linenhatch::Kind::Sha256.len_in_bytes());
     assert_eq!(defined("NO_ROOM"), linenhatch::NoRoom::NUMBER);
 }
 

@@ -16,7 +16,7 @@ mod tool {
     use std::fs;
     use std::io::Write;
 
-    use super::repositories::{folder, has_git, history, lines, run, set, Repository, TREE};
+    use super::repositories::{folder, has_git, history, history_in, lines, set, Repository, TREE};
 
     /// A body under another commit's id: git hands it out as it stands, and the check names the commit.
     #[test]
@@ -473,21 +473,34 @@ mod tool {
         assert_eq!(fs::read(&file).unwrap(), b"kept");
     }
 
+    /// All that the tool does, in a repository with SHA-256 ids, beside git.
     #[test]
     fn sha_256() {
         if !has_git() {
             return;
         }
-        let repository = Repository { dir: folder("sha256") };
-        fs::create_dir_all(&repository.dir).unwrap();
-        let mut git = repository.command();
-        git.args(["init", "-q", "--object-format=sha256", "."]);
-        if !run(git, b"").status.success() {
-            eprintln!("skipped: this git makes no SHA-256 repositories");
-            return;
+        let Some(empty) = Repository::of_format("sha256", "sha256") else { return };
+        assert!(empty.fails("").1.contains("no commits yet"));
+        let repository = history_in(empty);
+        let all = repository.git("rev-list main");
+        assert!(all.len() == 35 && all.iter().all(|id| id.len() == 64));
+        for graph in ["", " --no-graph", " --git-graph"] {
+            assert_eq!(repository.list(&format!("main{graph}")), all);
+            assert_eq!(repository.list(&format!("main ^old{graph}")), repository.git("rev-list main ^old"));
+            assert_eq!(repository.list(&format!("--first-parent main{graph}")), repository.git("rev-list --first-parent main"));
+            repository.git("-c commitGraph.generationVersion=1 commit-graph write --reachable");
         }
-        let (_, said) = repository.fails("");
-        assert!(said.contains("SHA-256"), "{said}");
+        assert_eq!(repository.list("--check-names"), ["35 commits under the right name"]);
+        assert!(repository.list("verify").iter().all(|line| line.starts_with("holds: ") || line.starts_with("note: ")));
+        assert_eq!(repository.list("merge-base main side"), repository.git("merge-base main side"));
+        let (own, git) = (repository.dir.join("own"), repository.dir.join(".git/objects/info/commit-graph"));
+        repository.list(&format!("write-graph -o {}", own.display()));
+        assert_eq!(fs::read(&own).unwrap(), fs::read(&git).unwrap());
+        let list = repository.dir.join("embargoed");
+        fs::write(&list, format!("{}\n", all[0])).unwrap();
+        assert!(!repository.list(&format!("feed --outside --embargo {}", list.display())).is_empty());
+        fs::write(&list, format!("{}\n", &all[0][..40])).unwrap();
+        assert!(repository.fails(&format!("feed --embargo {}", list.display())).1.contains("is no whole id: write one id of 64"));
     }
 
     /// 5,000 commits with messages of 4,000 bytes do not fit whole, and do fit cut. With 25,000 more by somebody with a long name, not even that.

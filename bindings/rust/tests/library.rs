@@ -6,7 +6,9 @@ mod repositories;
 
 use std::fs;
 
-use linenhatch::{check_names, entries, Error, Info, ObjectId, Order, References, Repository, Walk};
+use linenhatch::{
+    check_names, check_names_in, entries, parents_in, Error, Info, Kind, Lister, ObjectId, Order, References, Repository, Walk,
+};
 use repositories::{folder, has_git, history};
 
 fn ids(infos: impl Iterator<Item = Info>) -> Vec<String> {
@@ -96,12 +98,23 @@ fn errors() {
     assert_eq!(Error::Empty.number(), None);
     let outside = Repository::open("/").unwrap_err();
     assert!(matches!(&outside, Error::Git(said) if said.contains("not a git repository")), "{outside}");
+}
 
-    let dir = folder("library-sha256");
-    fs::create_dir_all(&dir).unwrap();
-    let sha256 = repositories::Repository { dir };
-    sha256.git("init -q --object-format=sha256 .");
-    assert_eq!(Repository::open(&sha256.dir).unwrap_err(), Error::Sha256);
+#[test]
+fn a_repository_with_sha_256() {
+    if !has_git() {
+        return;
+    }
+    let Some(empty) = repositories::Repository::of_format("library-sha256", "sha256") else { return };
+    let sample = repositories::history_in(empty);
+    let repository = Repository::open(&sample.dir).unwrap();
+    assert_eq!(repository.kind(), Kind::Sha256);
+    let read = repository.read(["main", "^old"]).unwrap();
+    assert_eq!(ids(read.list().unwrap()), sample.git("rev-list main ^old"));
+    assert_eq!(check_names_in(Kind::Sha256, read.store(), read.graph()), Ok(()));
+    assert!(entries(read.store()).all(|(id, body)| id.kind() == Kind::Sha256 && parents_in(Kind::Sha256, body).count() <= 4));
+    let lister = Lister::new(read.store()).tips(read.tips());
+    assert_eq!((lister.list().unwrap().count(), lister.feed_report().unwrap().neither), (35, 35));
 }
 
 /// A bare clone, a worktree and a shallow clone.

@@ -64,8 +64,12 @@ fn times_that_run_backwards() {
 
 #[test]
 fn ids_that_differ_in_their_last_byte() {
-    let (mut small, mut great) = (id(9), id(9));
-    (small.0[19], great.0[19]) = (1, 200);
+    let ending = |last| {
+        let mut bytes = [9; 20];
+        bytes[19] = last;
+        ObjectId(bytes)
+    };
+    let (small, great) = (ending(1), ending(200));
     let tips = [(id(1), body(9, &[great, small])), (id(2), body(9, &[small, great]))];
     let store = store_from_commits(tips.into_iter().chain([(great, body(7, &[])), (small, body(7, &[]))])).unwrap();
     assert_eq!(merge_base(&store, id(1), id(2)), Ok(Some(small)));

@@ -74,8 +74,9 @@ fn each_body_under_its_neighbours_id() {
 #[test]
 fn each_id_a_bit_off() {
     for k in 0..ENTRIES {
-        let mut other = id(k);
-        other.0[19] ^= 4;
+        let mut bytes = <[u8; 20]>::try_from(id(k).as_bytes()).unwrap();
+        bytes[19] ^= 4;
+        let other = ObjectId(bytes);
         let store = store_from_commits((0..ENTRIES).map(|n| (if n == k { other } else { id(n) }, body(n)))).unwrap();
         assert_eq!(check_names(&store, GRAPH), fault(Refusal::FalseName, k));
     }

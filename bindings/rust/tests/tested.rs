@@ -22,7 +22,7 @@ fn store(commits: &[(u8, i64, &[u8])]) -> Vec<u8> {
 }
 
 fn tried(lister: Lister<'_>) -> Result<Vec<u8>, Refusal> {
-    lister.open_tested().map(|walk| walk.map(|commit| commit.expect("no refusal after a tested opening").id.0[0]).collect())
+    lister.open_tested().map(|walk| walk.map(|commit| commit.expect("no refusal after a tested opening").id.as_bytes()[0]).collect())
 }
 
 fn from(store: &[u8], tip: u8) -> Result<Vec<u8>, Refusal> {

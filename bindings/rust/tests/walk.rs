@@ -27,7 +27,7 @@ fn sample() -> Vec<u8> {
 }
 
 fn listed(lister: Lister<'_>) -> Vec<u8> {
-    lister.open().unwrap().map(|commit| commit.unwrap().id.0[0]).collect()
+    lister.open().unwrap().map(|commit| commit.unwrap().id.as_bytes()[0]).collect()
 }
 
 #[test]

@@ -8,13 +8,15 @@ use native.Mathlib.Omega.{arith}
 use lib.ListN.{length, take, drop, getD}
 use lib.Seq.{length-take-le, take-suc, take-all, getD-take}
 use lib.IntN.{ℤ}
-use Rattle.hash.specs.Bytes.{Id, idBytes, at, setDown}
+use Rattle.hash.proofs.Widths.{width-most, in-all}
+use Rattle.hash.specs.Bytes.{Id, at, setDown, widthOf}
 use Rattle.hash.proofs.Tests.{byCases, clash}
 use Rattle.object.specs.declared.ObjectId.{ObjectId}
 use Rattle.object.specs.Ids.{idIn}
 use Rattle.object.specs.Header.{Header, header, most}
 use Rattle.object.proofs.Headers.{header-lines, parent-width}
 use Rattle.odb.specs.Store.{storeOk}
+use Rattle.walk.specs.Opening.{parentsRoom}
 use Rattle.walk.specs.declared.Settings.{Settings}
 use Rattle.walk.specs.declared.Refusal.the-variants.{CommitUnreadable, TooManyParents}
 use Rattle.walk.specs.Settings.{onlyFirst, followed}
@@ -35,8 +37,8 @@ use Rattle.links.specs.Visits.{VisitsAll, VisitsEach}
 use Rattle.links.proofs.Visits.{map-snoc, each-none, each-next}
 use Rattle.bodyvisit.specs.Body.{stored, Stand, VisitsBodyParent, VisitsParents, VisitsBody}
 
-good-tree : (d : List ℕ) (k : ℕ) → k < length (header idBytes d .ids) → header idBytes d .tree ≡ true
-good-tree d k h = byCases (header idBytes d .tree) (λ g. g) (λ g. absurd (omega (arith, h, ap length (no-ids idBytes d g))))
+good-tree : (width : ℕ) (d : List ℕ) (k : ℕ) → k < length (header width d .ids) → header width d .tree ≡ true
+good-tree width d k h = byCases (header width d .tree) (λ g. g) (λ g. absurd (omega (arith, h, ap length (no-ids width d g))))
 
 -- the walk's own list of the parents with their seconds
 pub seconds-stored : (v : Walk) (l : List Id) → withSeconds v l ≡ stored (v .world) l
@@ -47,21 +49,22 @@ seconds-stored v (x ∷ l) = ap (λ (r : List (Id × ℤ)). (x, secondsFor (v .w
 -- ---- the ids that were set down
 
 -- where the ids of a header stand end to end
-module _ (d : List ℕ) (n : ℕ) (few : n ≤ length (header idBytes d .ids)) where
-  wide : Wide idBytes (take n (header idBytes d .ids))
+module _ (width : ℕ) (d : List ℕ) (n : ℕ) (few : n ≤ length (header width d .ids)) where
+  wide : Wide width (take n (header width d .ids))
   wide k h =
-      let l : k < length (header idBytes d .ids) = omega (arith, h, length-take-le n (header idBytes d .ids) few, few) in
-      ap length (getD-take n (header idBytes d .ids) k [] (omega (arith, h, length-take-le n (header idBytes d .ids) few))) ∙ parent-width idBytes d (good-tree d k l) k l
+      let l : k < length (header width d .ids) = omega (arith, h, length-take-le n (header width d .ids) few, few) in
+      ap length (getD-take n (header width d .ids) k [] (omega (arith, h, length-take-le n (header width d .ids) few))) ∙ parent-width width d (good-tree width d k l) k l
 
-  pub ids-stand : (b b′ : List ℕ) → length b′ ≡ length b → (5120 ≤ length b → b′ ≡ setDown b 0 (joined (take n (header idBytes d .ids)))) → Stand (header idBytes d) n b′
+  pub ids-stand : (b b′ : List ℕ) → length b′ ≡ length b → (parentsRoom width ≤ length b → b′ ≡ setDown b 0 (joined (take n (header width d .ids)))) → Stand width (header width d) n b′
   ids-stand b b′ same down = record {
     each = λ room k h.
-        let l : List Id = take n (header idBytes d .ids) in
-        let m : length l ≡ n = length-take-le n (header idBytes d .ids) few in
-        let long : length (joined l) ≤ length b = omega (arith, joined-length idBytes l wide, m, few, header-few d, room, same) in
-        ap (λ (c : List ℕ). at c (idBytes * k) idBytes) (down (omega (arith, room, same)) ∙ set-down-start b (joined l) long)
-        ∙ joined-at idBytes l (drop (length (joined l)) b) k wide (omega (arith, m, h))
-        ∙ getD-take n (header idBytes d .ids) k [] h;
+        let l : List Id = take n (header width d .ids) in
+        let m : length l ≡ n = length-take-le n (header width d .ids) few in
+        let fewer : n ≤ most = omega (arith, few, header-few width d) in
+        let long : length (joined l) ≤ length b = omega (arith, joined-length width l wide, ap (λ (q : ℕ). width * q) m, in-all width fewer, room, same) in
+        ap (λ (c : List ℕ). at c (width * k) width) (down (omega (arith, room, same)) ∙ set-down-start b (joined l) long)
+        ∙ joined-at width l (drop (length (joined l)) b) k wide (omega (arith, m, h))
+        ∙ getD-take n (header width d .ids) k [] h;
   }
 
 -- ---- the visits
@@ -69,48 +72,56 @@ module _ (d : List ℕ) (n : ℕ) (few : n ≤ length (header idBytes d .ids)) w
 -- parent k of the body d is y
 module _ {excluded : List ℕ} {settings : Settings} {store d b : List ℕ} {k : ℕ} {r r′ : Record} {m m′ : Memory} {y : Id} (v : VisitsStored excluded settings store r m m′ y r′) where
   -- read again from its line
-  pub line-parent : {i : ObjectId} → i .bytes ≡ parentIdAt d k → y ≡ idIn idBytes (i .bytes) → VisitsBodyParent excluded settings store d b k r m m′ r′
+  pub line-parent : {i : ObjectId} → i .bytes ≡ parentIdAt (widthOf (settings .kind)) d k → y ≡ idIn (widthOf (settings .kind)) (i .bytes) → VisitsBodyParent excluded settings store d b k r m m′ r′
   line-parent {i} e is = record {
     right = λ ok g t n few s h.
-        let there : k < length (header idBytes d .ids) = omega (arith, h, few) in
-        subst (λ (x : Id). Visits excluded settings r m m′ x (secondsFor (worldOf store g) x) r′) (is ∙ ap (idIn idBytes) e ∙ parent-right d k t there) (v .right ok g);
+        let there : k < length (header (widthOf (settings .kind)) d .ids) = omega (arith, h, few) in
+        subst (λ (x : Id). Visits excluded settings r m m′ x (secondsFor (worldOf (widthOf (settings .kind)) store g) x) r′) (is ∙ ap (idIn (widthOf (settings .kind))) e ∙ parent-right (widthOf (settings .kind)) (width-most (settings .kind)) d k t there) (v .right ok g);
   }
 
   -- as it stands in b
-  pub down-parent : 5120 ≤ length b → y ≡ at b (idBytes * k) idBytes → VisitsBodyParent excluded settings store d b k r m m′ r′
+  pub down-parent : parentsRoom (widthOf (settings .kind)) ≤ length b → y ≡ at b (widthOf (settings .kind) * k) (widthOf (settings .kind)) → VisitsBodyParent excluded settings store d b k r m m′ r′
   down-parent room is = record {
-    right = λ ok g t n few s h. subst (λ (x : Id). Visits excluded settings r m m′ x (secondsFor (worldOf store g) x) r′) (is ∙ s .each room k h) (v .right ok g);
+    right = λ ok g t n few s h. subst (λ (x : Id). Visits excluded settings r m m′ x (secondsFor (worldOf (widthOf (settings .kind)) store g) x) r′) (is ∙ s .each room k h) (v .right ok g);
   }
 
 -- after k of the n parents of the body d that stand in b
 pub record BodyRun (excluded : List ℕ) (settings : Settings) (store d b : List ℕ) (n k : ℕ) (r : Record) (m m′ : Memory) (r′ : Record) : Type 0 where
   pub few : k ≤ n
-  pub right : storeOk idBytes store ≡ true → (g : List ℕ) → n ≤ length (header idBytes d .ids) → Stand (header idBytes d) n b → VisitsEach excluded settings r m m′ (stored (worldOf store g) (take k (header idBytes d .ids))) r′
+  pub right : storeOk (widthOf (settings .kind)) store ≡ true → (g : List ℕ) → n ≤ length (header (widthOf (settings .kind)) d .ids) → Stand (widthOf (settings .kind)) (header (widthOf (settings .kind)) d) n b → VisitsEach excluded settings r m m′ (stored (worldOf (widthOf (settings .kind)) store g) (take k (header (widthOf (settings .kind)) d .ids))) r′
 
 module _ {excluded : List ℕ} {settings : Settings} {store d b : List ℕ} {n : ℕ} {r : Record} {m : Memory} where
   pub body-start : BodyRun excluded settings store d b n 0 r m m r
   body-start = record { few = omega arith; right = λ ok g h s. each-none }
+
+  -- from a record that is the same
+  pub body-from : {r′ : Record} → r′ ≡ r → BodyRun excluded settings store d b n 0 r m m r′
+  body-from e = subst (λ (z : Record). BodyRun excluded settings store d b n 0 r m m z) (sym e) body-start
 
   pub body-next : {k : ℕ} {r′ r″ : Record} {m′ m″ : Memory} → BodyRun excluded settings store d b n k r m m′ r′ → k < n → VisitsBodyParent excluded settings store d b k r′ m′ m″ r″
       → BodyRun excluded settings store d b n (k + 1) r m m″ r″
   body-next {k} {r′} {r″} {m′} {m″} run less one = record {
     few = omega (arith, less);
     right = λ ok g h s.
-        let l : List Id = header idBytes d .ids in
-        let w : World = worldOf store g in
+        let l : List Id = header (widthOf (settings .kind)) d .ids in
+        let w : World = worldOf (widthOf (settings .kind)) store g in
         let i : k < length l = omega (arith, h, less) in
         let j : k + 1 ≡ suc k = omega arith in
-        let t = good-tree d k i in
+        let t = good-tree (widthOf (settings .kind)) d k i in
         let e : stored w (take (k + 1) l) ≡ stored w (take k l) ++ ((getD l k [], secondsFor w (getD l k [])) ∷ []) =
         ap (λ (q : ℕ). stored w (take q l)) j ∙ ap (stored w) (take-suc l k [] i) ∙ map-snoc (λ (x : Id). (x, secondsFor w x)) (take k l) (getD l k []) in
         subst (λ (ps : List (Id × ℤ)). VisitsEach excluded settings r m m″ ps r″) (sym e)
-        (each-next (getD l k [], secondsFor w (getD l k [])) (parent-width idBytes d t k i) (run .right ok g h s) (one .right ok g t n h s less));
+        (each-next (getD l k [], secondsFor w (getD l k [])) (parent-width (widthOf (settings .kind)) d t k i) (run .right ok g h s) (one .right ok g t n h s less));
   }
 
   pub body-done : {k : ℕ} {r′ : Record} {m′ : Memory} → BodyRun excluded settings store d b n k r m m′ r′ → n ≤ k → VisitsParents excluded settings store d b n r m m′ r′
   body-done {k} {r′} {m′} run e =
       let q : k ≡ n = omega (arith, run .few, e) in
-      record { right = λ ok g h s. subst (λ (j : ℕ). VisitsEach excluded settings r m m′ (stored (worldOf store g) (take j (header idBytes d .ids))) r′) q (run .right ok g h s) }
+      record { right = λ ok g h s. subst (λ (j : ℕ). VisitsEach excluded settings r m m′ (stored (worldOf (widthOf (settings .kind)) store g) (take j (header (widthOf (settings .kind)) d .ids))) r′) q (run .right ok g h s) }
+
+-- to a record that is the same
+pub body-to : {excluded : List ℕ} {settings : Settings} {store d b : List ℕ} {n : ℕ} {r r′ r″ : Record} {m m′ : Memory} → r″ ≡ r′ → VisitsParents excluded settings store d b n r m m′ r′ → VisitsParents excluded settings store d b n r m m′ r″
+body-to {excluded} {settings} {store} {d} {b} {n} {r} {r′} {r″} {m} {m′} e v = subst (λ (z : Record). VisitsParents excluded settings store d b n r m m′ z) (sym e) v
 
 -- ---- what the mode follows
 
@@ -134,15 +145,15 @@ crowded-end h k = go (h .crowded) (h .author) refl refl
     go false false c d = let q : refusalOf (endOf h) ≡ some CommitUnreadable = rw (c, d) in let z : _≡_ {A = ℕ} 0 1 = cc in absurd (omega arith)
 
 -- a header is refused for its parents after 256 of them: under First the reading stops after one
-pub crowded-followed : (s : Settings) (d : List ℕ) → ending s (header idBytes d) ≡ some TooManyParents → length (followed s (header idBytes d .ids)) ≡ most
+pub crowded-followed : (s : Settings) (d : List ℕ) → ending s (header (widthOf (s .kind)) d) ≡ some TooManyParents → length (followed s (header (widthOf (s .kind)) d .ids)) ≡ most
 unfolding isEmpty
 crowded-followed s d e = byCases (h .tree) good (λ t. let k = sym (ending-tree s h t) ∙ e in let z : _≡_ {A = ℕ} 0 1 = cc in absurd (omega arith))
   where
     h : Header
-    h = header idBytes d
+    h = header (widthOf (s .kind)) d
 
     full : h .tree ≡ true → (onlyFirst s && not (isEmpty (h .ids))) ≡ false → length (h .ids) ≡ most
-    full t f = header-lines idBytes d t .full (crowded-end h (sym (ending-read s h t f) ∙ e))
+    full t f = header-lines (widthOf (s .kind)) d t .full (crowded-end h (sym (ending-read s h t f) ∙ e))
 
     all : h .tree ≡ true → (b : Bool) → onlyFirst s ≡ b → (l : List Id) → h .ids ≡ l → (onlyFirst s && not (isEmpty (h .ids))) ≡ false → length (followed s (h .ids)) ≡ most
     all t false o l i f = ap length (followed-all s (h .ids) o) ∙ full t f
@@ -159,20 +170,20 @@ stored-ids w [] = refl
 stored-ids w (x ∷ l) = ap (λ (r : List Id). x ∷ r) (stored-ids w l)
 
 pub body-visited : {excluded : List ℕ} {settings : Settings} {store d : List ℕ} {r r′ : Record} {m m′ : Memory} {b b′ : List ℕ} {first : Bool} {a : BodyRead} → onlyFirst settings ≡ first
-    → length b′ ≡ length b → ReadsBody idBytes first (header idBytes d) b b′ a → VisitsParents excluded settings store d b′ (a .parents) r m m′ r′
-    → VisitsBody excluded settings store (header idBytes d) r m m′ b b′ (record { after = r′; parents = a .parents; ends = a .ends })
+    → length b′ ≡ length b → ReadsBody (widthOf (settings .kind)) first (header (widthOf (settings .kind)) d) b b′ a → VisitsParents excluded settings store d b′ (a .parents) r m m′ r′
+    → VisitsBody excluded settings store (header (widthOf (settings .kind)) d) r m m′ b b′ (record { after = r′; parents = a .parents; ends = a .ends })
 body-visited {excluded} {settings} {store} {d} {r} {r′} {m} {m′} {b} {b′} {first} {a} o same e v = record {
   parents = e .parents settings o;
   ends = e .ends settings o;
-  right = λ ok g. subst (λ (k : List Id). VisitsAll excluded settings r m m′ b b′ (stored (worldOf store g) k) r′) taken (record {
-    went = v .right ok g few (ids-stand d (a .parents) few b b′ same (e .down)) .went;
-    down = λ room. e .down room ∙ ap (λ (k : List Id). setDown b 0 (joined k)) (sym (stored-ids (worldOf store g) (take (a .parents) (header idBytes d .ids))));
+  right = λ ok g. subst (λ (k : List Id). VisitsAll excluded settings r m m′ b b′ (stored (worldOf (widthOf (settings .kind)) store g) k) r′) taken (record {
+    went = v .right ok g few (ids-stand (widthOf (settings .kind)) d (a .parents) few b b′ same (λ h. e .down (omega (arith, h)))) .went;
+    down = λ room. e .down (omega (arith, room)) ∙ ap (λ (k : List Id). setDown b 0 (joined k)) (sym (stored-ids (worldOf (widthOf (settings .kind)) store g) (take (a .parents) (header (widthOf (settings .kind)) d .ids))));
   });
   past = record { same = e .past };
 }
   where
-    few : a .parents ≤ length (header idBytes d .ids)
-    few = omega (arith, e .parents settings o, followed-take settings (header idBytes d .ids) .1)
+    few : a .parents ≤ length (header (widthOf (settings .kind)) d .ids)
+    few = omega (arith, e .parents settings o, followed-take settings (header (widthOf (settings .kind)) d .ids) .1)
 
-    taken : take (a .parents) (header idBytes d .ids) ≡ followed settings (header idBytes d .ids)
-    taken = ap (λ (j : ℕ). take j (header idBytes d .ids)) (e .parents settings o) ∙ followed-take settings (header idBytes d .ids) .0
+    taken : take (a .parents) (header (widthOf (settings .kind)) d .ids) ≡ followed settings (header (widthOf (settings .kind)) d .ids)
+    taken = ap (λ (j : ℕ). take j (header (widthOf (settings .kind)) d .ids)) (e .parents settings o) ∙ followed-take settings (header (widthOf (settings .kind)) d .ids) .0

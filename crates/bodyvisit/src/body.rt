@@ -4,11 +4,15 @@ use links::insert_into_seen_and_queue_stored;
 use links::only_first;
 use reading::BodyEnd;
 use state::Record;
+use state::Waiting;
 use walk::Settings;
 ghost use Rattle.object.specs.Header.{header};
+ghost use Rattle.state.specs.Shapes.{waitingIn};
 ghost use Rattle.state.specs.Steps.{mem};
 ghost use Rattle.bodyvisit.specs.Body.{VisitsBodyParent, VisitsParents, VisitsBody};
-ghost use Rattle.hash.specs.Bytes.{idBytes};
+ghost use Rattle.hash.specs.Bytes.{widthOf};
+ghost use mathlib.Core.Path.{_≡_};
+ghost use Rattle.walk.specs.Opening.{parentsRoom};
 
 // The parents of a body that were visited, how many they are, and how its reading ended.
 pub struct BodyVisited {
@@ -17,13 +21,21 @@ pub struct BodyVisited {
     pub ends: BodyEnd,
 }
 
+// The most parents of a readable commit.
+const MOST_PARENTS: usize = 256;
+
 // The bytes of as many ids as a commit may have parents.
-const PARENTS_ROOM: usize = 5120;
+fn parents_room(kind: Kind) -> usize
+    ensures { λ r. ⌜ r ≡ parentsRoom (widthOf kind) ⌝ }
+{
+    MOST_PARENTS * hash::width(kind)
+}
 
 // Visits parent k of a body whose ids were set down: its id goes from its place in `parents`, where that has room for as many as may be; else its line
 // is read again.
 fn visit_body_parent(
     r: Record,
+    w: Waiting,
     store: &[u8],
     body: &[u8],
     k: usize,
@@ -35,13 +47,15 @@ fn visit_body_parent(
     parents: &[u8],
     excluded: &[u8],
     settings: Settings,
-) -> Record
-    ensures { λ a. ⌜ VisitsBodyParent (now (excluded .entry)) settings (now (store .entry)) (now (body .entry)) (now (parents .entry)) k r (mem (now (names .entry)) (now (marks .entry)) (now (times .entry)) (now (line .entry))) (mem (now (names .exit)) (now (marks .exit)) (now (times .exit)) (now (line .exit))) a ⌝ }
+) -> Waiting
+    ensures { λ a. ⌜ VisitsBodyParent (now (excluded .entry)) settings (now (store .entry)) (now (body .entry)) (now (parents .entry)) k (waitingIn r w) (mem (now (names .entry)) (now (marks .entry)) (now (times .entry)) (now (line .entry))) (mem (now (names .exit)) (now (marks .exit)) (now (times .exit)) (now (line .exit))) (waitingIn r a) ⌝ }
 {
-    if parents.len() < PARENTS_ROOM {
-        let id = reading::body_parent(body, k);
+    let kind = settings.kind;
+    if parents.len() < parents_room(kind) {
+        let id = reading::body_parent(kind, body, k);
         return insert_into_seen_and_queue_stored(
             r,
+            w,
             names,
             marks,
             levels,
@@ -50,11 +64,12 @@ fn visit_body_parent(
             excluded,
             settings,
             store,
-            object::id_slice(Kind::Sha1, &id.bytes),
+            object::id_slice(kind, &id.bytes),
         );
     }
     insert_into_seen_and_queue_stored(
         r,
+        w,
         names,
         marks,
         levels,
@@ -63,7 +78,7 @@ fn visit_body_parent(
         excluded,
         settings,
         store,
-        hash::nth(Kind::Sha1, parents, k),
+        hash::nth(kind, parents, k),
     )
 }
 
@@ -81,13 +96,14 @@ fn visit_parents(
     parents: &[u8],
     excluded: &[u8],
     settings: Settings,
-) -> Record
-    ensures { λ a. ⌜ VisitsParents (now (excluded .entry)) settings (now (store .entry)) (now (body .entry)) (now (parents .entry)) n r (mem (now (names .entry)) (now (marks .entry)) (now (times .entry)) (now (line .entry))) (mem (now (names .exit)) (now (marks .exit)) (now (times .exit)) (now (line .exit))) a ⌝ }
+) -> Waiting
+    ensures { λ a. ⌜ VisitsParents (now (excluded .entry)) settings (now (store .entry)) (now (body .entry)) (now (parents .entry)) n r (mem (now (names .entry)) (now (marks .entry)) (now (times .entry)) (now (line .entry))) (mem (now (names .exit)) (now (marks .exit)) (now (times .exit)) (now (line .exit))) (waitingIn r a) ⌝ }
 {
-    let mut at = r;
+    let mut at = state::waiting_of(r);
     let mut k = 0;
     while k < n {
         at = visit_body_parent(
+            r,
             at,
             store,
             body,
@@ -120,9 +136,10 @@ pub fn visit_body(
     excluded: &[u8],
     settings: Settings,
 ) -> BodyVisited
-    ensures { λ a. ⌜ VisitsBody (now (excluded .entry)) settings (now (store .entry)) (header idBytes (now (body .entry))) r (mem (now (names .entry)) (now (marks .entry)) (now (times .entry)) (now (line .entry))) (mem (now (names .exit)) (now (marks .exit)) (now (times .exit)) (now (line .exit))) (now (parents .entry)) (now (parents .exit)) a ⌝ }
+    ensures { λ a. ⌜ VisitsBody (now (excluded .entry)) settings (now (store .entry)) (header (widthOf (settings .kind)) (now (body .entry))) r (mem (now (names .entry)) (now (marks .entry)) (now (times .entry)) (now (line .entry))) (mem (now (names .exit)) (now (marks .exit)) (now (times .exit)) (now (line .exit))) (now (parents .entry)) (now (parents .exit)) a ⌝ }
 {
-    let read = reading::read_body(Kind::Sha1, body, only_first(settings), parents);
+    let kind = settings.kind;
+    let read = reading::read_body(kind, body, only_first(settings), parents);
     let at = visit_parents(
         r,
         store,
@@ -139,7 +156,7 @@ pub fn visit_body(
     );
     let ends = read.ends;
     BodyVisited {
-        after: at,
+        after: state::with_waiting(r, at),
         parents: read.parents,
         ends,
     }

@@ -7,7 +7,7 @@ use hash::Kind;
 use object::Line;
 use object::ObjectId;
 use object::person;
-ghost use Prim.Native.Nat.{ℕ};
+ghost use Prim.Native.Nat.{ℕ, _+_, _*_, _<_, min};
 ghost use mathlib.Core.Path.{_≡_};
 ghost use lib.ListN.{drop};
 ghost use Rattle.hash.specs.Bytes.{widthOf};
@@ -25,6 +25,7 @@ ghost use Rattle.commititer.specs.Token.{
   tokenAt,
   afterToken,
   start,
+  last,
   parentsPlace,
   movedOn,
 };
@@ -285,25 +286,36 @@ pub fn is_done(place: Place) -> bool
 // The farthest place of a body.
 const LAST: usize = 18446744073709551615;
 
+// Where line k stands, of lines of this size that begin at `first`; the farthest place where that one is past it.
+fn line_place(first: usize, size: usize, k: usize) -> usize
+    requires { ⌜ 0 < size ⌝ }
+    ensures { λ r. ⌜ r ≡ min (first + size * k) last ⌝ }
+{
+    if (LAST - first) / size < k {
+        return LAST;
+    }
+    first + size * k
+}
+
 // The place after the tree line and k parent lines, where the next parent stands, or the author where there are no more; the farthest
-// place where that one is past it.
+// place where that one is past it. Each kind has a call of its own, so that the compiled code divides and multiplies by constants.
 pub fn parents_place(kind: Kind, k: usize) -> Place
     ensures { λ r. ⌜ r ≡ parentsPlace (widthOf kind) k ⌝ }
 {
     let at = match kind {
         Kind::Sha1 => {
-            if 384307168202282324 < k {
-                LAST
-            } else {
-                46 + 48 * k
-            }
+            line_place(
+                object::tree_size(Kind::Sha1),
+                object::parent_size(Kind::Sha1),
+                k,
+            )
         }
         Kind::Sha256 => {
-            if 256204778801521549 < k {
-                LAST
-            } else {
-                70 + 72 * k
-            }
+            line_place(
+                object::tree_size(Kind::Sha256),
+                object::parent_size(Kind::Sha256),
+                k,
+            )
         }
     };
     Place {

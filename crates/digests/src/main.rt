@@ -40,8 +40,8 @@ fn print_id(kind: Kind, body: &[u8]) {
 }
 
 // The check of a store and a graph file: the refusal's number, and the entry's.
-fn print_check(store: &[u8], graph: &[u8]) {
-    let r = fsck::check_names(store, graph);
+fn print_check(kind: Kind, store: &[u8], graph: &[u8]) {
+    let r = fsck::check_names(kind, store, graph);
     let o = r.outcome;
     io::print_decimal(STDOUT_FILENO, fsck::number(o) as u64);
     text(b" ");
@@ -49,13 +49,14 @@ fn print_check(store: &[u8], graph: &[u8]) {
     text(b"\n");
 }
 
-fn case(kind: u8, a: &[u8], b: &[u8]) {
-    match kind {
+fn case(asked: u8, a: &[u8], b: &[u8]) {
+    match asked {
         1 => print_digest(Kind::Sha1, a, b),
         2 => print_digest(Kind::Sha256, a, b),
         3 => print_id(Kind::Sha1, a),
         4 => print_id(Kind::Sha256, a),
-        _ => print_check(a, b),
+        5 => print_check(Kind::Sha1, a, b),
+        _ => print_check(Kind::Sha256, a, b),
     }
 }
 

@@ -5,14 +5,13 @@ use mathlib.Core.Bool.{true}
 use mathlib.Core.List.{List}
 use native.Mathlib.Omega.{arith}
 use lib.ListN.{length}
-use Rattle.hash.specs.Bytes.{idBytes}
 use Rattle.odb.specs.Store.{storeOk}
 use Rattle.walk.specs.declared.Refusal.{Refusal}
 use Rattle.walk.specs.declared.OpenOutcome.{OpenOutcome}
 use Rattle.walk.specs.declared.OpenOutcome.the-variants.{Accepted, NotOpened}
 use Rattle.walk.specs.declared.OpenAnswer.{OpenAnswer}
 use Rattle.walk.specs.State.{State}
-use Rattle.walk.specs.Opening.{Input, P, roomFor, Opening, closed, opened, openWalk}
+use Rattle.walk.specs.Opening.{Input, widthIn, P, roomFor, Opening, closed, opened, openWalk}
 use Rattle.walk.specs.Next.{Answer}
 use Rattle.walk.specs.Calls.{answers}
 use Rattle.walk.specs.Given.{openGiven}
@@ -76,14 +75,14 @@ module _ {i : Input} {m : Lent} {o : Opened} {m₁ : Lent} (s : OpenSays i m o m
   accepted-as st e = ap (λ (a : OpenAnswer). a .outcome) (s .answer ∙ ap openGiven e)
 
   -- what the calls need: they are few, and made only over a store whose layout is whole
-  pub may-call : {n : ℕ} {d₀ : Driven} → n ≡ mostCalls (o .answer .outcome) (o .record .queue .cap) → d₀ ≡ beforeCalls o → (n ≤ 1048578) × Few 0 (d₀ .tally) × (0 < n → storeOk idBytes (i .store) ≡ true)
+  pub may-call : {n : ℕ} {d₀ : Driven} → n ≡ mostCalls (o .answer .outcome) (o .record .queue .cap) → d₀ ≡ beforeCalls o → (n ≤ 1048578) × Few 0 (d₀ .tally) × (0 < n → storeOk (widthIn i) (i .store) ≡ true)
   may-call {n} {d₀} c b = (few (o .answer .outcome) c, subst (Few 0) (sym (ap (λ (q : Driven). q .tally) b)) none-few, λ h. good h (openWalk i (roomFor i (lengthsOf m))) refl)
     where
       few : (a : OpenOutcome) → n ≡ mostCalls a (o .record .queue .cap) → n ≤ 1048578
       few Accepted e = omega (arith, e, few-slots)
       few (NotOpened r) e = omega (arith, e)
 
-      good : 0 < n → (w : Opening) → openWalk i (roomFor i (lengthsOf m)) ≡ w → storeOk idBytes (i .store) ≡ true
+      good : 0 < n → (w : Opening) → openWalk i (roomFor i (lengthsOf m)) ≡ w → storeOk (widthIn i) (i .store) ≡ true
       good h (closed r) e = absurd (omega (arith, h, c ∙ ap (λ (x : OpenOutcome). mostCalls x (o .record .queue .cap)) (refused-as r e)))
       good h (opened st) e = passes i (opens i (roomFor i (lengthsOf m)) (sym (ap checkedBy e)) .accepted) .store-good
 
@@ -93,7 +92,7 @@ module _ {i : Input} {m : Lent} {o : Opened} {m₁ : Lent} (s : OpenSays i m o m
   unfolding parentsLeft
   made-none task embargoed terms st e ids counts = record {
     accepted = accepted-as st e;
-    held = sym (fold-none task embargoed terms (i .store) (holding noTally ids counts) i);
+    held = sym (fold-none (widthIn i) task embargoed terms (i .store) (holding noTally ids counts) i);
     parents = ap (λ (l : List Answer). parentsLeft l (m₁ .parents)) (sym (no-answers i));
     reads = s .accepted-open st e;
   }

@@ -11,7 +11,7 @@ use Rattle.hash.specs.Bytes.{Id, setDown}
 use Rattle.hash.proofs.Bytes.{setDown-fits, setDown-not}
 use Rattle.hashtable.proofs.TableIds.{less?}
 use Rattle.walk.specs.State.{State}
-use Rattle.walk.specs.Opening.{Input, walkOf, opened, openWalk}
+use Rattle.walk.specs.Opening.{Input, widthIn, walkOf, opened, openWalk}
 use Rattle.walk.specs.Next.{Kind, end, Answer, Step, step, next}
 use Rattle.walk.specs.Calls.{stateAfter, answerOn, answerAt, answers}
 use Rattle.walk.specs.AnyInput.{handedBy, handedIds}
@@ -35,10 +35,10 @@ set-down-nothing b i =
     (less? (length b) (i + 0))
 
 -- no task makes anything of the end
-step-end : (task : Task) (embargoed terms s : List ℕ) (h : Held) → stepped task embargoed terms s h end ≡ h
-step-end Ids embargoed terms s h = refl
-step-end Feed embargoed terms s h = refl
-step-end Terms embargoed terms s h = refl
+step-end : (w : ℕ) (task : Task) (embargoed terms s : List ℕ) (h : Held) → stepped w task embargoed terms s h end ≡ h
+step-end w Ids embargoed terms s h = refl
+step-end w Feed embargoed terms s h = refl
+step-end w Terms embargoed terms s h = refl
 
 module _ (i : Input) (st : State) (e : openWalk i true ≡ opened st) where
   -- the answer of call k is that of the walk's next step
@@ -65,8 +65,8 @@ module _ (i : Input) (st : State) (e : openWalk i true ≡ opened st) where
   handed-same k h =
       ap handedIds (answers-more i k) ∙ handed-more (answers i k) (answerAt i k) ∙ ap (λ (q : Kind). handedIds (answers i k) ++ handedBy q) h ∙ append-nil (handedIds (answers i k))
 
-  held-same : (task : Task) (embargoed terms s : List ℕ) (q : Held) (k : ℕ) → answerAt i k .kind ≡ end → folded task embargoed terms s q (answers i (suc k)) ≡ folded task embargoed terms s q (answers i k)
-  held-same task embargoed terms s q k h = fold-call task embargoed terms s q i k ∙ ap (stepped task embargoed terms s (folded task embargoed terms s q (answers i k))) h ∙ step-end task embargoed terms s (folded task embargoed terms s q (answers i k))
+  held-same : (task : Task) (embargoed terms s : List ℕ) (q : Held) (k : ℕ) → answerAt i k .kind ≡ end → folded (widthIn i) task embargoed terms s q (answers i (suc k)) ≡ folded (widthIn i) task embargoed terms s q (answers i k)
+  held-same task embargoed terms s q k h = fold-call (widthIn i) task embargoed terms s q i k ∙ ap (stepped (widthIn i) task embargoed terms s (folded (widthIn i) task embargoed terms s q (answers i k))) h ∙ step-end (widthIn i) task embargoed terms s (folded (widthIn i) task embargoed terms s q (answers i k))
 
   parents-same : (k : ℕ) (b : List ℕ) → answerAt i k .parents ≡ [] → parentsLeft (answers i (suc k)) b ≡ parentsLeft (answers i k) b
   unfolding parentsGiven joined

@@ -36,15 +36,15 @@ unfolding parentsLeft
 parents-more [] a b = refl
 parents-more (c ∷ l) a b = parents-more l a (parentsGiven c b)
 
-folded-more : (task : Task) (embargoed terms s : List ℕ) (h : Held) (l : List Answer) (a : Answer) → folded task embargoed terms s h (l ++ (a ∷ [])) ≡ stepped task embargoed terms s (folded task embargoed terms s h l) (a .kind)
+folded-more : (w : ℕ) (task : Task) (embargoed terms s : List ℕ) (h : Held) (l : List Answer) (a : Answer) → folded w task embargoed terms s h (l ++ (a ∷ [])) ≡ stepped w task embargoed terms s (folded w task embargoed terms s h l) (a .kind)
 unfolding folded
-folded-more task embargoed terms s h [] a = refl
-folded-more task embargoed terms s h (b ∷ l) a = folded-more task embargoed terms s (stepped task embargoed terms s h (b .kind)) l a
+folded-more w task embargoed terms s h [] a = refl
+folded-more w task embargoed terms s h (b ∷ l) a = folded-more w task embargoed terms s (stepped w task embargoed terms s h (b .kind)) l a
 
 -- the step over the answers to a call more
-pub fold-call : (task : Task) (embargoed terms s : List ℕ) (h : Held) (i : Input) (k : ℕ) → folded task embargoed terms s h (answers i (suc k)) ≡ stepped task embargoed terms s (folded task embargoed terms s h (answers i k)) (answerAt i k .kind)
-fold-call task embargoed terms s h i k = ap (folded task embargoed terms s h) (answers-more i k) ∙ folded-more task embargoed terms s h (answers i k) (answerAt i k)
+pub fold-call : (w : ℕ) (task : Task) (embargoed terms s : List ℕ) (h : Held) (i : Input) (k : ℕ) → folded w task embargoed terms s h (answers i (suc k)) ≡ stepped w task embargoed terms s (folded w task embargoed terms s h (answers i k)) (answerAt i k .kind)
+fold-call w task embargoed terms s h i k = ap (folded w task embargoed terms s h) (answers-more i k) ∙ folded-more w task embargoed terms s h (answers i k) (answerAt i k)
 
-pub fold-none : (task : Task) (embargoed terms s : List ℕ) (h : Held) (i : Input) → folded task embargoed terms s h (answers i 0) ≡ h
+pub fold-none : (w : ℕ) (task : Task) (embargoed terms s : List ℕ) (h : Held) (i : Input) → folded w task embargoed terms s h (answers i 0) ≡ h
 unfolding folded
-fold-none task embargoed terms s h i = ap (folded task embargoed terms s h) (no-answers i)
+fold-none w task embargoed terms s h i = ap (folded w task embargoed terms s h) (no-answers i)

@@ -7,13 +7,14 @@ use mathlib.Core.Bool.{Bool, true, false, cond}
 use mathlib.Core.List.{List}
 use native.Mathlib.Omega.{arith}
 use lib.ListN.{length}
-use Rattle.hash.specs.Bytes.{Id, idBytes}
+use Rattle.hash.specs.Bytes.{Id, widthOf}
+use Rattle.object.specs.Ids.{idIn}
 use Rattle.hash.proofs.Bytes.{length-setDown}
 use Rattle.hash.proofs.Tests.{clash}
 use Rattle.walk.specs.declared.Outcome.{Outcome}
 use Rattle.walk.specs.declared.Outcome.the-variants.{Commit, End, Refused}
 use Rattle.walk.specs.State.{State}
-use Rattle.walk.specs.Opening.{Input, P, roomFor, opened, openWalk}
+use Rattle.walk.specs.Opening.{Input, widthIn, P, roomFor, opened, openWalk}
 use Rattle.walk.specs.Next.{Kind, end, refused, handed, Answer}
 use Rattle.walk.specs.Calls.{stateAfter, answerAt, answers}
 use Rattle.walk.specs.Given.{Given, given, outcomeOf, idOfKind, parentsGiven, callsAfter}
@@ -49,18 +50,18 @@ module _ {task : Task} {embargoed terms : List ℕ} {i : Input} {h₀ : Held} {b
 
   -- its answer is folded, and the tally is that of one call more
   made-next : {d′ : Driven} {m′ : Lent} {ids′ counts′ : List ℕ} {t : Tally} → m′ .parents ≡ parentsGiven (answerAt i k) (m .parents) → Reads (o .record) (m′ .memory) (shapeOf i) (stateAfter i (suc k))
-      → t ≡ stepOf task embargoed terms (i .store) (d .tally) (o .answer .outcome) (o .answer .info .id) → d′ ≡ wentOn d t (o .record)
-      → ids′ ≡ idsBy task ids (d .tally .commits) (o .answer .outcome) (o .answer .info .id)
-      → counts′ ≡ countsBy task terms (i .store) counts (o .answer .outcome) (o .answer .info .id) → Made task embargoed terms i h₀ b₀ (suc k) d′ m′ ids′ counts′
+      → t ≡ stepOf (widthIn i) task embargoed terms (i .store) (d .tally) (o .answer .outcome) (o .answer .info .id) → d′ ≡ wentOn d t (o .record)
+      → ids′ ≡ idsBy (widthIn i) task ids (d .tally .commits) (o .answer .outcome) (o .answer .info .id)
+      → counts′ ≡ countsBy (widthIn i) task terms (i .store) counts (o .answer .outcome) (o .answer .info .id) → Made task embargoed terms i h₀ b₀ (suc k) d′ m′ ids′ counts′
   made-next {d′} {m′} {ids′} {counts′} {t} p r q c w v =
       let s : List ℕ = i .store in
       let x : Kind = answerAt i k .kind in
-      let step : Outcome → Id → Held = λ u y. holding (stepOf task embargoed terms s (d .tally) u y) (idsBy task ids (d .tally .commits) u y) (countsBy task terms s counts u y) in
+      let step : Outcome → Id → Held = λ u y. holding (stepOf (widthIn i) task embargoed terms s (d .tally) u y) (idsBy (widthIn i) task ids (d .tally .commits) u y) (countsBy (widthIn i) task terms s counts u y) in
       let one : holding (d′ .tally) ids′ counts′ ≡ step (o .answer .outcome) (o .answer .info .id) = λ j. holding ((ap (λ (z : Driven). z .tally) c ∙ q) j) (w j) (v j) in
-      let two : step (o .answer .outcome) (o .answer .info .id) ≡ stepped task embargoed terms s (holding (d .tally) ids counts) x = λ j. step (says j) (names-id j) in
+      let two : step (o .answer .outcome) (o .answer .info .id) ≡ stepped (widthIn i) task embargoed terms s (holding (d .tally) ids counts) x = λ j. step (says j) (names-id j) in
       record {
         accepted = ap (λ (z : Driven). z .outcome) c ∙ a .accepted;
-        held = one ∙ two ∙ ap (λ (h : Held). stepped task embargoed terms s h x) (a .held) ∙ sym (fold-call task embargoed terms s h₀ i k);
+        held = one ∙ two ∙ ap (λ (h : Held). stepped (widthIn i) task embargoed terms s h x) (a .held) ∙ sym (fold-call (widthIn i) task embargoed terms s h₀ i k);
         parents =
             p
             ∙ ap (parentsGiven (answerAt i k)) (a .parents)
@@ -115,12 +116,12 @@ left-low task t n o h = go (halted task t)
     go true = omega arith
     go false = after-low n o h
 
-ids-long : (task : Task) (b : List ℕ) (n : ℕ) (o : Outcome) (x : Id) → length (idsBy task b n o x) ≡ length b
-ids-long tasks.Ids b n Commit x = length-setDown b (idBytes * n) x
-ids-long tasks.Ids b n End x = refl
-ids-long tasks.Ids b n (Refused r) x = refl
-ids-long tasks.Feed b n o x = refl
-ids-long tasks.Terms b n o x = refl
+ids-long : (w : ℕ) (task : Task) (b : List ℕ) (n : ℕ) (o : Outcome) (x : Id) → length (idsBy w task b n o x) ≡ length b
+ids-long w tasks.Ids b n Commit x = length-setDown b (w * n) (idIn w x)
+ids-long w tasks.Ids b n End x = refl
+ids-long w tasks.Ids b n (Refused r) x = refl
+ids-long w tasks.Feed b n o x = refl
+ids-long w tasks.Terms b n o x = refl
 
 -- call k is made: calls are left to P + 2, or it said end, or the task is done
 call-on : (i : Input) (k left : ℕ) (q : Kind) → answerAt i k .kind ≡ q → k + left ≡ P i + 2 → 0 < left
@@ -141,20 +142,20 @@ left-on task i t k left h g = go (halted task t) refl
 
 module _ {task : Task} {embargoed terms : List ℕ} {f : Files} {n : ℕ} {d₀ : Driven} {m₀ : Lent} {ids₀ counts₀ : List ℕ} {d : Driven} {m : Lent} {ids counts : List ℕ} {left : ℕ} (t : Turns task embargoed terms f n d₀ m₀ ids₀ counts₀ d m ids counts left) where
   pub turns-next : {d′ : Driven} {m′ : Lent} {ids′ counts′ : List ℕ} {left′ : ℕ} {y : Tally} (o : Out) → 0 < left → NextSays f (d .record) m o m′
-      → y ≡ stepOf task embargoed terms (f .store) (d .tally) (o .answer .outcome) (o .answer .info .id) → d′ ≡ wentOn d y (o .record)
-      → ids′ ≡ idsBy task ids (d .tally .commits) (o .answer .outcome) (o .answer .info .id)
-      → counts′ ≡ countsBy task terms (f .store) counts (o .answer .outcome) (o .answer .info .id) → left′ ≡ callsLeft task y left (o .answer .outcome)
+      → y ≡ stepOf (widthOf (f .settings .kind)) task embargoed terms (f .store) (d .tally) (o .answer .outcome) (o .answer .info .id) → d′ ≡ wentOn d y (o .record)
+      → ids′ ≡ idsBy (widthOf (f .settings .kind)) task ids (d .tally .commits) (o .answer .outcome) (o .answer .info .id)
+      → counts′ ≡ countsBy (widthOf (f .settings .kind)) task terms (f .store) counts (o .answer .outcome) (o .answer .info .id) → left′ ≡ callsLeft task y left (o .answer .outcome)
       → Turns task embargoed terms f n d₀ m₀ ids₀ counts₀ d′ m′ ids′ counts′ left′
   turns-next {d′} {m′} {ids′} {counts′} {left′} {y} o h s q c w x u =
       let a : Outcome = o .answer .outcome in
       record {
         spent = suc (t .spent);
         low = omega (arith, u, left-low task y left a h, t .low);
-        few = subst (Few (suc (t .spent))) (sym (ap (λ (z : Driven). z .tally) c ∙ q)) (few-step task embargoed terms (f .store) (t .spent) (d .tally) a (o .answer .info .id) (t .few));
-        few-in = subst (FewCounts (suc (t .spent))) (sym x) (few-counts task terms (f .store) (t .spent) counts a (o .answer .info .id) (t .few-in));
-        long-in = ap length x ∙ long-counts task terms (f .store) counts a (o .answer .info .id) ∙ t .long-in;
+        few = subst (Few (suc (t .spent))) (sym (ap (λ (z : Driven). z .tally) c ∙ q)) (few-step (widthOf (f .settings .kind)) task embargoed terms (f .store) (t .spent) (d .tally) a (o .answer .info .id) (t .few));
+        few-in = subst (FewCounts (suc (t .spent))) (sym x) (few-counts (widthOf (f .settings .kind)) task terms (f .store) (t .spent) counts a (o .answer .info .id) (t .few-in));
+        long-in = ap length x ∙ long-counts (widthOf (f .settings .kind)) task terms (f .store) counts a (o .answer .info .id) ∙ t .long-in;
         same-lengths = s .same-lengths ∙ t .same-lengths;
-        long-ids = ap length w ∙ ids-long task ids (d .tally .commits) a (o .answer .info .id) ∙ t .long-ids;
+        long-ids = ap length w ∙ ids-long (widthOf (f .settings .kind)) task ids (d .tally .commits) a (o .answer .info .id) ∙ t .long-ids;
         no-call = λ z. absurd (omega (arith, z, h, t .low));
         along = λ tips st e z h₀ b.
             let l = t .along tips st e z h₀ b in

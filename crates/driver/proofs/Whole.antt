@@ -1,4 +1,4 @@
--- The whole list of a walk: its ids have 20 bytes, are different and no more than P, and no further call adds to it, since call P + 2 says end at latest.
+-- The whole list of a walk: its ids are as wide as their kind says, different and no more than P, and no further call adds to it, since call P + 2 says end at latest.
 -- Assumes nothing.
 use mathlib.Core.Path.{_≡_, refl, _∙_, ap, subst}
 use mathlib.Core.Logic.{⊎-elim}
@@ -9,9 +9,9 @@ use mathlib.Core.List.{List, [], _∷_, List·Memᴰ·head, List·Memᴰ·tail, 
 use native.Mathlib.Omega.{arith}
 use lib.ListN.{length}
 use lib.Seq.{take-all}
-use Rattle.hash.specs.Bytes.{Id, idBytes}
+use Rattle.hash.specs.Bytes.{Id}
 use Rattle.walk.specs.State.{State}
-use Rattle.walk.specs.Opening.{Input, walkOf, listIds, refusal, P, opened, openWalk}
+use Rattle.walk.specs.Opening.{Input, widthIn, walkOf, listIds, refusal, P, opened, openWalk}
 use Rattle.walk.specs.Next.{end, Answer}
 use Rattle.walk.specs.Calls.{answers, answerAt}
 use Rattle.walk.specs.Reach.{Mem, NoDup}
@@ -30,9 +30,9 @@ use Rattle.traverse.proofs.Numbered.{ends-at, length-upTo, hands-ids}
 use Rattle.driver.specs.Walked.{allAnswers, wholeList}
 use Rattle.driver.proofs.Ended.{handed-same}
 
--- every id has 20 bytes
-abbrev pub Wide : List Id → Type 0
-Wide l = (x : Id) → Mem x l → length x ≡ idBytes
+-- every id is so wide
+abbrev pub Wide : ℕ → List Id → Type 0
+Wide w l = (x : Id) → Mem x l → length x ≡ w
 
 -- every id that is handed out is told by one of the answers
 told-in : (l : List Answer) (u : List Id) → ((a : Answer) → Mem a l → Tells u a) → (x : Id) → Mem x (handedIds l) → Mem x u
@@ -46,7 +46,7 @@ module _ (i : Input) (st : State) (e : openWalk i true ≡ opened st) where
   unfolding wholeList
   in-universe = told-in (allAnswers i) (universe i) (all-told i st e (P i + 2))
 
-  pub list-wide : Wide (wholeList i)
+  pub list-wide : Wide (widthIn i) (wholeList i)
   list-wide x m = universe-wide i (open-accepted i st e) x (in-universe x m)
 
   pub list-once : NoDup (wholeList i)
@@ -79,7 +79,7 @@ module _ (i : Input) (st : State) (e : openWalk i true ≡ opened st) where
 -- ---- under the premises
 
 -- it is the list of the third demand
-pub listed-whole : (i : Input) → refusal i ≡ none → Premises (walkOf i) (listIds (i .tips)) → (d : Delivers i) × (wholeList i ≡ d .list)
+pub listed-whole : (i : Input) → refusal i ≡ none → Premises (walkOf i) (listIds (widthIn i) (i .tips)) → (d : Delivers i) × (wholeList i ≡ d .list)
 unfolding Third wholeList
 listed-whole i e pre =
     let d = third i e pre in

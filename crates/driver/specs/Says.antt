@@ -8,7 +8,7 @@ use Rattle.walk.specs.declared.Refusal.{Refusal}
 use Rattle.walk.specs.declared.OpenOutcome.{OpenOutcome}
 use Rattle.walk.specs.declared.OpenOutcome.the-variants.{Accepted, NotOpened}
 use Rattle.walk.specs.State.{State}
-use Rattle.walk.specs.Opening.{Input, P, roomFor, openWalk, closed, opened}
+use Rattle.walk.specs.Opening.{Input, widthIn, P, roomFor, openWalk, closed, opened}
 use Rattle.walk.specs.Calls.{answers, stateAfter}
 use Rattle.state.specs.declared.Record.{Record}
 use Rattle.state.specs.Reads.{Reads, closedRecord}
@@ -30,7 +30,7 @@ driven outcome t r = record { outcome = outcome; tally = t; «record» = r }
 -- k calls of the walk are made and folded: the buffers were h₀'s and parents₀ before them
 pub record Made (task : Task) (embargoed terms : List ℕ) (i : Input) (h₀ : Held) (parents₀ : List ℕ) (k : ℕ) (d : Driven) (m : Lent) (ids counts : List ℕ) : Type 0 where
   pub accepted : d .outcome ≡ Accepted
-  pub held : holding (d .tally) ids counts ≡ folded task embargoed terms (i .store) h₀ (answers i k)
+  pub held : holding (d .tally) ids counts ≡ folded (widthIn i) task embargoed terms (i .store) h₀ (answers i k)
   pub parents : m .parents ≡ parentsLeft (answers i k) parents₀
   pub reads : Reads (d .record) (m .memory) (shapeOf i) (stateAfter i k)
 

@@ -9,7 +9,7 @@ use walk::Settings;
 ghost use mathlib.Core.Path.{_≡_};
 ghost use mathlib.Core.Bool.{true};
 ghost use Prim.Native.Nat.{_+_, _≤_, _<_};
-ghost use Rattle.hash.specs.Bytes.{idBytes};
+ghost use Rattle.hash.specs.Bytes.{widthOf};
 ghost use Rattle.odb.specs.Store.{storeOk};
 ghost use Rattle.opening.specs.Checks.{inputOf};
 ghost use Rattle.traverse.specs.Open.{lentOf};
@@ -92,7 +92,7 @@ fn call_all(
     terms: &[u32],
     counts: &mut [u64],
 ) -> Driven
-    requires { ⌜ (n ≤ 1048578) × Few 0 (first .tally) × (0 < n → storeOk idBytes (now store) ≡ true) × (goodTerms (now terms) ≡ true) × FewCounts 0 (now counts) ⌝ }
+    requires { ⌜ (n ≤ 1048578) × Few 0 (first .tally) × (0 < n → storeOk (widthOf (settings .kind)) (now store) ≡ true) × (goodTerms (now terms) ≡ true) × FewCounts 0 (now counts) ⌝ }
     ensures { λ d. ⌜ CallsAll task (now (embargoed .entry)) (now (terms .entry)) (filesLent (now (store .entry)) (now (graph .entry)) (now (hidden .entry)) (now (excluded .entry)) settings) n first (lentOf (now (names .entry)) (now (marks .entry)) (now (levels .entry)) (now (times .entry)) (now (line .entry)) (now (parents .entry))) (now (ids .entry)) (now (counts .entry)) d (lentOf (now (names .exit)) (now (marks .exit)) (now (levels .exit)) (now (times .exit)) (now (line .exit)) (now (parents .exit))) (now (ids .exit)) (now (counts .exit)) ⌝ }
 {
     let mut d = first;
@@ -117,7 +117,18 @@ fn call_all(
         let outcome = answer.outcome;
         let after = o.record;
         let had = d.tally;
-        let t = tally::fold(task, had, answer, store, ids, embargoed, terms, counts);
+        let kind = settings.kind;
+        let t = tally::fold(
+            kind,
+            task,
+            had,
+            answer,
+            store,
+            ids,
+            embargoed,
+            terms,
+            counts,
+        );
         d = went_on(d, t, after);
         left = tally::calls_left(task, t, left, outcome);
     }

@@ -3,11 +3,11 @@ use mathlib.Core.Path.{_≡_, refl, sym, ap, _∙_}
 use mathlib.Core.List.{List}
 use Prim.Native.Nat.{ℕ, _+_, _/_}
 use lib.ListN.{length, take}
-use Rattle.hash.specs.Bytes.{Id, idBytes, setDown}
+use Rattle.hash.specs.Bytes.{Id, setDown}
 use Rattle.walk.specs.declared.Refusal.{Refusal}
 use Rattle.walk.specs.declared.OpenOutcome.{OpenOutcome}
 use Rattle.walk.specs.declared.OpenOutcome.the-variants.{Accepted, NotOpened}
-use Rattle.walk.specs.Opening.{Input, roomFor, Opening, closed, opened, openWalk}
+use Rattle.walk.specs.Opening.{Input, widthIn, roomFor, Opening, closed, opened, openWalk}
 use Rattle.walk.specs.Next.{Answer}
 use Rattle.walk.specs.Calls.{answers, answerAt}
 use Rattle.walk.specs.AnyInput.{handedIds}
@@ -44,7 +44,7 @@ walk-gives i cs f = f
 
 -- ---- openings, calls and listings
 
-module _ (i : Input) (es : List Id) (a b : List ℕ) (d : DifferOnlyInFeed idBytes es a b) where
+module _ (i : Input) (es : List Id) (a b : List ℕ) (d : DifferOnlyInFeed (widthIn i) es a b) where
   pub open-same : (m n : Lent) → lengthsOf m ≡ lengthsOf n → openWalk (over i a) (roomFor (over i a) (lengthsOf m)) ≡ openWalk (over i b) (roomFor (over i b) (lengthsOf n))
   open-same m n e =
       same-walk i es a b d .opening (roomFor (over i a) (lengthsOf m))
@@ -102,5 +102,5 @@ module _ (i : Input) (es : List Id) (a b : List ℕ) (d : DifferOnlyInFeed idByt
             commits = x .commits ∙ ap length list-same ∙ sym (y .commits);
             refused = x .refused ∙ ap refusals all-same ∙ sym (y .refused);
             reason = x .reason ∙ ap firstRefusal all-same ∙ sym (y .reason);
-            set-down = x .set-down ∙ ap (λ (h : List Id). setDown ids 0 (joined (take (length ids / idBytes) h))) list-same ∙ sym (y .set-down);
+            set-down = x .set-down ∙ ap (λ (h : List Id). setDown ids 0 (joined (take (length ids / widthIn i) h))) list-same ∙ sym (y .set-down);
           }

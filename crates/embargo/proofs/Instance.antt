@@ -13,7 +13,7 @@ use Rattle.commitgraph.specs.Graph.{graphAll}
 use Rattle.walk.specs.Opening.{listIds}
 use Rattle.walk.specs.Calls.{walkAll}
 use Rattle.walk.specs.AnyInput.{handedBy, handedIds}
-use Rattle.walk.specs.Runs.{idFor}
+use Rattle.walk.specs.Runs.{idFor, idWide}
 use Rattle.tally.specs.Feeds.{feedAt, feedFor, feedsOver}
 use Rattle.driver.specs.Walked.{wholeList}
 use Rattle.reports.specs.declared.Reader.the-variants.{Shop, Outside}
@@ -39,12 +39,12 @@ two : entries before ≡ 2
 unfolding storeWith bytesAll storeAll
 two = refl
 
-first-is : among (idOf (entryIds idBytes before) 0) (listIds (idFor 1)) ≡ true
-unfolding storeWith idFor listIds bytesAll idListAll storeAll
+first-is : among (idOf (entryIds idBytes before) 0) (listIds idBytes (idFor 1)) ≡ true
+unfolding storeWith idWide listIds bytesAll idListAll storeAll
 first-is = refl
 
-second-is-not : among (idOf (entryIds idBytes before) 1) (listIds (idFor 1)) ≡ false
-unfolding storeWith idFor listIds bytesAll idListAll storeAll
+second-is-not : among (idOf (entryIds idBytes before) 1) (listIds idBytes (idFor 1)) ≡ false
+unfolding storeWith idWide listIds bytesAll idListAll storeAll
 second-is-not = refl
 
 second-same : body idBytes before 1 ≡ body idBytes after 1
@@ -58,17 +58,17 @@ first-fed = record {
   message = one-more (cone-line {s = 53 ∷ []} {t = 55 ∷ []} (other-digit refl refl no-more)) (one-more same-line no-lines);
 }
 
-differ : DifferOnlyInFeed idBytes (listIds (idFor 1)) before after
-unfolding storeWith idFor bytesAll idListAll headerAll storeAll
+differ : DifferOnlyInFeed idBytes (listIds idBytes (idFor 1)) before after
+unfolding storeWith idWide bytesAll idListAll headerAll storeAll
 differ = record {
   good = refl;
   same-length = refl;
   same-entries = refl;
   others = λ k h.
-      below-two (λ k. among (idOf (entryIds idBytes before) k) (listIds (idFor 1)) ≡ false → body idBytes before k ≡ body idBytes after k)
+      below-two (λ k. among (idOf (entryIds idBytes before) k) (listIds idBytes (idFor 1)) ≡ false → body idBytes before k ≡ body idBytes after k)
       (λ m. clash first-is m) (λ m. second-same) k (omega (arith, two, h));
   embargoed-ones = λ k h.
-      below-two (λ k. among (idOf (entryIds idBytes before) k) (listIds (idFor 1)) ≡ true → SameButFeed (body idBytes before k) (body idBytes after k))
+      below-two (λ k. among (idOf (entryIds idBytes before) k) (listIds idBytes (idFor 1)) ≡ true → SameButFeed (body idBytes before k) (body idBytes after k))
       (λ m. first-fed) (λ m. clash m second-is-not) k (omega (arith, two, h));
 }
 
@@ -78,11 +78,11 @@ abbrev cone : FeedReport → ℕ
 cone r = r .«cone_sum»
 
 shop-is : (feedReport Shop (idFor 1) (fedInput 53) ≡ coneAlone 5) × (feedReport Shop (idFor 1) (fedInput 55) ≡ coneAlone 7)
-unfolding fedInput idFor feedReport reportBy firstFault feedsOver feedFor feedAt wholeList handedIds handedBy bytesAll idListAll headerAll storeAll graphAll feedAll walkAll
+unfolding fedInput idWide feedReport reportBy firstFault feedsOver feedFor feedAt wholeList handedIds handedBy bytesAll idListAll headerAll storeAll graphAll feedAll walkAll
 shop-is = (refl, refl)
 
 outside-is : (feedReport Outside (idFor 1) (fedInput 53) ≡ neitherOf) × (feedReport Outside (idFor 1) (fedInput 55) ≡ neitherOf)
-unfolding fedInput idFor feedReport reportBy firstFault feedsOver feedFor feedAt wholeList handedIds handedBy bytesAll idListAll headerAll storeAll graphAll feedAll walkAll
+unfolding fedInput idWide feedReport reportBy firstFault feedsOver feedFor feedAt wholeList handedIds handedBy bytesAll idListAll headerAll storeAll graphAll feedAll walkAll
 outside-is = (refl, refl)
 
 pub one-digit : OneDigit

@@ -6,11 +6,11 @@ use mathlib.Core.List.{List, [], _++_}
 use Prim.Native.Nat.{ℕ, zero, suc, _≤_}
 use native.Mathlib.Omega.{arith}
 use lib.ListN.{length}
-use Rattle.hash.specs.Bytes.{Id, idBytes}
+use Rattle.hash.specs.Bytes.{Id}
 use Rattle.odb.specs.Store.{entries}
 use Rattle.walk.specs.declared.OpenOutcome.{OpenOutcome}
 use Rattle.walk.specs.declared.OpenOutcome.the-variants.{Accepted, NotOpened}
-use Rattle.walk.specs.Opening.{Input, listIds, roomFor}
+use Rattle.walk.specs.Opening.{Input, widthIn, listIds, roomFor}
 use Rattle.walk.specs.Universe.{parentsUpTo, storeParents}
 use Rattle.walk.specs.Given.{openGiven}
 use Rattle.reach.specs.Search.{noted, reachedFrom, reachList}
@@ -29,19 +29,19 @@ use Rattle.embargo.proofs.Worlds.{entry-same}
 use Rattle.embargo.proofs.Walks.{world-same, room-same, same-walk}
 use Rattle.embargo.proofs.Called.{shut-alike, calls-alike}
 
-module _ (i : Input) (es : List Id) (a b : List ℕ) (d : DifferOnlyInFeed idBytes es a b) where
+module _ (i : Input) (es : List Id) (a b : List ℕ) (d : DifferOnlyInFeed (widthIn i) es a b) where
   -- ---- what is reached
 
-  parents-same : (k : ℕ) → k ≤ entries a → parentsUpTo a k ≡ parentsUpTo b k
+  parents-same : (k : ℕ) → k ≤ entries a → parentsUpTo (widthIn i) a k ≡ parentsUpTo (widthIn i) b k
   unfolding parentsUpTo
   parents-same zero h = refl
-  parents-same (suc k) h = λ j. parents-same k (omega arith) j ++ entry-same idBytes es a b d k (omega arith) j .ids
+  parents-same (suc k) h = λ j. parents-same k (omega arith) j ++ entry-same (widthIn i) es a b d k (omega arith) j .ids
 
-  names-same : storeParents a ≡ storeParents b
+  names-same : storeParents (widthIn i) a ≡ storeParents (widthIn i) b
   unfolding storeParents
-  names-same = parents-same (entries a) (omega arith) ∙ ap (parentsUpTo b) (entries-same idBytes a b (d .good) (d .same-length) (d .same-entries))
+  names-same = parents-same (entries a) (omega arith) ∙ ap (parentsUpTo (widthIn i) b) (entries-same (widthIn i) a b (d .good) (d .same-length) (d .same-entries))
 
-  reach-same : (g : List ℕ) (roots : List Id) → reachList a g roots ≡ reachList b g roots
+  reach-same : (g : List ℕ) (roots : List Id) → reachList (widthIn i) a g roots ≡ reachList (widthIn i) b g roots
   unfolding reachList
   reach-same g roots = λ j. reachedFrom (world-same i es a b d g j) (length (roots ++ names-same j)) 0 (noted [] roots)
 
@@ -49,7 +49,7 @@ module _ (i : Input) (es : List Id) (a b : List ℕ) (d : DifferOnlyInFeed idByt
 
   tests-same : testedRefusal (over i a) ≡ testedRefusal (over i b)
   unfolding testedRefusal
-  tests-same = λ j. testedOver (world-same i es a b d (i .graph) j) (reach-same (i .graph) (listIds (i .tips) ++ listIds (i .hidden)) j)
+  tests-same = λ j. testedOver (world-same i es a b d (i .graph) j) (reach-same (i .graph) (listIds (widthIn i) (i .tips) ++ listIds (widthIn i) (i .hidden)) j)
 
   tested-same : (room : Bool) → testedOpen (over i a) room ≡ testedOpen (over i b) room
   unfolding testedOpen
@@ -79,7 +79,7 @@ module _ (i : Input) (es : List Id) (a b : List ℕ) (d : DifferOnlyInFeed idByt
 pub embargo-tested : EmbargoTested
 unfolding EmbargoTested
 embargo-tested i e a b d = record {
-  opening = tested-same i (listIds e) a b d;
-  opened = tested-alike i (listIds e) a b d;
-  called = after-alike i (listIds e) a b d;
+  opening = tested-same i (listIds (widthIn i) e) a b d;
+  opened = tested-alike i (listIds (widthIn i) e) a b d;
+  called = after-alike i (listIds (widthIn i) e) a b d;
 }

@@ -7,49 +7,50 @@ use mathlib.Core.List.{List, []}
 use Prim.Native.Nat.{ℕ, zero, suc, _+_, _*_, _/_}
 use lib.ListN.{length}
 use lib.Dec.{leb}
-use Rattle.hash.specs.Bytes.{Id, idBytes, ifSome}
+use Rattle.hash.specs.Bytes.{Id, ifSome}
+use Rattle.object.specs.Header.{parentSize}
 use Rattle.odb.specs.Store.{storeOk}
 use Rattle.commitgraph.specs.Graph.{graphFind, graphCount}
 use Rattle.walk.specs.declared.Refusal.{Refusal}
 use Rattle.walk.specs.declared.Refusal.the-variants.{BufferTooSmall}
 use Rattle.walk.specs.Lookup.{World, no-row, rowAt, worldOf}
 use Rattle.walk.specs.State.{Walk, emptyState}
-use Rattle.walk.specs.Opening.{Input, listIds, parentBytes, parentsRoom, P, walkOf, sizesOk, wholeIds, refusal, Lengths, roomFor, closed, distinct, tipsIn, openTips, openOr, openWalk}
+use Rattle.walk.specs.Opening.{Input, widthIn, listIds, parentsRoom, P, walkOf, sizesOk, wholeIds, refusal, Lengths, roomFor, closed, distinct, tipsIn, openTips, openOr, openWalk}
 use Rattle.walk.specs.Next.{next}
 use Rattle.walk.specs.Calls.{stateOf, stateAfter, answerOn, answerAt, answersFrom, answers}
 use Rattle.embargo.specs.Embargo.{DifferOnlyInFeed}
 use Rattle.embargo.specs.Outside.{over, SameWalk}
 use Rattle.embargo.proofs.Worlds.{header-found, both-good}
 
-module _ (i : Input) (es : List Id) (a b : List ℕ) (d : DifferOnlyInFeed idBytes es a b) where
-  pub world-same : (g : List ℕ) → worldOf a g ≡ worldOf b g
+module _ (i : Input) (es : List Id) (a b : List ℕ) (d : DifferOnlyInFeed (widthIn i) es a b) where
+  pub world-same : (g : List ℕ) → worldOf (widthIn i) a g ≡ worldOf (widthIn i) b g
   unfolding worldOf
   world-same g = λ j. record {
-    graph = λ x. ifSome (graphFind idBytes g x) no-row (λ p. rowAt g p);
-    store = λ x. header-found idBytes es a b d x j;
+    graph = λ x. ifSome (graphFind (widthIn i) g x) no-row (λ p. rowAt (widthIn i) g p);
+    store = λ x. header-found (widthIn i) es a b d x j;
   }
 
   pub places-same : P (over i a) ≡ P (over i b)
   unfolding P
-  places-same = λ j. length (i .tips) / idBytes + length (i .hidden) / idBytes + d .same-length j / parentBytes + graphCount (i .graph)
+  places-same = λ j. length (i .tips) / widthIn i + length (i .hidden) / widthIn i + d .same-length j / parentSize (widthIn i) + graphCount (i .graph)
 
   walk-same : walkOf (over i a) ≡ walkOf (over i b)
   unfolding walkOf
   walk-same = λ j. record {
     world = world-same (i .graph) j;
     settings = i .settings;
-    excluded = listIds (i .excluded);
-    hidden = listIds (i .hidden);
+    excluded = listIds (widthIn i) (i .excluded);
+    hidden = listIds (widthIn i) (i .hidden);
     fuel = 4 * places-same j;
   }
 
   refusal-same : refusal (over i a) ≡ refusal (over i b)
   unfolding refusal sizesOk wholeIds
-  refusal-same = rw (d .same-length, d .good, both-good idBytes es a b d)
+  refusal-same = rw (d .same-length, d .good, both-good (widthIn i) es a b d)
 
   tips-same : (room : Bool) → openTips (over i a) room ≡ openTips (over i b) room
   unfolding openTips
-  tips-same room = λ j. cond room (tipsIn (walk-same j) (distinct [] (walk-same j .excluded) (listIds (i .tips))) emptyState) (closed BufferTooSmall)
+  tips-same room = λ j. cond room (tipsIn (walk-same j) (distinct [] (walk-same j .excluded) (listIds (widthIn i) (i .tips))) emptyState) (closed BufferTooSmall)
 
   or-same : (room : Bool) (o : Option Refusal) → openOr (over i a) room o ≡ openOr (over i b) room o
   unfolding openOr
@@ -79,5 +80,5 @@ module _ (i : Input) (es : List Id) (a b : List ℕ) (d : DifferOnlyInFeed idByt
   pub room-same : (l : Lengths) → roomFor (over i a) l ≡ roomFor (over i b) l
   unfolding roomFor
   room-same l = λ j.
-      leb (idBytes * places-same j) (l .names) && leb (places-same j) (l .marks) && leb (places-same j) (l .levels) && leb (places-same j) (l .times)
-      && leb (5 * places-same j) (l .line) && leb parentsRoom (l .parents)
+      leb (widthIn i * places-same j) (l .names) && leb (places-same j) (l .marks) && leb (places-same j) (l .levels) && leb (places-same j) (l .times)
+      && leb (5 * places-same j) (l .line) && leb (parentsRoom (widthIn i)) (l .parents)

@@ -6,7 +6,7 @@ use lib.ListN.{length}
 use lib.IntN.{pos}
 use Rattle.hash.specs.Bytes.{idBytes}
 use Rattle.walk.specs.Opening.{Input, listIds}
-use Rattle.walk.specs.Runs.{Commit, idFor, hexes, u32, who, zone, decimal, parentsText, bodyOf, names, input, all, newest}
+use Rattle.walk.specs.Runs.{idFor, hexes, u32, who, zone, decimal, parentsText, bodyOf, input, all, newest, idWide, namesWide}
 use Rattle.walk.specs.Runs as runs
 use Rattle.feed.specs.Feed.{coneStart}
 use Rattle.reports.specs.declared.Reader.the-variants.{Shop, Outside}
@@ -17,15 +17,15 @@ use Rattle.embargo.specs.Embargo.{DifferOnlyInFeed}
 
 -- a commit 1 whose message is `Cone-feed: ` and a digit, and a commit 2 with no message, whose parent it is
 unfoldable pub fed : ℕ → List ℕ
-unfolding bodyOf parentsText idFor hexes who zone decimal runs.digit
-fed d = bodyOf (record { name = 1; time = 5; from = [] }) ++ (coneStart ++ (d ∷ 10 ∷ []))
+unfolding bodyOf parentsText idWide hexes who zone decimal runs.digit
+fed d = bodyOf idBytes (record { name = 1; time = 5; from = [] }) ++ (coneStart ++ (d ∷ 10 ∷ []))
 
 unfoldable pub unfed : List ℕ
-unfolding bodyOf parentsText idFor hexes who zone decimal runs.digit
-unfed = bodyOf (record { name = 2; time = 6; from = 1 ∷ [] })
+unfolding bodyOf parentsText idWide hexes who zone decimal runs.digit
+unfed = bodyOf idBytes (record { name = 2; time = 6; from = 1 ∷ [] })
 
 unfoldable pub storeWith : ℕ → List ℕ
-unfolding fed unfed idFor u32
+unfolding fed unfed idWide u32
 storeWith d =
     let m = length (fed d) in
     let n = m + length unfed in
@@ -33,7 +33,7 @@ storeWith d =
 
 -- both commits, from the tip 2, newest first
 unfoldable pub fedInput : ℕ → Input
-unfolding storeWith input names idFor all
+unfolding storeWith input namesWide idWide all
 fedInput d = input (storeWith d) (2 ∷ []) [] [] (all newest)
 
 -- a report with this cone's reading, of one commit, and another without; and one without any
@@ -45,7 +45,7 @@ neitherOf = record { outcome = Whole; both = 0; cone = 0; bed = 0; neither = 2; 
 
 -- with the digits 5 and 7, where commit 1 is embargoed
 pub record OneDigit : Type 0 where
-  pub differ : DifferOnlyInFeed idBytes (listIds (idFor 1)) (storeWith 53) (storeWith 55)
+  pub differ : DifferOnlyInFeed idBytes (listIds idBytes (idFor 1)) (storeWith 53) (storeWith 55)
   -- the shop's reader is given 5 or 7: its reports are not the same
   pub shop-before : feedReport Shop (idFor 1) (fedInput 53) ≡ coneAlone 5
   pub shop-after : feedReport Shop (idFor 1) (fedInput 55) ≡ coneAlone 7

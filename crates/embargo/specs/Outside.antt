@@ -4,8 +4,7 @@ use Prim.Native.Nat.{ℕ}
 use mathlib.Core.Bool.{Bool}
 use mathlib.Core.List.{List}
 use lib.ListN.{length}
-use Rattle.hash.specs.Bytes.{idBytes}
-use Rattle.walk.specs.Opening.{Input, listIds, openWalk, P}
+use Rattle.walk.specs.Opening.{Input, widthIn, listIds, openWalk, P}
 use Rattle.walk.specs.Calls.{stateAfter, answerAt, answers}
 use Rattle.traverse.specs.declared.Opened.{Opened}
 use Rattle.traverse.specs.Contract.{Lent, lengthsOf, OpenSays}
@@ -80,4 +79,4 @@ pub record NothingShown (i : Input) (e a b : List ℕ) : Type 0 where
 
 -- for every list e of embargoed ids, as lent
 unfoldable pub EmbargoHolds : Type 0
-EmbargoHolds = (i : Input) (e a b : List ℕ) → DifferOnlyInFeed idBytes (listIds e) a b → NothingShown i e a b
+EmbargoHolds = (i : Input) (e a b : List ℕ) → DifferOnlyInFeed (widthIn i) (listIds (widthIn i) e) a b → NothingShown i e a b

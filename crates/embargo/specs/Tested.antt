@@ -3,8 +3,7 @@ use mathlib.Core.Path.{_≡_}
 use Prim.Native.Nat.{ℕ}
 use mathlib.Core.Bool.{Bool}
 use mathlib.Core.List.{List}
-use Rattle.hash.specs.Bytes.{idBytes}
-use Rattle.walk.specs.Opening.{Input, listIds}
+use Rattle.walk.specs.Opening.{Input, widthIn, listIds}
 use Rattle.reach.specs.Tested.{testedOpen}
 use Rattle.traverse.specs.declared.Opened.{Opened}
 use Rattle.traverse.specs.Contract.{Lent, lengthsOf}
@@ -22,4 +21,4 @@ pub record SameTested (i j : Input) : Type 0 where
       → (k : ℕ) (c d : Call) → CallIs cs k c → CallIs ds k d → Alike c d
 
 unfoldable pub EmbargoTested : Type 0
-EmbargoTested = (i : Input) (embargoed a b : List ℕ) → DifferOnlyInFeed idBytes (listIds embargoed) a b → SameTested (over i a) (over i b)
+EmbargoTested = (i : Input) (embargoed a b : List ℕ) → DifferOnlyInFeed (widthIn i) (listIds (widthIn i) embargoed) a b → SameTested (over i a) (over i b)

@@ -7,7 +7,7 @@ use mathlib.Core.Bool.{Bool, true, false, cond}
 use mathlib.Core.List.{List, [], _∷_}
 use lib.ListN.{length, getD, set}
 use lib.IntN.{ℤ, pos}
-use Rattle.hash.specs.Bytes.{Id, idBytes}
+use Rattle.hash.specs.Bytes.{Id}
 use Rattle.object.specs.Header.{Header}
 use Rattle.hashtable.specs.Table.{Holds, Table}
 use Rattle.walk.specs.Lookup.{Pair, ltPair}
@@ -69,39 +69,39 @@ abbrev pub slotsIn : List ℕ → List ℕ → List ℕ → List ℤ → Slots
 slotsIn names marks levels times = record { names = names; marks = marks; levels = levels; times = times }
 
 -- slot k holds x
-abbrev pub HeldIn : Slots → ℕ → Id → ℕ → Type 0
-HeldIn a cap x k = Holds idBytes false (a .names) (a .marks) cap x k
+abbrev pub HeldIn : ℕ → Slots → ℕ → Id → ℕ → Type 0
+HeldIn width a cap x k = Holds width false (a .names) (a .marks) cap x k
 
 -- the table is right, and the line has a cell for each slot
-pub record Right (a : Slots) (cap child : ℕ) (line : List ℕ) : Type 0 where
-  pub table : Table idBytes false (a .names) (a .marks) cap
+pub record Right (width : ℕ) (a : Slots) (cap child : ℕ) (line : List ℕ) : Type 0 where
+  pub table : Table width false (a .names) (a .marks) cap
   pub small : cap ≤ mostSlots
   pub room : 2 * cap ≤ length line
   pub fits : child < mostChild
 
 -- the cells of the slots that hold the ids xs were lowered by a child, and nothing else was changed but hints
-pub record Lowered (a : Slots) (cap child : ℕ) (xs : List Id) (line line′ : List ℕ) : Type 0 where
+pub record Lowered (width : ℕ) (a : Slots) (cap child : ℕ) (xs : List Id) (line line′ : List ℕ) : Type 0 where
   pub long : length line′ ≡ length line
   pub beyond : (j : ℕ) → 2 * cap ≤ j → getD line′ j 0 ≡ getD line j 0
   pub cells : (s : ℕ) → s < cap → (getD line′ (2 * s) 0 ≡ getD line (2 * s) 0) ⊎ (getD line′ (2 * s) 0 ≡ suc child)
   pub keeps : (s : ℕ) (q : Pair) → s < cap → lowAt line′ (a .levels) (a .times) s q ≡ true → lowAt line (a .levels) (a .times) s q ≡ true
-  pub under : (s : ℕ) (q : Pair) → s < cap → lowAt line′ (a .levels) (a .times) s q ≡ true → (p : Id) → Mem p xs → HeldIn a cap p s → ltPair q (slotPair (a .levels) (a .times) child) ≡ true
+  pub under : (s : ℕ) (q : Pair) → s < cap → lowAt line′ (a .levels) (a .times) s q ≡ true → (p : Id) → Mem p xs → HeldIn width a cap p s → ltPair q (slotPair (a .levels) (a .times) child) ≡ true
   pub only : (s : ℕ) (q : Pair) → s < cap → lowAt line (a .levels) (a .times) s q ≡ true
-      → ((p : Id) → Mem p xs → HeldIn a cap p s → ltPair q (slotPair (a .levels) (a .times) child) ≡ true) → lowAt line′ (a .levels) (a .times) s q ≡ true
+      → ((p : Id) → Mem p xs → HeldIn width a cap p s → ltPair q (slotPair (a .levels) (a .times) child) ≡ true) → lowAt line′ (a .levels) (a .times) s q ≡ true
 
 -- what `lower_to` does, where the table has the id
-pub record LowersTo (a : Slots) (cap child : ℕ) (x : Id) (line line′ : List ℕ) : Type 0 where
-  pub right : Right a cap child line → (s : ℕ) → HeldIn a cap x s → Lowered a cap child (x ∷ []) line line′
+pub record LowersTo (width : ℕ) (a : Slots) (cap child : ℕ) (x : Id) (line line′ : List ℕ) : Type 0 where
+  pub right : Right width a cap child line → (s : ℕ) → HeldIn width a cap x s → Lowered width a cap child (x ∷ []) line line′
 
 -- what `lower_from` does with the n parents of a header, where the table has them
-pub record LowersFrom (a : Slots) (cap child : ℕ) (h : Header) (n : ℕ) (line line′ : List ℕ) : Type 0 where
-  pub right : Right a cap child line → h .tree ≡ true → n ≡ length (h .ids) → ((p : Id) → Mem p (h .ids) → (s : ℕ) × HeldIn a cap p s) → Lowered a cap child (h .ids) line line′
+pub record LowersFrom (width : ℕ) (a : Slots) (cap child : ℕ) (h : Header) (n : ℕ) (line line′ : List ℕ) : Type 0 where
+  pub right : Right width a cap child line → h .tree ≡ true → n ≡ length (h .ids) → ((p : Id) → Mem p (h .ids) → (s : ℕ) × HeldIn width a cap p s) → Lowered width a cap child (h .ids) line line′
 
 -- what `lower_new` does with the slots at c places of the line, behind the first n of its part, which hold the ids xs and whose cells are empty
-pub record LowersNew (from n c child : ℕ) (line line′ : List ℕ) : Type 0 where
-  pub right : (a : Slots) (cap : ℕ) → Right a cap child line → 2 * cap ≤ from → (xs : List Id) → c ≡ length xs
-      → ((i : ℕ) → i < c → HeldIn a cap (getD xs i []) (getD line (from + n + i) 0)) → ((i : ℕ) → i < c → getD line (2 * getD line (from + n + i) 0) 0 ≡ 0) → Lowered a cap child xs line line′
+pub record LowersNew (width : ℕ) (from n c child : ℕ) (line line′ : List ℕ) : Type 0 where
+  pub right : (a : Slots) (cap : ℕ) → Right width a cap child line → 2 * cap ≤ from → (xs : List Id) → c ≡ length xs
+      → ((i : ℕ) → i < c → HeldIn width a cap (getD xs i []) (getD line (from + n + i) 0)) → ((i : ℕ) → i < c → getD line (2 * getD line (from + n + i) 0) 0 ≡ 0) → Lowered width a cap child xs line line′
 
 -- what `lower_parents` does: all parents are new to the line, or each is looked for
-pub record LowersParents (a : Slots) (cap from n m child : ℕ) (h : Header) (c : ℕ) (line line′ : List ℕ) : Type 0 where
-  pub either : ((m ≡ n + c) × LowersNew from n c child line line′) ⊎ LowersFrom a cap child h c line line′
+pub record LowersParents (width : ℕ) (a : Slots) (cap from n m child : ℕ) (h : Header) (c : ℕ) (line line′ : List ℕ) : Type 0 where
+  pub either : ((m ≡ n + c) × LowersNew width from n c child line line′) ⊎ LowersFrom width a cap child h c line line′

@@ -9,9 +9,9 @@ ghost use mathlib.Core.Path.{_≡_};
 ghost use mathlib.Core.Bool.{true};
 ghost use Prim.Native.Nat.{_+_, _<_};
 ghost use Rattle.object.specs.Header.{header};
-ghost use Rattle.hash.specs.Bytes.{idBytes};
 ghost use Rattle.reach.specs.Memory.{mostSlots};
 ghost use Rattle.falling.specs.Cells.{slotsIn, LowersTo, LowersFrom, LowersNew, LowersParents};
+ghost use Rattle.hash.specs.Bytes.{widthOf};
 
 // A position as a hint.
 fn as_hint(position: usize) -> u32
@@ -25,6 +25,7 @@ fn as_hint(position: usize) -> u32
 
 // Lowers the cell of the slot that holds an id.
 fn lower_to(
+    kind: Kind,
     names: &[u8],
     marks: &[u8],
     levels: &[u32],
@@ -35,9 +36,9 @@ fn lower_to(
     id: &[u8],
     hint: u32,
 )
-    ensures { λ r. ⌜ LowersTo (slotsIn (now (names .entry)) (now (marks .entry)) (now (levels .entry)) (now (times .entry))) cap child (now (id .entry)) (now (line .entry)) (now (line .exit)) ⌝ }
+    ensures { λ r. ⌜ LowersTo (widthOf kind) (slotsIn (now (names .entry)) (now (marks .entry)) (now (levels .entry)) (now (times .entry))) cap child (now (id .entry)) (now (line .entry)) (now (line .exit)) ⌝ }
 {
-    match table::find_slot(Kind::Sha1, names, marks, cap, false, id) {
+    match table::find_slot(kind, names, marks, cap, false, id) {
         Slot::Found(k) => {
             if k < 4294967296 {
                 cells::lower_at(levels, times, line, k as u32, child, hint);
@@ -50,6 +51,7 @@ fn lower_to(
 
 // Lowers the cells of the first n parents of a body by the commit in slot `child`. Its row, where it has one, names their positions.
 fn lower_from(
+    kind: Kind,
     names: &[u8],
     marks: &[u8],
     levels: &[u32],
@@ -63,13 +65,14 @@ fn lower_from(
     l: Layout,
     position: usize,
 )
-    ensures { λ r. ⌜ LowersFrom (slotsIn (now (names .entry)) (now (marks .entry)) (now (levels .entry)) (now (times .entry))) cap child (header idBytes (now (body .entry))) n (now (line .entry)) (now (line .exit)) ⌝ }
+    ensures { λ r. ⌜ LowersFrom (widthOf kind) (slotsIn (now (names .entry)) (now (marks .entry)) (now (levels .entry)) (now (times .entry))) cap child (header (widthOf kind) (now (body .entry))) n (now (line .entry)) (now (line .exit)) ⌝ }
 {
     let mut k = 0;
     while k < n {
-        let id = reading::body_parent(body, k);
-        let hint = as_hint(parents::parent(Kind::Sha1, graph, l, position, k));
+        let id = reading::body_parent(kind, body, k);
+        let hint = as_hint(parents::parent(kind, graph, l, position, k));
         lower_to(
+            kind,
             names,
             marks,
             levels,
@@ -77,7 +80,7 @@ fn lower_from(
             line,
             cap,
             child,
-            object::id_slice(Kind::Sha1, &id.bytes),
+            object::id_slice(kind, &id.bytes),
             hint,
         );
         k += 1;
@@ -86,6 +89,7 @@ fn lower_from(
 
 // The same for c parents that were all new to the line, behind its first n: their slots are the last, and their cells have had no child.
 fn lower_new(
+    kind: Kind,
     line: &mut [u32],
     from: usize,
     n: usize,
@@ -95,11 +99,11 @@ fn lower_new(
     l: Layout,
     position: usize,
 )
-    ensures { λ r. ⌜ LowersNew from n c child (now (line .entry)) (now (line .exit)) ⌝ }
+    ensures { λ r. ⌜ LowersNew (widthOf kind) from n c child (now (line .entry)) (now (line .exit)) ⌝ }
 {
     let mut k = 0;
     while k < c {
-        let hint = as_hint(parents::parent(Kind::Sha1, graph, l, position, k));
+        let hint = as_hint(parents::parent(kind, graph, l, position, k));
         let slot = cells::slot_past(line, from, n, k);
         cells::fill_at(line, slot, child, hint);
         k += 1;
@@ -121,6 +125,7 @@ fn all_new(n: usize, m: usize, c: usize) -> bool
 
 // Lowers the cells of the c parents of a body by the commit in slot `child`, when they are noted: the line had n slots and has m now.
 pub fn lower_parents(
+    kind: Kind,
     names: &[u8],
     marks: &[u8],
     levels: &[u32],
@@ -137,13 +142,14 @@ pub fn lower_parents(
     l: Layout,
     position: usize,
 )
-    ensures { λ r. ⌜ LowersParents (slotsIn (now (names .entry)) (now (marks .entry)) (now (levels .entry)) (now (times .entry))) cap from n m child (header idBytes (now (body .entry))) c (now (line .entry)) (now (line .exit)) ⌝ }
+    ensures { λ r. ⌜ LowersParents (widthOf kind) (slotsIn (now (names .entry)) (now (marks .entry)) (now (levels .entry)) (now (times .entry))) cap from n m child (header (widthOf kind) (now (body .entry))) c (now (line .entry)) (now (line .exit)) ⌝ }
 {
     if all_new(n, m, c) {
-        lower_new(line, from, n, c, child, graph, l, position);
+        lower_new(kind, line, from, n, c, child, graph, l, position);
         return;
     }
     lower_from(
+        kind,
         names,
         marks,
         levels,

@@ -24,16 +24,15 @@ use Rattle.frontier.specs.Slots.{mostSlots, Gained, addedAt, ToldAdded, 
 use Rattle.frontier.specs.declared.slots.Added.{Added}
 use Rattle.frontier.specs.declared.slots.Added.the-variants.{New, Known, Full}
 use Rattle.frontier.proofs.PaintBits.{painted-live, painted-withBits, painted-0}
-use Rattle.hash.specs.Bytes.{idBytes}
 
 -- a mark that is not live is 0, before painting ends
 dead-0 : (m : ℕ) → live false m ≡ false → m ≡ 0
 unfolding live
 dead-0 m e = eqb-true m 0 (not-false (eqb m 0) e)
 
-module _ {names marks : List ℕ} {cap : ℕ} {x : Id} (bits : ℕ) (t : Table idBytes false names marks cap) (b : isPainted bits ≡ true) where
+module _ {width : ℕ} {names marks : List ℕ} {cap : ℕ} {x : Id} (bits : ℕ) (t : Table width false names marks cap) (b : isPainted bits ≡ true) where
   -- the slot had the id
-  raised : (k : ℕ) → Holds idBytes false names marks cap x k → Gained names marks names (set marks k (withBits bits (getD marks k 0))) cap x bits k
+  raised : (k : ℕ) → Holds width false names marks cap x k → Gained width names marks names (set marks k (withBits bits (getD marks k 0))) cap x bits k
   raised k h =
       let m : ℕ = withBits bits (getD marks k 0) in
       let l : live false (withBits bits (getD marks k 0)) ≡ true = painted-live (withBits bits (getD marks k 0)) (painted-withBits bits (getD marks k 0) b) in
@@ -48,10 +47,10 @@ module _ {names marks : List ℕ} {cap : ℕ} {x : Id} (bits : ℕ) (t : Table i
       }
 
   -- the slot was free
-  entered : {names′ marks′ : List ℕ} {r : Slot} → Inserts idBytes false names marks names′ marks′ cap x (withBits bits 0) r → (k : ℕ) → r ≡ Vacant k → Gained names marks names′ marks′ cap x bits k
+  entered : {names′ marks′ : List ℕ} {r : Slot} → Inserts width false names marks names′ marks′ cap x (withBits bits 0) r → (k : ℕ) → r ≡ Vacant k → Gained width names marks names′ marks′ cap x bits k
   entered i k e =
       let l : live false (withBits bits 0) ≡ true = painted-live (withBits bits 0) (painted-withBits bits 0 b) in
-      let z : markFor idBytes false names marks cap x ≡ 0 = vacant-mark t (i .finds) k e in
+      let z : markFor width false names marks cap x ≡ 0 = vacant-mark t (i .finds) k e in
       let f = i .finds .free k e in
       record {
         table = i .right t l;
@@ -63,41 +62,41 @@ module _ {names marks : List ℕ} {cap : ℕ} {x : Id} (bits : ℕ) (t : Table i
         taken = λ s l′ a. ⊎-elim (λ q. clash (ap (liveAt false marks) (sym q) ∙ a) (f .dead)) (λ n. i .old k e s n .0) (same? s k);
       }
 
-  free-new : {names′ marks′ : List ℕ} {r : Slot} → Inserts idBytes false names marks names′ marks′ cap x (withBits bits 0) r → (k : ℕ) → r ≡ Vacant k → isPainted (getD marks k 0) ≡ false
+  free-new : {names′ marks′ : List ℕ} {r : Slot} → Inserts width false names marks names′ marks′ cap x (withBits bits 0) r → (k : ℕ) → r ≡ Vacant k → isPainted (getD marks k 0) ≡ false
   free-new i k e = ap isPainted (dead-0 (getD marks k 0) (i .finds .free k e .dead)) ∙ painted-0
 
 -- by whether the slot was known to painting
-told-as : {names marks names′ marks′ : List ℕ} {cap : ℕ} {x : Id} {bits : ℕ} (known : Bool) (k : ℕ) → Gained names marks names′ marks′ cap x bits k → isPainted (getD marks k 0) ≡ known
-    → ToldAdded names marks names′ marks′ cap x bits (addedAt known k)
-told-as true k g e = (g, e)
-told-as false k g e = (g, e)
+told-as : {width : ℕ} {names marks names′ marks′ : List ℕ} {cap : ℕ} {x : Id} {bits : ℕ} (known : Bool) (k : ℕ) → Gained width names marks names′ marks′ cap x bits k → isPainted (getD marks k 0) ≡ known
+    → ToldAdded width names marks names′ marks′ cap x bits (addedAt known k)
+told-as {width} true k g e = (g, e)
+told-as {width} false k g e = (g, e)
 
 -- ---- the three answers of the table
 
-module _ {names marks names₁ marks₁ : List ℕ} {cap : ℕ} {x : Id} (bits first : ℕ) {s : Slot} (z : first ≡ withBits bits 0) (i : Inserts idBytes false names marks names₁ marks₁ cap x first s) where
-  inserts : Inserts idBytes false names marks names₁ marks₁ cap x (withBits bits 0) s
-  inserts = subst (λ (n : ℕ). Inserts idBytes false names marks names₁ marks₁ cap x n s) z i
+module _ {width : ℕ} {names marks names₁ marks₁ : List ℕ} {cap : ℕ} {x : Id} (bits first : ℕ) {s : Slot} (z : first ≡ withBits bits 0) (i : Inserts width false names marks names₁ marks₁ cap x first s) where
+  inserts : Inserts width false names marks names₁ marks₁ cap x (withBits bits 0) s
+  inserts = subst (λ (n : ℕ). Inserts width false names marks names₁ marks₁ cap x n s) z i
 
   pub as-found : {marks′ : List ℕ} {known : Bool} {r : Added} (k : ℕ) → s ≡ Found k → known ≡ isPainted (getD marks₁ k 0) → marks′ ≡ set marks₁ k (withBits bits (getD marks₁ k 0))
-      → (k < mostSlots → r ≡ addedAt known k) → AddsMark names marks names₁ marks′ cap x bits r
+      → (k < mostSlots → r ≡ addedAt known k) → AddsMark width names marks names₁ marks′ cap x bits r
   as-found {marks′} {known} {r} k e p q f = record {
     right = λ t b c.
-        let h : Holds idBytes false names marks cap x k = i .finds .hit k e in
+        let h : Holds width false names marks cap x k = i .finds .hit k e in
         let n : names₁ ≡ names = i .found k e .0 in
         let m : marks₁ ≡ marks = i .found k e .1 in
         let o : marks′ ≡ set marks k (withBits bits (getD marks k 0)) = q ∙ ap (λ (l : List ℕ). set l k (withBits bits (getD l k 0))) m in
-        let g : Gained names marks names₁ marks′ cap x bits k =
-        subst (λ (l : List ℕ). Gained names marks l marks′ cap x bits k) (sym n) (subst (λ (l : List ℕ). Gained names marks names l cap x bits k) (sym o) (raised bits t b k h)) in
-        subst (λ (a : Added). ToldAdded names marks names₁ marks′ cap x bits a) (sym (f (omega (arith, h .low))))
+        let g : Gained width names marks names₁ marks′ cap x bits k =
+        subst (λ (l : List ℕ). Gained width names marks l marks′ cap x bits k) (sym n) (subst (λ (l : List ℕ). Gained width names marks names l cap x bits k) (sym o) (raised bits t b k h)) in
+        subst (λ (a : Added). ToldAdded width names marks names₁ marks′ cap x bits a) (sym (f (omega (arith, h .low))))
         (told-as known k g (sym (p ∙ ap (λ (l : List ℕ). isPainted (getD l k 0)) m)));
   }
 
-  pub as-vacant : {r : Added} (k : ℕ) → s ≡ Vacant k → (k < mostSlots → r ≡ addedAt false k) → AddsMark names marks names₁ marks₁ cap x bits r
+  pub as-vacant : {r : Added} (k : ℕ) → s ≡ Vacant k → (k < mostSlots → r ≡ addedAt false k) → AddsMark width names marks names₁ marks₁ cap x bits r
   as-vacant {r} k e f = record {
     right = λ t b c.
-        subst (λ (a : Added). ToldAdded names marks names₁ marks₁ cap x bits a) (sym (f (omega (arith, i .finds .free k e .low))))
+        subst (λ (a : Added). ToldAdded width names marks names₁ marks₁ cap x bits a) (sym (f (omega (arith, i .finds .free k e .low))))
         (entered bits t b inserts k e, free-new bits t b inserts k e);
   }
 
-  pub as-full : s ≡ TableFull → AddsMark names marks names₁ marks₁ cap x bits Full
-  as-full e = record { right = λ t b c. subst (λ (a : Slot). Finds idBytes false names marks cap x a) e (i .finds) }
+  pub as-full : s ≡ TableFull → AddsMark width names marks names₁ marks₁ cap x bits Full
+  as-full e = record { right = λ t b c. subst (λ (a : Slot). Finds width false names marks cap x a) e (i .finds) }

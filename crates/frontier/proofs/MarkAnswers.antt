@@ -33,52 +33,51 @@ use Rattle.frontier.specs.Slots.{mostSlots, Gained, ToldAdded, AddsMark}
 use Rattle.frontier.specs.Paint.{Lent, lent, Files, Ends}
 use Rattle.frontier.specs.Mark.{PairSet, ToldLearned, Learns, Paired, ToldPlaced, Places, Queues, MayStep, Takes}
 use Rattle.frontier.proofs.MarkStep.{has-slot, stops-here, has-room, goes-here}
-use Rattle.hash.specs.Bytes.{idBytes}
 
 -- ---- a commit is read
 
-module _ {c : Cache} {g s : List ℕ} {x : Id} {d : Commit} (r : ReadsCommit c g s x d) where
-  told : {e : Commit} → d ≡ e → Files c g s → Tells e (read (worldUnder c g s) x)
-  told q f = subst (λ (e : Commit). Tells e (read (worldUnder c g s) x)) q (commit-right r (f .store-ok) (f .graph-ok) .tells)
+module _ {width : ℕ} {c : Cache} {g s : List ℕ} {x : Id} {d : Commit} (r : ReadsCommit width c g s x d) where
+  told : {e : Commit} → d ≡ e → Files width c g s → Tells e (read (worldUnder width c g s) x)
+  told q f = subst (λ (e : Commit). Tells e (read (worldUnder width c g s) x)) q (commit-right r (f .store-ok) (f .graph-ok) .tells)
 
   module _ {levels levels′ : List ℕ} {times times′ : List ℤ} {k : ℕ} where
-    learned : {n : ℕ} (q : GenThenTime) → (Files c g s → Has n q (read (worldUnder c g s) x)) → levels′ ≡ set levels k (q .generation .0) → times′ ≡ set times k (q .time .0)
-        → Learns c g s levels times levels′ times′ x k (At k)
+    learned : {n : ℕ} (q : GenThenTime) → (Files width c g s → Has n q (read (worldUnder width c g s) x)) → levels′ ≡ set levels k (q .generation .0) → times′ ≡ set times k (q .time .0)
+        → Learns width c g s levels times levels′ times′ x k (At k)
     learned q h a b = record { right = λ f. (refl, record { parents = h f .parents; pair = pairOf q; is = h f .is; level-set = a; time-set = b }) }
 
     pub learned-row : (p n : ℕ) (q : GenThenTime) → d ≡ Row p n q → levels′ ≡ set levels k (q .generation .0) → times′ ≡ set times k (q .time .0)
-        → Learns c g s levels times levels′ times′ x k (At k)
+        → Learns width c g s levels times levels′ times′ x k (At k)
     learned-row p n q e = learned q (told e)
 
     pub learned-body : (a z n : ℕ) (q : GenThenTime) → d ≡ Body a z n q → levels′ ≡ set levels k (q .generation .0) → times′ ≡ set times k (q .time .0)
-        → Learns c g s levels times levels′ times′ x k (At k)
+        → Learns width c g s levels times levels′ times′ x k (At k)
     learned-body a z n q e = learned q (told e)
 
-    pub not-learned : (n : Refusal) → d ≡ Failed n → Learns c g s levels times levels′ times′ x k (Unread n)
+    pub not-learned : (n : Refusal) → d ≡ Failed n → Learns width c g s levels times levels′ times′ x k (Unread n)
     not-learned n e = record { right = told e }
 
 -- ---- an id gains marks
 
-module _ {names marks names′ marks′ : List ℕ} {cap : ℕ} {x : Id} {bits : ℕ} {a : Added} (w : AddsMark names marks names′ marks′ cap x bits a) where
-  added : {b : Added} → a ≡ b → Table idBytes false names marks cap → isPainted bits ≡ true → cap ≤ mostSlots → ToldAdded names marks names′ marks′ cap x bits b
-  added e t b l = subst (λ (d : Added). ToldAdded names marks names′ marks′ cap x bits d) e (w .right t b l)
+module _ {width : ℕ} {names marks names′ marks′ : List ℕ} {cap : ℕ} {x : Id} {bits : ℕ} {a : Added} (w : AddsMark width names marks names′ marks′ cap x bits a) where
+  added : {b : Added} → a ≡ b → Table width false names marks cap → isPainted bits ≡ true → cap ≤ mostSlots → ToldAdded width names marks names′ marks′ cap x bits b
+  added e t b l = subst (λ (d : Added). ToldAdded width names marks names′ marks′ cap x bits d) e (w .right t b l)
 
   module _ {c : Cache} {g s levels : List ℕ} {times : List ℤ} where
-    pub place-new : {levels′ : List ℕ} {times′ : List ℤ} {r : Spot} (k : ℕ) → a ≡ New k → Learns c g s levels times levels′ times′ x k r
-        → Places c g s names marks levels times names′ marks′ levels′ times′ cap x bits r
+    pub place-new : {levels′ : List ℕ} {times′ : List ℤ} {r : Spot} (k : ℕ) → a ≡ New k → Learns width c g s levels times levels′ times′ x k r
+        → Places width c g s names marks levels times names′ marks′ levels′ times′ cap x bits r
     place-new {levels′} {times′} {r} k e l = record { right = λ f t b z. go r (added e t b z) (l .right f) }
       where
-        go : (r : Spot) → Gained names marks names′ marks′ cap x bits k × (isPainted (getD marks k 0) ≡ false) → ToldLearned (worldUnder c g s) levels times levels′ times′ x k r
-            → ToldPlaced (worldUnder c g s) names marks levels times names′ marks′ levels′ times′ cap x bits r
+        go : (r : Spot) → Gained width names marks names′ marks′ cap x bits k × (isPainted (getD marks k 0) ≡ false) → ToldLearned (worldUnder width c g s) levels times levels′ times′ x k r
+            → ToldPlaced width (worldUnder width c g s) names marks levels times names′ marks′ levels′ times′ cap x bits r
         go (At j) o h =
-            subst (λ (i : ℕ). Gained names marks names′ marks′ cap x bits i × Paired (worldUnder c g s) marks levels times levels′ times′ x i) (sym (h .0)) (o .0, inr (o .1, h .1))
+            subst (λ (i : ℕ). Gained width names marks names′ marks′ cap x bits i × Paired (worldUnder width c g s) marks levels times levels′ times′ x i) (sym (h .0)) (o .0, inr (o .1, h .1))
         go (Unread n) o h = (h, (k, o .0))
         go NoSlot o h = absurd h
 
-    pub place-known : (k : ℕ) → a ≡ Known k → Places c g s names marks levels times names′ marks′ levels times cap x bits (At k)
+    pub place-known : (k : ℕ) → a ≡ Known k → Places width c g s names marks levels times names′ marks′ levels times cap x bits (At k)
     place-known k e = record { right = λ f t b z. let o = added e t b z in (o .0, inl (o .1, refl, refl)) }
 
-    pub place-full : a ≡ Full → Places c g s names marks levels times names′ marks′ levels times cap x bits NoSlot
+    pub place-full : a ≡ Full → Places width c g s names marks levels times names′ marks′ levels times cap x bits NoSlot
     place-full e = record { right = λ f t b z. added e t b z }
 
 -- ---- its slot is queued
@@ -92,27 +91,27 @@ module _ {levels : List ℕ} {times : List ℤ} {slot : ℕ} {p : Pending} {line
 
 -- ---- all of it
 
-module _ {c : Cache} {g s names marks levels : List ℕ} {times : List ℤ} {names′ marks′ levels′ : List ℕ} {times′ : List ℤ} {cap : ℕ} {x : Id} {bits : ℕ} {d : Spot}
-    (w : Places c g s names marks levels times names′ marks′ levels′ times′ cap x bits d) {line : List ℕ} {p : Pending} where
-  placed : {e : Spot} → d ≡ e → Files c g s → (u : List Id) (st : Paint) → MayStep (worldUnder c g s) cap u (lent names marks levels times line) p x bits st (mark (worldUnder c g s) (marksOf bits) x st)
-      → ToldPlaced (worldUnder c g s) names marks levels times names′ marks′ levels′ times′ cap x bits e
+module _ {width : ℕ} {c : Cache} {g s names marks levels : List ℕ} {times : List ℤ} {names′ marks′ levels′ : List ℕ} {times′ : List ℤ} {cap : ℕ} {x : Id} {bits : ℕ} {d : Spot}
+    (w : Places width c g s names marks levels times names′ marks′ levels′ times′ cap x bits d) {line : List ℕ} {p : Pending} where
+  placed : {e : Spot} → d ≡ e → Files width c g s → (u : List Id) (st : Paint) → MayStep width (worldUnder width c g s) cap u (lent names marks levels times line) p x bits st (mark (worldUnder width c g s) (marksOf bits) x st)
+      → ToldPlaced width (worldUnder width c g s) names marks levels times names′ marks′ levels′ times′ cap x bits e
   placed q f u st h =
-      subst (λ (e : Spot). ToldPlaced (worldUnder c g s) names marks levels times names′ marks′ levels′ times′ cap x bits e) q
+      subst (λ (e : Spot). ToldPlaced width (worldUnder width c g s) names marks levels times names′ marks′ levels′ times′ cap x bits e) q
       (w .right f (h .reads .table) (h .some-mark) (h .named .small))
 
   pub marks-at : {line′ : List ℕ} {r : Marked} (k : ℕ) → d ≡ At k → Queues levels′ times′ k p line line′ r
-      → Takes mark c g s cap (lent names marks levels times line) (lent names′ marks′ levels′ times′ line′) p x bits r
+      → Takes width mark c g s cap (lent names marks levels times line) (lent names′ marks′ levels′ times′ line′) p x bits r
   marks-at {line′} {r} k q v = record {
     right = λ f u st h.
         let o = placed q f u st h in
         let e = v .room (has-room h (o .0) (o .1)) in
         subst
-        (λ (a : Marked). Ends (worldUnder c g s) cap u p (lent names marks levels times line) (lent names′ marks′ levels′ times′ line′) a (mark (worldUnder c g s) (marksOf bits) x st))
+        (λ (a : Marked). Ends width (worldUnder width c g s) cap u p (lent names marks levels times line) (lent names′ marks′ levels′ times′ line′) a (mark (worldUnder width c g s) (marksOf bits) x st))
         (sym (e .1)) (goes-here h (o .0) (o .1) (e .2) (v .below));
   }
 
-  pub marks-unread : (n : Refusal) → d ≡ Unread n → Takes mark c g s cap (lent names marks levels times line) (lent names′ marks′ levels′ times′ line) p x bits (Stop n)
+  pub marks-unread : (n : Refusal) → d ≡ Unread n → Takes width mark c g s cap (lent names marks levels times line) (lent names′ marks′ levels′ times′ line) p x bits (Stop n)
   marks-unread n q = record { right = λ f u st h. let o = placed q f u st h in stops-here h (o .0) (o .1 .1) }
 
-  pub marks-none : d ≡ NoSlot → Takes mark c g s cap (lent names marks levels times line) (lent names′ marks′ levels′ times′ line) p x bits NoRoom
+  pub marks-none : d ≡ NoSlot → Takes width mark c g s cap (lent names marks levels times line) (lent names′ marks′ levels′ times′ line) p x bits NoRoom
   marks-none q = record { right = λ f u st h. has-slot h (placed q f u st h) }

@@ -36,14 +36,13 @@ use Rattle.frontier.specs.Slots.{Gained}
 use Rattle.frontier.specs.Paint.{Lent, lent, entryAt, IsKnown, PaintReads, Spares, Named, Goes, Stops}
 use Rattle.frontier.specs.Mark.{PairSet, Paired, MayStep}
 use Rattle.frontier.proofs.PaintBits.{visible-withBits, hidden-withBits, stale-withBits, seen-withBits, painted-live, painted-withBits}
-use Rattle.hash.specs.Bytes.{idBytes}
 
 -- ---- nothing changed, and one change after another
 
-pub spares-none : (cap base : ℕ) (m : Lent) → Spares cap base m m
-spares-none cap base m = record { seen-same = λ x. refl; taken = λ s l a. (a, refl); below = refl }
+pub spares-none : (width : ℕ) (cap base : ℕ) (m : Lent) → Spares width cap base m m
+spares-none width cap base m = record { seen-same = λ x. refl; taken = λ s l a. (a, refl); below = refl }
 
-pub spares-then : {cap base : ℕ} {a b c : Lent} → Spares cap base a b → Spares cap base b c → Spares cap base a c
+pub spares-then : {width : ℕ} {cap base : ℕ} {a b c : Lent} → Spares width cap base a b → Spares width cap base b c → Spares width cap base a c
 spares-then p q = record {
   seen-same = λ x. q .seen-same x ∙ p .seen-same x;
   taken = λ s l a. let h = p .taken s l a in let k = q .taken s l (h .0) in (k .0, k .1 ∙ h .1);
@@ -60,30 +59,30 @@ also-here false f x y e = refl
 
 -- ---- an id has gained marks
 
-module _ {names marks names′ marks′ : List ℕ} {cap : ℕ} {x : Id} {bits k : ℕ} (g : Gained names marks names′ marks′ cap x bits k) where
-  this-mark : (y : Id) → eqId y x ≡ true → markFor idBytes false names′ marks′ cap y ≡ withBits bits (markFor idBytes false names marks cap y)
+module _ {width : ℕ} {names marks names′ marks′ : List ℕ} {cap : ℕ} {x : Id} {bits k : ℕ} (g : Gained width names marks names′ marks′ cap x bits k) where
+  this-mark : (y : Id) → eqId y x ≡ true → markFor width false names′ marks′ cap y ≡ withBits bits (markFor width false names marks cap y)
   this-mark y e =
       let q : y ≡ x = eqId-eq y x e in
-      ap (markFor idBytes false names′ marks′ cap) q ∙ g .this ∙ ap (λ (z : Id). withBits bits (markFor idBytes false names marks cap z)) (sym q)
+      ap (markFor width false names′ marks′ cap) q ∙ g .this ∙ ap (λ (z : Id). withBits bits (markFor width false names marks cap z)) (sym q)
 
-  other-id : (y : Id) → eqId y x ≡ false → markFor idBytes false names′ marks′ cap y ≡ markFor idBytes false names marks cap y
+  other-id : (y : Id) → eqId y x ≡ false → markFor width false names′ marks′ cap y ≡ markFor width false names marks cap y
   other-id y e = g .other y (λ q. clash (eqId-same y x q) e)
 
   -- a bit P: the set of the ids that have it gains x where `bits` has it
-  gained-bit : (P : ℕ → Bool) → ((b n : ℕ) → P (withBits b n) ≡ (P b || P n)) → (f : Id → Bool) → ((y : Id) → f y ≡ P (markFor idBytes false names marks cap y))
-      → (y : Id) → also (P bits) f x y ≡ P (markFor idBytes false names′ marks′ cap y)
+  gained-bit : (P : ℕ → Bool) → ((b n : ℕ) → P (withBits b n) ≡ (P b || P n)) → (f : Id → Bool) → ((y : Id) → f y ≡ P (markFor width false names marks cap y))
+      → (y : Id) → also (P bits) f x y ≡ P (markFor width false names′ marks′ cap y)
   gained-bit P law f is y =
       byCases (eqId y x)
       (λ e.
       also-here (P bits) f x y e
       ∙ ap (λ (t : Bool). P bits || t) (is y)
-      ∙ sym (law bits (markFor idBytes false names marks cap y))
+      ∙ sym (law bits (markFor width false names marks cap y))
       ∙ ap P (sym (this-mark y e)))
       (λ e. also-other (P bits) f x y e ∙ is y ∙ ap P (sym (other-id y e)))
 
-  seen-kept : (y : Id) → seen (markFor idBytes false names′ marks′ cap y) ≡ seen (markFor idBytes false names marks cap y)
+  seen-kept : (y : Id) → seen (markFor width false names′ marks′ cap y) ≡ seen (markFor width false names marks cap y)
   seen-kept y =
-      byCases (eqId y x) (λ e. ap seen (this-mark y e) ∙ seen-withBits bits (markFor idBytes false names marks cap y)) (λ e. ap seen (other-id y e))
+      byCases (eqId y x) (λ e. ap seen (this-mark y e) ∙ seen-withBits bits (markFor width false names marks cap y)) (λ e. ap seen (other-id y e))
 
   -- the mark of the slot
   slot-mark : getD marks′ k 0 ≡ withBits bits (getD marks k 0)
@@ -101,11 +100,11 @@ module _ {names marks names′ marks′ : List ℕ} {cap : ℕ} {x : Id} {bits k
         ⊎-elim (λ e. subst (λ (j : ℕ). liveAt false marks′ j ≡ true) (sym e) (painted-live (getD marks′ k 0) slot-painted)) (λ n. ap (live false) (g .apart s n) ∙ h) (same? s k)
 
     gained-spares : (levels levels′ : List ℕ) (times times′ : List ℤ) (line line′ : List ℕ) (base : ℕ) → take base line′ ≡ take base line
-        → Spares cap base (lent names marks levels times line) (lent names′ marks′ levels′ times′ line′)
+        → Spares width cap base (lent names marks levels times line) (lent names′ marks′ levels′ times′ line′)
     gained-spares levels levels′ times times′ line line′ base e = record { seen-same = seen-kept; taken = λ s l a. (stays-taken s a, g .taken s l a); below = e }
 
-  gained-named : (levels levels′ : List ℕ) (times times′ : List ℤ) (line line′ : List ℕ) (u : List Id) → List·Memᴰ x u → Named cap u (lent names marks levels times line)
-      → Named cap u (lent names′ marks′ levels′ times′ line′)
+  gained-named : (levels levels′ : List ℕ) (times times′ : List ℤ) (line line′ : List ℕ) (u : List Id) → List·Memᴰ x u → Named width cap u (lent names marks levels times line)
+      → Named width cap u (lent names′ marks′ levels′ times′ line′)
   gained-named levels levels′ times times′ line line′ u i n = record {
     few = n .few;
     small = n .small;
@@ -114,8 +113,8 @@ module _ {names marks names′ marks′ : List ℕ} {cap : ℕ} {x : Id} {bits k
 
 -- ---- its slot has its pair, and those of the others stand
 
-module _ {w : World} {names marks levels : List ℕ} {times : List ℤ} {names′ marks′ levels′ : List ℕ} {times′ : List ℤ} {cap : ℕ} {x : Id} {bits k : ℕ}
-    (g : Gained names marks names′ marks′ cap x bits k) (q : Paired w marks levels times levels′ times′ x k) where
+module _ {width : ℕ} {w : World} {names marks levels : List ℕ} {times : List ℤ} {names′ marks′ levels′ : List ℕ} {times′ : List ℤ} {cap : ℕ} {x : Id} {bits k : ℕ}
+    (g : Gained width names marks names′ marks′ cap x bits k) (q : Paired w marks levels times levels′ times′ x k) where
   level-same : (s : ℕ) → isPainted (getD marks s 0) ≡ true → levelOf levels′ s ≡ levelOf levels s
   level-same s h =
       ⊎-elim (λ a. ap (λ (l : List ℕ). levelOf l s) (a .1))
@@ -135,7 +134,7 @@ module _ {w : World} {names marks levels : List ℕ} {times : List ℤ} {names�
   pair-same : (s : ℕ) → isPainted (getD marks s 0) ≡ true → pairAt levels′ times′ s ≡ pairAt levels times s
   pair-same s h = let a = level-same s h in let b = time-same s h in λ i. record { generation = a i; time = b i }
 
-  entry-same : (s : ℕ) → s < cap → isPainted (getD marks s 0) ≡ true → entryAt names′ levels′ times′ s ≡ entryAt names levels times s
+  entry-same : (s : ℕ) → s < cap → isPainted (getD marks s 0) ≡ true → entryAt width names′ levels′ times′ s ≡ entryAt width names levels times s
   entry-same s l h = let a = pair-same s h in let b = g .taken s l (painted-live (getD marks s 0) h) in λ i. (a i, b i)
 
   levels-long : cap ≤ length levels → cap ≤ length levels′
@@ -147,11 +146,11 @@ module _ {w : World} {names marks levels : List ℕ} {times : List ℤ} {names�
       ⊎-elim (λ a. omega (arith, ap length (a .2))) (λ a. omega (arith, ap length (a .1 .time-set), length-set times k (a .1 .pair .time))) q
 
   -- a slot that was read still is
-  still-known : (s : ℕ) → s < cap → isPainted (getD marks s 0) ≡ true → IsKnown w names levels times s → IsKnown w names′ levels′ times′ s
+  still-known : (s : ℕ) → s < cap → isPainted (getD marks s 0) ≡ true → IsKnown width w names levels times s → IsKnown width w names′ levels′ times′ s
   still-known s l h n = record { parents = n .parents; is = ap (read w) (g .taken s l (painted-live (getD marks s 0) h)) ∙ n .is ∙ ap (good (n .parents)) (sym (pair-same s h)) }
 
   -- the slot itself
-  slot-known : cap ≤ length levels → cap ≤ length times → ((s : ℕ) → s < cap → isPainted (getD marks s 0) ≡ true → IsKnown w names levels times s) → IsKnown w names′ levels′ times′ k
+  slot-known : cap ≤ length levels → cap ≤ length times → ((s : ℕ) → s < cap → isPainted (getD marks s 0) ≡ true → IsKnown width w names levels times s) → IsKnown width w names′ levels′ times′ k
   slot-known hl ht known =
       ⊎-elim (λ a. still-known k (g .holds .low) (a .0) (known k (g .holds .low) (a .0)))
       (λ a.
@@ -173,11 +172,11 @@ unfolding addPending
 pending-cons b c l = refl
 
 -- slots are set against each other as their pairs are, by definition
-insert-entries : (names levels : List ℕ) (times : List ℤ) (k : ℕ) (l : List ℕ)
-    → map (entryAt names levels times) (insertBy (ahead levels times) k l) ≡ addPending (pairAt levels times k) (idOf idBytes names k) (map (entryAt names levels times) l)
+insert-entries : (width : ℕ) (names levels : List ℕ) (times : List ℤ) (k : ℕ) (l : List ℕ)
+    → map (entryAt width names levels times) (insertBy (ahead levels times) k l) ≡ addPending (pairAt levels times k) (idOf width names k) (map (entryAt width names levels times) l)
 unfolding ahead
-insert-entries names levels times k l =
-    insert-map (entryAt names levels times) (ahead levels times) (λ b c. ltPair (c .0) (b .0)) (λ b m. addPending (b .0) (b .1) m) pending-nil pending-cons k l
+insert-entries width names levels times k l =
+    insert-map (entryAt width names levels times) (ahead levels times) (λ b c. ltPair (c .0) (b .0)) (λ b m. addPending (b .0) (b .1) m) pending-nil pending-cons k l
     (λ y h. refl)
 
 -- ---- all of it
@@ -199,24 +198,24 @@ mark-fail : (w : World) (bits : ℕ) (x : Id) (st : Paint) (n : Refusal) → rea
 unfolding mark markRead
 mark-fail w bits x st n e = rw e
 
-module _ {w : World} {cap : ℕ} {u : List Id} {names marks levels : List ℕ} {times : List ℤ} {line : List ℕ} {p : Pending} {x : Id} {bits : ℕ} {st : Paint}
-    (h : MayStep w cap u (lent names marks levels times line) p x bits st (mark w (marksOf bits) x st)) where
+module _ {width : ℕ} {w : World} {cap : ℕ} {u : List Id} {names marks levels : List ℕ} {times : List ℤ} {line : List ℕ} {p : Pending} {x : Id} {bits : ℕ} {st : Paint}
+    (h : MayStep width w cap u (lent names marks levels times line) p x bits st (mark w (marksOf bits) x st)) where
   -- a full table does not come
-  pub has-slot : Finds idBytes false names marks cap x TableFull → ⊥
-  has-slot f = room u (h .reads .table) f (h .width) (h .named .few) (within (h .named .inside)) (h .in-u) refl
+  pub has-slot : Finds width false names marks cap x TableFull → ⊥
+  has-slot f = room u (h .reads .table) f (h .wide) (h .named .few) (within (h .named .inside)) (h .in-u) refl
 
   module _ {names′ marks′ levels′ : List ℕ} {times′ : List ℤ} where
     -- the commit cannot be read
-    pub stops-here : {n : Refusal} {k : ℕ} → read w x ≡ fail n → Gained names marks names′ marks′ cap x bits k
-        → Stops cap p (lent names marks levels times line) (lent names′ marks′ levels′ times′ line) n (mark w (marksOf bits) x st)
+    pub stops-here : {n : Refusal} {k : ℕ} → read w x ≡ fail n → Gained width names marks names′ marks′ cap x bits k
+        → Stops width cap p (lent names marks levels times line) (lent names′ marks′ levels′ times′ line) n (mark w (marksOf bits) x st)
     stops-here {n} e g = record {
       is = mark-fail w bits x st n e;
       table = g .table;
       spares = gained-spares g (h .some-mark) levels levels′ times times′ line line (p .base) refl;
     }
 
-    module _ {k : ℕ} (g : Gained names marks names′ marks′ cap x bits k) (q : Paired w marks levels times levels′ times′ x k) where
-      here : IsKnown w names′ levels′ times′ k
+    module _ {k : ℕ} (g : Gained width names marks names′ marks′ cap x bits k) (q : Paired w marks levels times levels′ times′ x k) where
+      here : IsKnown width w names′ levels′ times′ k
       here = slot-known g q (h .reads .for-levels) (h .reads .for-times) (h .reads .known)
 
       is-read : read w x ≡ good (here .parents) (pairAt levels′ times′ k)
@@ -230,25 +229,25 @@ module _ {w : World} {cap : ℕ} {u : List Id} {names marks levels : List ℕ} {
       has-room =
           let n = h .room (marked st x bits (pairAt levels′ times′ k)) is-marked in
           few-room levels times p line (h .reads .right)
-          (omega (arith, length-addPending (pairAt levels′ times′ k) x (st .pending), ap length (h .reads .queue), length-map (slotsIn levels times p line) (entryAt names levels times)))
+          (omega (arith, length-addPending (pairAt levels′ times′ k) x (st .pending), ap length (h .reads .queue), length-map (slotsIn levels times p line) (entryAt width names levels times)))
 
       -- the slot had no mark of painting's where its pair is set down, so it did not wait, and those that wait are as they were
       still-wait : slotsIn levels′ times′ p line ≡ slotsIn levels times p line
       still-wait = slots-frame levels levels′ times times′ p line (λ s i. let o = h .reads .queued s i in (level-same g q s (o .1), time-same g q s (o .1)))
 
       module _ {line′ : List ℕ} {d : Pushed} (e : Entered levels′ times′ k p line d line′) where
-        queue-now : addPending (pairAt levels′ times′ k) x (st .pending) ≡ map (entryAt names′ levels′ times′) (slotsIn levels′ times′ (d .pending) line′)
+        queue-now : addPending (pairAt levels′ times′ k) x (st .pending) ≡ map (entryAt width names′ levels′ times′) (slotsIn levels′ times′ (d .pending) line′)
         queue-now =
             ap (addPending (pairAt levels′ times′ k) x) (h .reads .queue)
-            ∙ ap (λ (y : Id). addPending (pairAt levels′ times′ k) y (map (entryAt names levels times) (slotsIn levels times p line))) (sym (g .holds .is))
-            ∙ ap (addPending (pairAt levels′ times′ k) (idOf idBytes names′ k))
-            (sym (map-agree (entryAt names′ levels′ times′) (entryAt names levels times) (slotsIn levels times p line)
+            ∙ ap (λ (y : Id). addPending (pairAt levels′ times′ k) y (map (entryAt width names levels times) (slotsIn levels times p line))) (sym (g .holds .is))
+            ∙ ap (addPending (pairAt levels′ times′ k) (idOf width names′ k))
+            (sym (map-agree (entryAt width names′ levels′ times′) (entryAt width names levels times) (slotsIn levels times p line)
             (λ s i. let o = h .reads .queued s i in entry-same g q s (o .0) (o .1))))
-            ∙ sym (insert-entries names′ levels′ times′ k (slotsIn levels times p line))
-            ∙ ap (λ (l : List ℕ). map (entryAt names′ levels′ times′) (insertBy (ahead levels′ times′) k l)) (sym still-wait)
-            ∙ ap (map (entryAt names′ levels′ times′)) (sym (e .slots))
+            ∙ sym (insert-entries width names′ levels′ times′ k (slotsIn levels times p line))
+            ∙ ap (λ (l : List ℕ). map (entryAt width names′ levels′ times′) (insertBy (ahead levels′ times′) k l)) (sym still-wait)
+            ∙ ap (map (entryAt width names′ levels′ times′)) (sym (e .slots))
 
-        marked-reads : PaintReads w cap (lent names′ marks′ levels′ times′ line′) (d .pending) (marked st x bits (pairAt levels′ times′ k))
+        marked-reads : PaintReads width w cap (lent names′ marks′ levels′ times′ line′) (d .pending) (marked st x bits (pairAt levels′ times′ k))
         marked-reads = record {
           table = g .table;
           for-levels = levels-long g q (h .reads .for-levels);
@@ -261,14 +260,14 @@ module _ {w : World} {cap : ℕ} {u : List Id} {names marks levels : List ℕ} {
           queued = pushed-all e (λ (s : ℕ). (s < cap) × (isPainted (getD marks′ s 0) ≡ true)) (g .holds .low, slot-painted g (h .some-mark))
               (λ s i. let o = h .reads .queued s (subst (In s) still-wait i) in (o .0, stays-painted g (h .some-mark) s (o .1)));
           known = λ s l a.
-              ⊎-elim (λ o. subst (λ (j : ℕ). IsKnown w names′ levels′ times′ j) (sym o) here)
+              ⊎-elim (λ o. subst (λ (j : ℕ). IsKnown width w names′ levels′ times′ j) (sym o) here)
               (λ n. let b : isPainted (getD marks s 0) ≡ true = ap isPainted (sym (g .apart s n)) ∙ a in still-known g q s l b (h .reads .known s l b))
               (same? s k);
         }
 
         -- painting goes on
         pub goes-here : take (p .base) line′ ≡ take (p .base) line
-            → Goes w cap u p (lent names marks levels times line) (lent names′ marks′ levels′ times′ line′) (d .pending) (mark w (marksOf bits) x st)
+            → Goes width w cap u p (lent names marks levels times line) (lent names′ marks′ levels′ times′ line′) (d .pending) (mark w (marksOf bits) x st)
         goes-here below = record {
           state = marked st x bits (pairAt levels′ times′ k);
           is = is-marked;

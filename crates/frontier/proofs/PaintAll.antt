@@ -40,7 +40,6 @@ use Rattle.frontier.proofs.PaintBits.{painted-0}
 use Rattle.frontier.proofs.Steps.{ends-then, then-is, then-stop}
 use Rattle.frontier.proofs.PaintRoom.{paint-parts, turns-room, shown-room, hidden-room}
 use Rattle.frontier.proofs.Wash.{washed-low, high-painted, high-seen, high-zero, wash-table, wash-taken, wash-mark}
-use Rattle.hash.specs.Bytes.{idBytes}
 
 -- ---- the two marks
 
@@ -62,9 +61,9 @@ hidden-some = refl
 
 -- ---- the queue may stand elsewhere, and its memory reach further down
 
-moved : {w : World} {cap : ℕ} {m : Lent} {p p′ : Pending} {st : Paint} → Right p′ (m .line) → slotsIn (m .levels) (m .times) p′ (m .line) ≡ slotsIn (m .levels) (m .times) p (m .line)
-    → PaintReads w cap m p st → PaintReads w cap m p′ st
-moved {m = m} h e r = record {
+moved : {width : ℕ} {w : World} {cap : ℕ} {m : Lent} {p p′ : Pending} {st : Paint} → Right p′ (m .line) → slotsIn (m .levels) (m .times) p′ (m .line) ≡ slotsIn (m .levels) (m .times) p (m .line)
+    → PaintReads width w cap m p st → PaintReads width w cap m p′ st
+moved {width} {m = m} h e r = record {
   table = r .table;
   for-levels = r .for-levels;
   for-times = r .for-times;
@@ -72,13 +71,13 @@ moved {m = m} h e r = record {
   vis = r .vis;
   hid = r .hid;
   stale = r .stale;
-  queue = r .queue ∙ ap (map (entryAt (m .names) (m .levels) (m .times))) (sym e);
+  queue = r .queue ∙ ap (map (entryAt width (m .names) (m .levels) (m .times))) (sym e);
   queued = λ s i. r .queued s (subst (In s) e i);
   known = r .known;
 }
 
-spares-less : {cap : ℕ} {m m′ : Lent} (base low : ℕ) → low ≤ base → Spares cap base m m′ → Spares cap low m m′
-spares-less {m = m} {m′ = m′} base low h k = record {
+spares-less : {width : ℕ} {cap : ℕ} {m m′ : Lent} (base low : ℕ) → low ≤ base → Spares width cap base m m′ → Spares width cap low m m′
+spares-less {width} {m = m} {m′ = m′} base low h k = record {
   seen-same = k .seen-same;
   taken = k .taken;
   below = sym (take-take low base (m′ .line) h) ∙ ap (take low) (k .below) ∙ take-take low base (m .line) h;
@@ -90,16 +89,16 @@ spares-less {m = m} {m′ = m′} base low h k = record {
 abbrev pub runOf : ℕ → ℕ → Pending
 runOf cap n = record { base = 2 * cap + n; low = 2 * cap + n; high = 2 * cap + n; start = 5 * cap; end = 5 * cap }
 
-module _ (c : Cache) (g s : List ℕ) (cap : ℕ) (m m₁ m₂ m₃ : Lent) (n : ℕ) (hide : List Id) (r₁ r₂ r₃ : Marked) (large : 5 * cap ≤ length (m .line)) (few : n ≤ cap) where
-  module _ (f : Files c g s) (u waiting : List Id) (h : MayStart (worldUnder c g s) cap u m n waiting hide) where
+module _ (width : ℕ) (c : Cache) (g s : List ℕ) (cap : ℕ) (m m₁ m₂ m₃ : Lent) (n : ℕ) (hide : List Id) (r₁ r₂ r₃ : Marked) (large : 5 * cap ≤ length (m .line)) (few : n ≤ cap) where
+  module _ (f : Files width c g s) (u waiting : List Id) (h : MayStart width (worldUnder width c g s) cap u m n waiting hide) where
     abbrev w : World
-    w = worldUnder c g s
+    w = worldUnder width c g s
 
     -- the waiting commits get VISIBLE
-    shown : MarksRun c g s cap m m₁ (runOf cap n) (2 * cap) n 1 r₁ → Ends w cap u (runOf cap n) m m₁ r₁ (markAll w VISIBLE (sorted waiting) unpainted)
+    shown : MarksRun width c g s cap m m₁ (runOf cap n) (2 * cap) n 1 r₁ → Ends width w cap u (runOf cap n) m m₁ r₁ (markAll w VISIBLE (sorted waiting) unpainted)
     shown o =
-        subst (λ (a : Marks). Ends w cap u (runOf cap n) m m₁ r₁ (markAll w a (sorted waiting) unpainted)) visible-is
-        (subst (λ (xs : List Id). Ends w cap u (runOf cap n) m m₁ r₁ (markAll w (marksOf 1) xs unpainted)) (h .ids)
+        subst (λ (a : Marks). Ends width w cap u (runOf cap n) m m₁ r₁ (markAll w a (sorted waiting) unpainted)) visible-is
+        (subst (λ (xs : List Id). Ends width w cap u (runOf cap n) m m₁ r₁ (markAll w (marksOf 1) xs unpainted)) (h .ids)
         (o .right f u unpainted (record { fits = omega arith; inside = omega arith; taken = h .taken })
         (record {
           reads = moved (empty-right (2 * cap + n) (5 * cap) (m .line) (omega arith) large)
@@ -112,10 +111,10 @@ module _ (c : Cache) (g s : List ℕ) (cap : ℕ) (m m₁ m₂ m₃ : Lent) (n :
         })))
 
     -- the hidden tips get HIDDEN
-    hiding : (r : Marked) → Ends w cap u (runOf cap n) m m₁ r (markAll w VISIBLE (sorted waiting) unpainted) → AllTakenAfter markAll c g s cap m₁ m₂ (loweredTo (2 * cap) r) hide 2 r₂
-        → Ends w cap u (startOf cap) m m₂ r₂ (then (markAll w VISIBLE (sorted waiting) unpainted) (λ st. markAll w HIDDEN hide st))
+    hiding : (r : Marked) → Ends width w cap u (runOf cap n) m m₁ r (markAll w VISIBLE (sorted waiting) unpainted) → AllTakenAfter width markAll c g s cap m₁ m₂ (loweredTo (2 * cap) r) hide 2 r₂
+        → Ends width w cap u (startOf cap) m m₂ r₂ (then (markAll w VISIBLE (sorted waiting) unpainted) (λ st. markAll w HIDDEN hide st))
     hiding (Going p) gone o =
-        let low : Goes w cap u (startOf cap) m m₁ (record { base = 2 * cap; low = p .low; high = p .high; start = p .start; end = p .end }) (markAll w VISIBLE (sorted waiting) unpainted) =
+        let low : Goes width w cap u (startOf cap) m m₁ (record { base = 2 * cap; low = p .low; high = p .high; start = p .start; end = p .end }) (markAll w VISIBLE (sorted waiting) unpainted) =
         record {
           state = gone .state;
           is = gone .is;
@@ -137,8 +136,8 @@ module _ (c : Cache) (g s : List ℕ) (cap : ℕ) (m m₁ m₂ m₃ : Lent) (n :
           room = λ i st e. omega (arith, hidden-room (h .ample) VISIBLE (gone .is) i (marksOf 2) st e, gone .end);
         }))
     hiding (Stop k) gone o =
-        subst (λ (a : Marked). Ends w cap u (startOf cap) m m₂ a (then (markAll w VISIBLE (sorted waiting) unpainted) (λ st. markAll w HIDDEN hide st))) (sym (o .1))
-        (subst (λ (b : Lent). Stops cap (startOf cap) m b k (then (markAll w VISIBLE (sorted waiting) unpainted) (λ st. markAll w HIDDEN hide st))) (sym (o .0))
+        subst (λ (a : Marked). Ends width w cap u (startOf cap) m m₂ a (then (markAll w VISIBLE (sorted waiting) unpainted) (λ st. markAll w HIDDEN hide st))) (sym (o .1))
+        (subst (λ (b : Lent). Stops width cap (startOf cap) m b k (then (markAll w VISIBLE (sorted waiting) unpainted) (λ st. markAll w HIDDEN hide st))) (sym (o .0))
         (record {
           is = ap (λ (a : Painting). then a (λ st. markAll w HIDDEN hide st)) (gone .is) ∙ then-stop k (λ st. markAll w HIDDEN hide st);
           table = gone .table;
@@ -147,8 +146,8 @@ module _ (c : Cache) (g s : List ℕ) (cap : ℕ) (m m₁ m₂ m₃ : Lent) (n :
     hiding NoRoom gone o = absurd gone
 
     -- the turns
-    turning : (r : Marked) → Ends w cap u (startOf cap) m m₂ r (then (markAll w VISIBLE (sorted waiting) unpainted) (λ st. markAll w HIDDEN hide st))
-        → TurnsTakenAfter c g s cap m₂ m₃ r (4 * cap) r₃ → Ends w cap u (startOf cap) m m₃ r₃ (paint w (4 * cap) waiting hide)
+    turning : (r : Marked) → Ends width w cap u (startOf cap) m m₂ r (then (markAll w VISIBLE (sorted waiting) unpainted) (λ st. markAll w HIDDEN hide st))
+        → TurnsTakenAfter width c g s cap m₂ m₃ r (4 * cap) r₃ → Ends width w cap u (startOf cap) m m₃ r₃ (paint w (4 * cap) waiting hide)
     turning (Going p) gone o =
         ends-then m₃ r₃ gone
         (sym
@@ -162,8 +161,8 @@ module _ (c : Cache) (g s : List ℕ) (cap : ℕ) (m m₁ m₂ m₃ : Lent) (n :
           room = λ i st e fr q qs z j st′ d. omega (arith, turns-room (h .ample) (gone .is) i st e fr q qs z j st′ d, gone .base, gone .end);
         }))
     turning (Stop k) gone o =
-        subst (λ (a : Marked). Ends w cap u (startOf cap) m m₃ a (paint w (4 * cap) waiting hide)) (sym (o .1))
-        (subst (λ (b : Lent). Stops cap (startOf cap) m b k (paint w (4 * cap) waiting hide)) (sym (o .0))
+        subst (λ (a : Marked). Ends width w cap u (startOf cap) m m₃ a (paint w (4 * cap) waiting hide)) (sym (o .1))
+        (subst (λ (b : Lent). Stops width cap (startOf cap) m b k (paint w (4 * cap) waiting hide)) (sym (o .0))
         (record {
           is = sym (paint-parts w (4 * cap) waiting hide) ∙ ap (λ (a : Painting). then a (λ st. turns w (4 * cap) st)) (gone .is) ∙ then-stop k (λ st. turns w (4 * cap) st);
           table = gone .table;
@@ -171,13 +170,13 @@ module _ (c : Cache) (g s : List ℕ) (cap : ℕ) (m m₁ m₂ m₃ : Lent) (n :
         }))
     turning NoRoom gone o = absurd gone
 
-pub paints-from : {c : Cache} {g s : List ℕ} {cap : ℕ} {m m₁ m₂ m₃ : Lent} {n : ℕ} {hide : List Id} {low r₁ r₂ r₃ : Marked} → 5 * cap ≤ length (m .line) → n ≤ cap → MarksRun c g s cap m m₁ (runOf cap n) (2 * cap) n 1 r₁
-    → low ≡ loweredTo (2 * cap) r₁ → TakesAllAfter markAll c g s cap m₁ m₂ low hide 2 r₂ → TakesTurnsAfter c g s cap m₂ m₃ r₂ (4 * cap) r₃ → PaintsFrom c g s cap m m₃ n hide r₃
-paints-from {c} {g} {s} {cap} {m} {m₁} {m₂} {m₃} {n} {hide} {low} {r₁} {r₂} {r₃} large few a e b d = record {
+pub paints-from : {width : ℕ} {c : Cache} {g s : List ℕ} {cap : ℕ} {m m₁ m₂ m₃ : Lent} {n : ℕ} {hide : List Id} {low r₁ r₂ r₃ : Marked} → 5 * cap ≤ length (m .line) → n ≤ cap → MarksRun width c g s cap m m₁ (runOf cap n) (2 * cap) n 1 r₁
+    → low ≡ loweredTo (2 * cap) r₁ → TakesAllAfter width markAll c g s cap m₁ m₂ low hide 2 r₂ → TakesTurnsAfter width c g s cap m₂ m₃ r₂ (4 * cap) r₃ → PaintsFrom width c g s cap m m₃ n hide r₃
+paints-from {width} {c} {g} {s} {cap} {m} {m₁} {m₂} {m₃} {n} {hide} {low} {r₁} {r₂} {r₃} large few a e b d = record {
   right = λ f u waiting h.
-      turning c g s cap m m₁ m₂ m₃ n hide r₁ r₂ r₃ large few f u waiting h r₂
-      (hiding c g s cap m m₁ m₂ m₃ n hide r₁ r₂ r₃ large few f u waiting h r₁ (shown c g s cap m m₁ m₂ m₃ n hide r₁ r₂ r₃ large few f u waiting h a)
-      (subst (λ (q : Marked). AllTakenAfter markAll c g s cap m₁ m₂ q hide 2 r₂) e (b .does)))
+      turning width c g s cap m m₁ m₂ m₃ n hide r₁ r₂ r₃ large few f u waiting h r₂
+      (hiding width c g s cap m m₁ m₂ m₃ n hide r₁ r₂ r₃ large few f u waiting h r₁ (shown width c g s cap m m₁ m₂ m₃ n hide r₁ r₂ r₃ large few f u waiting h a)
+      (subst (λ (q : Marked). AllTakenAfter width markAll c g s cap m₁ m₂ q hide 2 r₂) e (b .does)))
       (d .does);
 }
 
@@ -196,13 +195,13 @@ clean-stale : (k : ℕ) → isPainted k ≡ false → stale k ≡ false
 unfolding isPainted
 clean-stale k e = not-yes (λ y. clash (or-right (visible k) (hidden k || stale k) (or-right (hidden k) (stale k) y)) e)
 
-module _ {w : World} {cap : ℕ} {u : List Id} {names marks levels : List ℕ} {times : List ℤ} {line line′ : List ℕ} {q : Queue} {hide : List Id}
-    (h : MayPaint w cap u (lent names marks levels times line) q hide) (o : Collects names line q (2 * cap) line′) where
+module _ {width : ℕ} {w : World} {cap : ℕ} {u : List Id} {names marks levels : List ℕ} {times : List ℤ} {line line′ : List ℕ} {q : Queue} {hide : List Id}
+    (h : MayPaint width w cap u (lent names marks levels times line) q hide) (o : Collects width names line q (2 * cap) line′) where
   abbrev clean : Lent
   clean = lent names (washed cap marks) levels times line′
 
-  no-mark : (x : Id) → isPainted (markFor idBytes false names (washed cap marks) cap x) ≡ false
-  no-mark x = ap isPainted (wash-mark (h .table) (h .only-seen) x) ∙ high-painted (markFor idBytes false names marks cap x)
+  no-mark : (x : Id) → isPainted (markFor width false names (washed cap marks) cap x) ≡ false
+  no-mark x = ap isPainted (wash-mark (h .table) (h .only-seen) x) ∙ high-painted (markFor width false names marks cap x)
 
   none-queued : slotsIn levels times (startOf cap) line′ ≡ []
   none-queued = empty-slots levels times (startOf cap) line′ (omega arith)
@@ -210,39 +209,39 @@ module _ {w : World} {cap : ℕ} {u : List Id} {names marks levels : List ℕ} {
   slot-clean : (s : ℕ) → s < cap → isPainted (getD (washed cap marks) s 0) ≡ false
   slot-clean s l = ap isPainted (washed-low cap marks s l) ∙ high-painted (getD marks s 0)
 
-  clean-reads : PaintReads w cap clean (startOf cap) unpainted
+  clean-reads : PaintReads width w cap clean (startOf cap) unpainted
   unfolding In
   clean-reads = record {
     table = wash-table (h .table) (h .only-seen);
     for-levels = h .for-levels;
     for-times = h .for-times;
     right = empty-right (2 * cap) (5 * cap) line′ (omega arith) (omega (arith, h .for-line, o .long));
-    vis = λ x. sym (clean-visible (markFor idBytes false names (washed cap marks) cap x) (no-mark x));
-    hid = λ x. sym (clean-hidden (markFor idBytes false names (washed cap marks) cap x) (no-mark x));
-    stale = λ x. sym (clean-stale (markFor idBytes false names (washed cap marks) cap x) (no-mark x));
-    queue = sym (ap (map (entryAt names levels times)) none-queued);
+    vis = λ x. sym (clean-visible (markFor width false names (washed cap marks) cap x) (no-mark x));
+    hid = λ x. sym (clean-hidden (markFor width false names (washed cap marks) cap x) (no-mark x));
+    stale = λ x. sym (clean-stale (markFor width false names (washed cap marks) cap x) (no-mark x));
+    queue = sym (ap (map (entryAt width names levels times)) none-queued);
     queued = λ s i. absurd (subst (In s) none-queued i);
     known = λ s l a. clash a (slot-clean s l);
   }
 
-  clean-named : Named cap u clean
+  clean-named : Named width cap u clean
   clean-named = record {
     few = h .named .few;
     small = h .named .small;
-    inside = λ y k. h .named .inside y (λ z. k (wash-mark (h .table) (h .only-seen) y ∙ high-zero (markFor idBytes false names marks cap y) z));
+    inside = λ y k. h .named .inside y (λ z. k (wash-mark (h .table) (h .only-seen) y ∙ high-zero (markFor width false names marks cap y) z));
   }
 
-  clean-spares : Spares cap (2 * cap) (lent names marks levels times line) clean
+  clean-spares : Spares width cap (2 * cap) (lent names marks levels times line) clean
   clean-spares = record {
-    seen-same = λ x. ap seen (wash-mark (h .table) (h .only-seen) x) ∙ high-seen (markFor idBytes false names marks cap x);
+    seen-same = λ x. ap seen (wash-mark (h .table) (h .only-seen) x) ∙ high-seen (markFor width false names marks cap x);
     taken = λ s l a. (wash-taken (h .table) (h .only-seen) s l a, refl);
     below = o .below;
   }
 
   abbrev waits : List Id
-  waits = waitingIds q (lent names marks levels times line)
+  waits = waitingIds width q (lent names marks levels times line)
 
-  may-start : MayStart w cap u clean (q .count) waits hide
+  may-start : MayStart width w cap u clean (q .count) waits hide
   may-start =
       let k = o .right times (h .good) (omega (arith, h .queue-cap)) (omega (arith, h .for-line, good-size (h .good), h .queue-cap)) in
       record {
@@ -256,21 +255,21 @@ module _ {w : World} {cap : ℕ} {u : List Id} {names marks levels : List ℕ} {
         ample = h .ample;
       }
 
-  begun : Goes w cap u (startOf cap) (lent names marks levels times line) clean (startOf cap) (going unpainted)
+  begun : Goes width w cap u (startOf cap) (lent names marks levels times line) clean (startOf cap) (going unpainted)
   begun = record { state = unpainted; is = refl; reads = clean-reads; named = clean-named; spares = clean-spares; base = refl; end = refl }
 
-pub paints : {c : Cache} {g s : List ℕ} {cap : ℕ} {names marks levels : List ℕ} {times : List ℤ} {line marks₁ line₁ : List ℕ} {m′ : Lent} {q : Queue} {hide : List Id} {r : Marked}
-    → marks₁ ≡ washed cap marks → Collects names line q (2 * cap) line₁ → PaintsFrom c g s cap (lent names marks₁ levels times line₁) m′ (q .count) hide r
-    → Paints c g s cap (lent names marks levels times line) m′ q hide r
-paints {c} {g} {s} {cap} {names} {marks} {levels} {times} {line} {marks₁} {line₁} {m′} {q} {hide} {r} e o p = record {
+pub paints : {width : ℕ} {c : Cache} {g s : List ℕ} {cap : ℕ} {names marks levels : List ℕ} {times : List ℤ} {line marks₁ line₁ : List ℕ} {m′ : Lent} {q : Queue} {hide : List Id} {r : Marked}
+    → marks₁ ≡ washed cap marks → Collects width names line q (2 * cap) line₁ → PaintsFrom width c g s cap (lent names marks₁ levels times line₁) m′ (q .count) hide r
+    → Paints width c g s cap (lent names marks levels times line) m′ q hide r
+paints {width} {c} {g} {s} {cap} {names} {marks} {levels} {times} {line} {marks₁} {line₁} {m′} {q} {hide} {r} e o p = record {
   right = λ f u h.
       ends-then m′ r (begun h o) refl
-      (subst (λ (l : List ℕ). PaintsFrom c g s cap (lent names l levels times line₁) m′ (q .count) hide r) e p .right f u (waits h o) (may-start h o));
+      (subst (λ (l : List ℕ). PaintsFrom width c g s cap (lent names l levels times line₁) m′ (q .count) hide r) e p .right f u (waits h o) (may-start h o));
 }
 
 -- the memory is too small
-pub too-small : {c : Cache} {g s : List ℕ} {cap : ℕ} {m m′ : Lent} {q : Queue} {hide : List Id} → (5 * cap ≤ length (m .line) → ⊥) → Paints c g s cap m m′ q hide NoRoom
+pub too-small : {width : ℕ} {c : Cache} {g s : List ℕ} {cap : ℕ} {m m′ : Lent} {q : Queue} {hide : List Id} → (5 * cap ≤ length (m .line) → ⊥) → Paints width c g s cap m m′ q hide NoRoom
 too-small k = record { right = λ f u h. k (h .for-line) }
 
-pub too-many : {c : Cache} {g s : List ℕ} {cap : ℕ} {m m′ : Lent} {q : Queue} {hide : List Id} → cap < q .count → Paints c g s cap m m′ q hide NoRoom
+pub too-many : {width : ℕ} {c : Cache} {g s : List ℕ} {cap : ℕ} {m m′ : Lent} {q : Queue} {hide : List Id} → cap < q .count → Paints width c g s cap m m′ q hide NoRoom
 too-many k = record { right = λ f u h. omega (arith, good-size (h .good), h .queue-cap) }

@@ -18,7 +18,6 @@ use Rattle.hashtable.proofs.TableKept.{Keeps, table-kept, holds-was}
 use Rattle.hashtable.proofs.TableView.{look, mark-held, mark-absent}
 use Rattle.frontier.specs.Bits.{isPainted}
 use Rattle.frontier.specs.Prepare.{washed}
-use Rattle.hash.specs.Bytes.{idBytes}
 
 -- ---- the list
 
@@ -79,7 +78,7 @@ high-zero m e = omega arith
 
 -- ---- the table
 
-module _ {names marks : List ℕ} {cap : ℕ} (t : Table idBytes false names marks cap) (only : (k : ℕ) → k < cap → liveAt false marks k ≡ true → seen (getD marks k 0) ≡ true) where
+module _ {width : ℕ} {names marks : List ℕ} {cap : ℕ} (t : Table width false names marks cap) (only : (k : ℕ) → k < cap → liveAt false marks k ≡ true → seen (getD marks k 0) ≡ true) where
   wash-seen : (k : ℕ) → k < cap → seen (getD (washed cap marks) k 0) ≡ seen (getD marks k 0)
   wash-seen k l = ap seen (washed-low cap marks k l) ∙ high-seen (getD marks k 0)
 
@@ -89,17 +88,17 @@ module _ {names marks : List ℕ} {cap : ℕ} (t : Table idBytes false names mar
   was : (k : ℕ) → k < cap → liveAt false (washed cap marks) k ≡ true → liveAt false marks k ≡ true
   was k l a = not-0-live (getD marks k 0) (λ z. clash a (ap (live false) (washed-low cap marks k l ∙ high-zero (getD marks k 0) z) ∙ live-none false))
 
-  wash-keeps : Keeps idBytes false names marks false names (washed cap marks) cap
+  wash-keeps : Keeps width false names marks false names (washed cap marks) cap
   wash-keeps = record { used = stays; was = was; same = λ k l a. refl }
 
   pub wash-taken : (k : ℕ) → k < cap → liveAt false marks k ≡ true → liveAt false (washed cap marks) k ≡ true
   wash-taken = stays
 
-  pub wash-table : Table idBytes false names (washed cap marks) cap
+  pub wash-table : Table width false names (washed cap marks) cap
   wash-table = table-kept (record { for-marks = rw (length-washed cap marks) (t .sized .for-marks); for-names = t .sized .for-names }) wash-keeps t
 
   -- the mark of each id
-  pub wash-mark : (x : Id) → markFor idBytes false names (washed cap marks) cap x ≡ markFor idBytes false names marks cap x / 8 * 8
+  pub wash-mark : (x : Id) → markFor width false names (washed cap marks) cap x ≡ markFor width false names marks cap x / 8 * 8
   wash-mark x =
       ⊎-elim
       (λ u.
@@ -107,5 +106,5 @@ module _ {names marks : List ℕ} {cap : ℕ} (t : Table idBytes false names mar
       mark-held wash-table (u .slot) (record { low = h .low; alive = stays (u .slot) (h .low) (h .alive); is = h .is })
       ∙ washed-low cap marks (u .slot) (h .low)
       ∙ ap (λ (m : ℕ). m / 8 * 8) (sym (u .mark)))
-      (λ u. mark-absent (λ k h. u .0 k (holds-was wash-keeps h)) ∙ sym (high-zero (markFor idBytes false names marks cap x) (u .1)))
-      (look idBytes false names marks cap x)
+      (λ u. mark-absent (λ k h. u .0 k (holds-was wash-keeps h)) ∙ sym (high-zero (markFor width false names marks cap x) (u .1)))
+      (look width false names marks cap x)

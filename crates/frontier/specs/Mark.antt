@@ -6,7 +6,7 @@ use mathlib.Core.Bool.{Bool, true, false, cond}
 use mathlib.Core.List.{List, List·Memᴰ}
 use lib.ListN.{length, take, getD, set}
 use lib.IntN.{ℤ}
-use Rattle.hash.specs.Bytes.{Id, idBytes}
+use Rattle.hash.specs.Bytes.{Id}
 use Rattle.commit.specs.declared.Cache.{Cache}
 use Rattle.hashtable.specs.Table.{Table, markFor, Finds}
 use Rattle.hashtable.specs.declared.table.Slot.the-variants.{Full as TableFull}
@@ -40,8 +40,8 @@ ToldLearned w levels times levels′ times′ x k (Unread n) = read w x ≡ fail
 ToldLearned w levels times levels′ times′ x k NoSlot = ⊥
 
 -- what `learn` does
-pub record Learns (c : Cache) (g s levels : List ℕ) (times : List ℤ) (levels′ : List ℕ) (times′ : List ℤ) (x : Id) (k : ℕ) (r : Spot) : Type 0 where
-  pub right : Files c g s → ToldLearned (worldUnder c g s) levels times levels′ times′ x k r
+pub record Learns (width : ℕ) (c : Cache) (g s levels : List ℕ) (times : List ℤ) (levels′ : List ℕ) (times′ : List ℤ) (x : Id) (k : ℕ) (r : Spot) : Type 0 where
+  pub right : Files width c g s → ToldLearned (worldUnder width c g s) levels times levels′ times′ x k r
 
 -- ---- an id gains marks in a slot
 
@@ -50,16 +50,16 @@ abbrev pub Paired : World → List ℕ → List ℕ → List ℤ → List ℕ �
 Paired w marks levels times levels′ times′ x k =
     ((isPainted (getD marks k 0) ≡ true) × (levels′ ≡ levels) × (times′ ≡ times)) ⊎ ((isPainted (getD marks k 0) ≡ false) × PairSet w levels times levels′ times′ x k)
 
-module _ (w : World) (names marks levels : List ℕ) (times : List ℤ) (names′ marks′ levels′ : List ℕ) (times′ : List ℤ) (cap : ℕ) (x : Id) (bits : ℕ) where
+module _ (width : ℕ) (w : World) (names marks levels : List ℕ) (times : List ℤ) (names′ marks′ levels′ : List ℕ) (times′ : List ℤ) (cap : ℕ) (x : Id) (bits : ℕ) where
   abbrev pub ToldPlaced : Spot → Type 0
-  ToldPlaced (At k) = Gained names marks names′ marks′ cap x bits k × Paired w marks levels times levels′ times′ x k
-  ToldPlaced (Unread n) = (read w x ≡ fail n) × ((k : ℕ) × Gained names marks names′ marks′ cap x bits k)
-  ToldPlaced NoSlot = Finds idBytes false names marks cap x TableFull
+  ToldPlaced (At k) = Gained width names marks names′ marks′ cap x bits k × Paired w marks levels times levels′ times′ x k
+  ToldPlaced (Unread n) = (read w x ≡ fail n) × ((k : ℕ) × Gained width names marks names′ marks′ cap x bits k)
+  ToldPlaced NoSlot = Finds width false names marks cap x TableFull
 
 -- what `place` does
-pub record Places (c : Cache) (g s names marks levels : List ℕ) (times : List ℤ) (names′ marks′ levels′ : List ℕ) (times′ : List ℤ) (cap : ℕ) (x : Id) (bits : ℕ) (r : Spot) : Type 0 where
-  pub right : Files c g s → Table idBytes false names marks cap → isPainted bits ≡ true → cap ≤ mostSlots
-      → ToldPlaced (worldUnder c g s) names marks levels times names′ marks′ levels′ times′ cap x bits r
+pub record Places (width : ℕ) (c : Cache) (g s names marks levels : List ℕ) (times : List ℤ) (names′ marks′ levels′ : List ℕ) (times′ : List ℤ) (cap : ℕ) (x : Id) (bits : ℕ) (r : Spot) : Type 0 where
+  pub right : Files width c g s → Table width false names marks cap → isPainted bits ≡ true → cap ≤ mostSlots
+      → ToldPlaced width (worldUnder width c g s) names marks levels times names′ marks′ levels′ times′ cap x bits r
 
 -- ---- its slot is queued
 
@@ -76,32 +76,32 @@ abbrev pub Step : Type 0
 Step = World → Marks → Id → Paint → Painting
 
 -- the step for a commit x that is to come to a may be taken with the marks of `bits`: there is one, and there is room in the table and in the queue
-pub record MayStep (w : World) (cap : ℕ) (u : List Id) (m : Lent) (p : Pending) (x : Id) (bits : ℕ) (st : Paint) (a : Painting) : Type 0 where
-  pub reads : PaintReads w cap m p st
-  pub named : Named cap u m
+pub record MayStep (width : ℕ) (w : World) (cap : ℕ) (u : List Id) (m : Lent) (p : Pending) (x : Id) (bits : ℕ) (st : Paint) (a : Painting) : Type 0 where
+  pub reads : PaintReads width w cap m p st
+  pub named : Named width cap u m
   pub in-u : List·Memᴰ x u
-  pub width : length x ≡ idBytes
+  pub wide : length x ≡ width
   pub some-mark : isPainted bits ≡ true
   pub room : Short (p .end - p .base) a
 
 -- the step is taken for the commit x: `mark_one` takes the step `mark`, `pass_one` the step `passTo`
-pub record Takes (step : Step) (c : Cache) (g s : List ℕ) (cap : ℕ) (m m′ : Lent) (p : Pending) (x : Id) (bits : ℕ) (r : Marked) : Type 0 where
-  pub right : Files c g s → (u : List Id) (st : Paint) → MayStep (worldUnder c g s) cap u m p x bits st (step (worldUnder c g s) (marksOf bits) x st)
-      → Ends (worldUnder c g s) cap u p m m′ r (step (worldUnder c g s) (marksOf bits) x st)
+pub record Takes (width : ℕ) (step : Step) (c : Cache) (g s : List ℕ) (cap : ℕ) (m m′ : Lent) (p : Pending) (x : Id) (bits : ℕ) (r : Marked) : Type 0 where
+  pub right : Files width c g s → (u : List Id) (st : Paint) → MayStep width (worldUnder width c g s) cap u m p x bits st (step (worldUnder width c g s) (marksOf bits) x st)
+      → Ends width (worldUnder width c g s) cap u p m m′ r (step (worldUnder width c g s) (marksOf bits) x st)
 
 -- the same after an answer: where painting does not go on, nothing is done
-abbrev pub TakenAfter : Step → Cache → List ℕ → List ℕ → ℕ → Lent → Lent → Marked → Id → ℕ → Marked → Type 0
-TakenAfter step c g s cap m m′ (Going p) x bits r = Takes step c g s cap m m′ p x bits r
-TakenAfter step c g s cap m m′ (Stop n) x bits r = (m′ ≡ m) × (r ≡ Stop n)
-TakenAfter step c g s cap m m′ NoRoom x bits r = (m′ ≡ m) × (r ≡ NoRoom)
+abbrev pub TakenAfter : ℕ → Step → Cache → List ℕ → List ℕ → ℕ → Lent → Lent → Marked → Id → ℕ → Marked → Type 0
+TakenAfter width step c g s cap m m′ (Going p) x bits r = Takes width step c g s cap m m′ p x bits r
+TakenAfter width step c g s cap m m′ (Stop n) x bits r = (m′ ≡ m) × (r ≡ Stop n)
+TakenAfter width step c g s cap m m′ NoRoom x bits r = (m′ ≡ m) × (r ≡ NoRoom)
 
-pub record TakesAfter (step : Step) (c : Cache) (g s : List ℕ) (cap : ℕ) (m m′ : Lent) (past : Marked) (x : Id) (bits : ℕ) (r : Marked) : Type 0 where
-  pub does : TakenAfter step c g s cap m m′ past x bits r
+pub record TakesAfter (width : ℕ) (step : Step) (c : Cache) (g s : List ℕ) (cap : ℕ) (m m′ : Lent) (past : Marked) (x : Id) (bits : ℕ) (r : Marked) : Type 0 where
+  pub does : TakenAfter width step c g s cap m m′ past x bits r
 
 -- "each parent lacking a passed mark gets them and is queued": one parent
 unfoldable pub passTo : World → Marks → Id → Paint → Painting
 passTo w m x st = cond (lacks m x st) (mark w m x st) (going st)
 
 -- what `is_lacking` says
-pub record LacksMark (names marks : List ℕ) (cap : ℕ) (x : Id) (bits : ℕ) (r : Bool) : Type 0 where
-  pub right : Table idBytes false names marks cap → r ≡ lacksBits bits (markFor idBytes false names marks cap x)
+pub record LacksMark (width : ℕ) (names marks : List ℕ) (cap : ℕ) (x : Id) (bits : ℕ) (r : Bool) : Type 0 where
+  pub right : Table width false names marks cap → r ≡ lacksBits bits (markFor width false names marks cap x)

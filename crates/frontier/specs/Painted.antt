@@ -20,7 +20,6 @@ use Rattle.frontier.specs.declared.marking.Marked.{Marked}
 use Rattle.frontier.specs.declared.marking.Marked.the-variants.{Going, Stop, NoRoom}
 use Rattle.frontier.specs.Paint.{Lent, Files, PaintReads, Named, Ends}
 use Rattle.frontier.specs.Lists.{idsIn}
-use Rattle.hash.specs.Bytes.{idBytes}
 
 -- an answer whose queue may reach down to another place
 abbrev pub loweredTo : ℕ → Marked → Marked
@@ -42,13 +41,13 @@ pub record Ample (w : World) (cap : ℕ) (u waiting hidden : List Id) : Type 0 w
   pub parents-in : (x y : Id) → List·Memᴰ y (parentsOf (read w x)) → List·Memᴰ y u
 
 -- the ids of the commits that wait, in order
-abbrev pub waitingIds : Queue → Lent → List Id
-waitingIds q m = map (idOf idBytes (m .names)) (slotsOf q (m .times) (m .line))
+abbrev pub waitingIds : ℕ → Queue → Lent → List Id
+waitingIds width q m = map (idOf width (m .names)) (slotsOf q (m .times) (m .line))
 
 -- painting may begin: the memory is large enough and has a right table and a right queue, each slot that is taken is a seen one, so is
 -- each that waits, and cap slots are enough
-pub record MayPaint (w : World) (cap : ℕ) (u : List Id) (m : Lent) (q : Queue) (hidden : List Id) : Type 0 where
-  pub table : Table idBytes false (m .names) (m .marks) cap
+pub record MayPaint (width : ℕ) (w : World) (cap : ℕ) (u : List Id) (m : Lent) (q : Queue) (hidden : List Id) : Type 0 where
+  pub table : Table width false (m .names) (m .marks) cap
   pub for-levels : cap ≤ length (m .levels)
   pub for-times : cap ≤ length (m .times)
   pub for-line : 5 * cap ≤ length (m .line)
@@ -56,24 +55,24 @@ pub record MayPaint (w : World) (cap : ℕ) (u : List Id) (m : Lent) (q : Queue)
   pub good : GoodQueue q (m .times) (m .line)
   pub only-seen : (k : ℕ) → k < cap → liveAt false (m .marks) k ≡ true → seen (getD (m .marks) k 0) ≡ true
   pub waits-seen : (s : ℕ) → In s (slotsOf q (m .times) (m .line)) → seen (getD (m .marks) s 0) ≡ true
-  pub named : Named cap u m
-  pub ample : Ample w cap u (waitingIds q m) hidden
+  pub named : Named width cap u m
+  pub ample : Ample w cap u (waitingIds width q m) hidden
 
 -- what `paint` does: `paint`, with as many turns as a walk's fuel
-pub record Paints (c : Cache) (g s : List ℕ) (cap : ℕ) (m m′ : Lent) (q : Queue) (hidden : List Id) (r : Marked) : Type 0 where
-  pub right : Files c g s → (u : List Id) → MayPaint (worldUnder c g s) cap u m q hidden
-      → Ends (worldUnder c g s) cap u (startOf cap) m m′ r (paint (worldUnder c g s) (4 * cap) (waitingIds q m) hidden)
+pub record Paints (width : ℕ) (c : Cache) (g s : List ℕ) (cap : ℕ) (m m′ : Lent) (q : Queue) (hidden : List Id) (r : Marked) : Type 0 where
+  pub right : Files width c g s → (u : List Id) → MayPaint width (worldUnder width c g s) cap u m q hidden
+      → Ends width (worldUnder width c g s) cap u (startOf cap) m m′ r (paint (worldUnder width c g s) (4 * cap) (waitingIds width q m) hidden)
 
 -- ---- the inner function
 
 -- painting may go on from slots in the line: no id has a mark of painting's, and the slots have the waiting ids by rising id
-pub record MayStart (w : World) (cap : ℕ) (u : List Id) (m : Lent) (n : ℕ) (waiting hidden : List Id) : Type 0 where
-  pub reads : PaintReads w cap m (startOf cap) unpainted
-  pub named : Named cap u m
-  pub ids : idsIn m (2 * cap) n ≡ sorted waiting
+pub record MayStart (width : ℕ) (w : World) (cap : ℕ) (u : List Id) (m : Lent) (n : ℕ) (waiting hidden : List Id) : Type 0 where
+  pub reads : PaintReads width w cap m (startOf cap) unpainted
+  pub named : Named width cap u m
+  pub ids : idsIn width m (2 * cap) n ≡ sorted waiting
   pub taken : (s : ℕ) → In s (slice (2 * cap) (2 * cap + n) (m .line)) → (s < cap) × (liveAt false (m .marks) s ≡ true)
   pub ample : Ample w cap u waiting hidden
 
-pub record PaintsFrom (c : Cache) (g s : List ℕ) (cap : ℕ) (m m′ : Lent) (n : ℕ) (hidden : List Id) (r : Marked) : Type 0 where
-  pub right : Files c g s → (u waiting : List Id) → MayStart (worldUnder c g s) cap u m n waiting hidden
-      → Ends (worldUnder c g s) cap u (startOf cap) m m′ r (paint (worldUnder c g s) (4 * cap) waiting hidden)
+pub record PaintsFrom (width : ℕ) (c : Cache) (g s : List ℕ) (cap : ℕ) (m m′ : Lent) (n : ℕ) (hidden : List Id) (r : Marked) : Type 0 where
+  pub right : Files width c g s → (u waiting : List Id) → MayStart width (worldUnder width c g s) cap u m n waiting hidden
+      → Ends width (worldUnder width c g s) cap u (startOf cap) m m′ r (paint (worldUnder width c g s) (4 * cap) waiting hidden)

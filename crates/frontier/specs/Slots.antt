@@ -10,21 +10,20 @@ use Rattle.hashtable.specs.declared.table.Slot.the-variants.{Full as TableFull}
 use Rattle.frontier.specs.declared.slots.Added.{Added}
 use Rattle.frontier.specs.declared.slots.Added.the-variants.{New, Known, Full}
 use Rattle.frontier.specs.Bits.{isPainted, withBits}
-use Rattle.hash.specs.Bytes.{idBytes}
 
 -- slot numbers that fit a u32
 abbrev pub mostSlots : ℕ
 mostSlots = 4294967296
 
 -- the id x has gained the marks of `bits` and stands in slot k; all other ids and slots are as they were
-pub record Gained (names marks names′ marks′ : List ℕ) (cap : ℕ) (x : Id) (bits k : ℕ) : Type 0 where
-  pub table : Table idBytes false names′ marks′ cap
-  pub holds : Holds idBytes false names′ marks′ cap x k
-  pub was : getD marks k 0 ≡ markFor idBytes false names marks cap x
-  pub this : markFor idBytes false names′ marks′ cap x ≡ withBits bits (markFor idBytes false names marks cap x)
-  pub other : (y : Id) → (y ≡ x → ⊥) → markFor idBytes false names′ marks′ cap y ≡ markFor idBytes false names marks cap y
+pub record Gained (width : ℕ) (names marks names′ marks′ : List ℕ) (cap : ℕ) (x : Id) (bits k : ℕ) : Type 0 where
+  pub table : Table width false names′ marks′ cap
+  pub holds : Holds width false names′ marks′ cap x k
+  pub was : getD marks k 0 ≡ markFor width false names marks cap x
+  pub this : markFor width false names′ marks′ cap x ≡ withBits bits (markFor width false names marks cap x)
+  pub other : (y : Id) → (y ≡ x → ⊥) → markFor width false names′ marks′ cap y ≡ markFor width false names marks cap y
   pub apart : (s : ℕ) → (s ≡ k → ⊥) → getD marks′ s 0 ≡ getD marks s 0
-  pub taken : (s : ℕ) → s < cap → liveAt false marks s ≡ true → idOf idBytes names′ s ≡ idOf idBytes names s
+  pub taken : (s : ℕ) → s < cap → liveAt false marks s ≡ true → idOf width names′ s ≡ idOf width names s
 
 -- a slot as an answer: known to painting, or new to it
 abbrev pub addedAt : Bool → ℕ → Added
@@ -32,11 +31,11 @@ addedAt true k = Known k
 addedAt false k = New k
 
 -- what an answer says: in which slot the id stands, and whether it had a mark of painting's; or that there is no slot for it
-abbrev pub ToldAdded : List ℕ → List ℕ → List ℕ → List ℕ → ℕ → Id → ℕ → Added → Type 0
-ToldAdded names marks names′ marks′ cap x bits (New k) = Gained names marks names′ marks′ cap x bits k × (isPainted (getD marks k 0) ≡ false)
-ToldAdded names marks names′ marks′ cap x bits (Known k) = Gained names marks names′ marks′ cap x bits k × (isPainted (getD marks k 0) ≡ true)
-ToldAdded names marks names′ marks′ cap x bits Full = Finds idBytes false names marks cap x TableFull
+abbrev pub ToldAdded : ℕ → List ℕ → List ℕ → List ℕ → List ℕ → ℕ → Id → ℕ → Added → Type 0
+ToldAdded width names marks names′ marks′ cap x bits (New k) = Gained width names marks names′ marks′ cap x bits k × (isPainted (getD marks k 0) ≡ false)
+ToldAdded width names marks names′ marks′ cap x bits (Known k) = Gained width names marks names′ marks′ cap x bits k × (isPainted (getD marks k 0) ≡ true)
+ToldAdded width names marks names′ marks′ cap x bits Full = Finds width false names marks cap x TableFull
 
 -- what `add_mark` makes of a right table
-pub record AddsMark (names marks names′ marks′ : List ℕ) (cap : ℕ) (x : Id) (bits : ℕ) (r : Added) : Type 0 where
-  pub right : Table idBytes false names marks cap → isPainted bits ≡ true → cap ≤ mostSlots → ToldAdded names marks names′ marks′ cap x bits r
+pub record AddsMark (width : ℕ) (names marks names′ marks′ : List ℕ) (cap : ℕ) (x : Id) (bits : ℕ) (r : Added) : Type 0 where
+  pub right : Table width false names marks cap → isPainted bits ≡ true → cap ≤ mostSlots → ToldAdded width names marks names′ marks′ cap x bits r

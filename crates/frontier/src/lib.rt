@@ -9,6 +9,7 @@ mod slots;
 mod turns;
 
 use commit::Cache;
+use hash::Kind;
 use hashtable::marks::HIDDEN;
 use hashtable::marks::VISIBLE;
 pub use marking::Marked;
@@ -20,6 +21,7 @@ ghost use lib.ListN.{length};
 ghost use Rattle.walk.specs.Opening.{listIds};
 ghost use Rattle.frontier.specs.Paint.{lent};
 ghost use Rattle.frontier.specs.Painted.{loweredTo, PaintsFrom, Paints};
+ghost use Rattle.hash.specs.Bytes.{widthOf};
 
 // An answer whose queue may reach down to another place.
 fn lowered(past: Marked, base: usize) -> Marked
@@ -41,6 +43,7 @@ fn lowered(past: Marked, base: usize) -> Marked
 // Painting, where the commits that wait stand in the n slots from line[2 * cap] on by rising id. While these get VISIBLE the queue keeps
 // clear of them.
 fn paint_from(
+    kind: Kind,
     names: &mut [u8],
     marks: &mut [u8],
     levels: &mut [u32],
@@ -54,7 +57,7 @@ fn paint_from(
     hidden: &[u8],
 ) -> Marked
     requires { ⌜ (5 * cap ≤ length (now line)) × (n ≤ cap) ⌝ }
-    ensures { λ r. ⌜ PaintsFrom cache (now (graph .entry)) (now (store .entry)) cap (lent (now (names .entry)) (now (marks .entry)) (now (levels .entry)) (now (times .entry)) (now (line .entry))) (lent (now (names .exit)) (now (marks .exit)) (now (levels .exit)) (now (times .exit)) (now (line .exit))) n (listIds (now (hidden .entry))) r ⌝ }
+    ensures { λ r. ⌜ PaintsFrom (widthOf kind) cache (now (graph .entry)) (now (store .entry)) cap (lent (now (names .entry)) (now (marks .entry)) (now (levels .entry)) (now (times .entry)) (now (line .entry))) (lent (now (names .exit)) (now (marks .exit)) (now (levels .exit)) (now (times .exit)) (now (line .exit))) n (listIds (widthOf kind) (now (hidden .entry))) r ⌝ }
 {
     let from = 2 * cap;
     let end = 5 * cap;
@@ -68,6 +71,7 @@ fn paint_from(
         end,
     };
     let shown = lists::mark_run(
+        kind,
         names,
         marks,
         levels,
@@ -84,6 +88,7 @@ fn paint_from(
     );
     let low = lowered(shown, from);
     let both = lists::mark_list(
+        kind,
         names,
         marks,
         levels,
@@ -98,6 +103,7 @@ fn paint_from(
         HIDDEN,
     );
     turns::turns(
+        kind,
         names,
         marks,
         levels,
@@ -115,6 +121,7 @@ fn paint_from(
 // Paints: the commits that wait get VISIBLE, the hidden tips HIDDEN, and these marks go from parent to parent, with STALE where both have
 // met. The frontier is every id that has both.
 pub fn compute_hidden_frontier(
+    kind: Kind,
     names: &mut [u8],
     marks: &mut [u8],
     levels: &mut [u32],
@@ -127,7 +134,7 @@ pub fn compute_hidden_frontier(
     waiting: Queue,
     hidden: &[u8],
 ) -> Marked
-    ensures { λ r. ⌜ Paints cache (now (graph .entry)) (now (store .entry)) cap (lent (now (names .entry)) (now (marks .entry)) (now (levels .entry)) (now (times .entry)) (now (line .entry))) (lent (now (names .exit)) (now (marks .exit)) (now (levels .exit)) (now (times .exit)) (now (line .exit))) waiting (listIds (now (hidden .entry))) r ⌝ }
+    ensures { λ r. ⌜ Paints (widthOf kind) cache (now (graph .entry)) (now (store .entry)) cap (lent (now (names .entry)) (now (marks .entry)) (now (levels .entry)) (now (times .entry)) (now (line .entry))) (lent (now (names .exit)) (now (marks .exit)) (now (levels .exit)) (now (times .exit)) (now (line .exit))) waiting (listIds (widthOf kind) (now (hidden .entry))) r ⌝ }
 {
     let n = waiting.count;
     if line.len() / 5 < cap {
@@ -137,8 +144,9 @@ pub fn compute_hidden_frontier(
         return Marked::NoRoom;
     }
     prepare::wash(marks, cap);
-    prepare::visible_inputs_sorted(line, names, waiting, 2 * cap);
+    prepare::visible_inputs_sorted(kind, line, names, waiting, 2 * cap);
     paint_from(
+        kind,
         names,
         marks,
         levels,

@@ -12,7 +12,6 @@ use reading::Commit;
 ghost use mathlib.Core.Path.{_≡_};
 ghost use Prim.Native.Nat.{_+_, _/_};
 ghost use lib.ListN.{length, getD};
-ghost use Rattle.hash.specs.Bytes.{idBytes};
 ghost use Rattle.walk.specs.Painting.{markAll};
 ghost use Rattle.walk.specs.Opening.{listIds};
 ghost use Rattle.hashtable.specs.Table.{idOf};
@@ -21,16 +20,18 @@ ghost use Rattle.reading.specs.Whole.{parentCount};
 ghost use Rattle.frontier.specs.Paint.{lent};
 ghost use Rattle.frontier.specs.Mark.{Takes, TakesAfter, passTo, LacksMark};
 ghost use Rattle.frontier.specs.Lists.{TakesAllAfter, MarksRun, PassesAll};
+ghost use Rattle.hash.specs.Bytes.{widthOf};
 
 // How many ids a list has.
-fn id_count(list: &[u8]) -> usize
-    ensures { λ r. ⌜ r ≡ length (now (list .entry)) / idBytes ⌝ }
+fn id_count(kind: Kind, list: &[u8]) -> usize
+    ensures { λ r. ⌜ r ≡ length (now (list .entry)) / widthOf kind ⌝ }
 {
-    hash::ids_in(Kind::Sha1, list.len())
+    hash::ids_in(kind, list.len())
 }
 
 // Gives marks to each id of a list, in order.
 pub fn mark_list(
+    kind: Kind,
     names: &mut [u8],
     marks: &mut [u8],
     levels: &mut [u32],
@@ -44,14 +45,15 @@ pub fn mark_list(
     list: &[u8],
     bits: u8,
 ) -> Marked
-    ensures { λ r. ⌜ TakesAllAfter markAll cache (now (graph .entry)) (now (store .entry)) cap (lent (now (names .entry)) (now (marks .entry)) (now (levels .entry)) (now (times .entry)) (now (line .entry))) (lent (now (names .exit)) (now (marks .exit)) (now (levels .exit)) (now (times .exit)) (now (line .exit))) past (listIds (now (list .entry))) bits r ⌝ }
+    ensures { λ r. ⌜ TakesAllAfter (widthOf kind) markAll cache (now (graph .entry)) (now (store .entry)) cap (lent (now (names .entry)) (now (marks .entry)) (now (levels .entry)) (now (times .entry)) (now (line .entry))) (lent (now (names .exit)) (now (marks .exit)) (now (levels .exit)) (now (times .exit)) (now (line .exit))) past (listIds (widthOf kind) (now (list .entry))) bits r ⌝ }
 {
-    let n = id_count(list);
+    let n = id_count(kind, list);
     let mut r = past;
     let mut i = 0;
     while i < n {
-        let id = hash::nth(Kind::Sha1, list, i);
+        let id = hash::nth(kind, list, i);
         r = marking::mark_next(
+            kind,
             names,
             marks,
             levels,
@@ -84,14 +86,15 @@ fn slot_after(line: &[u32], from: usize, i: usize) -> u32
 }
 
 // The id in a slot, by value; zeros stand where `names` ends.
-pub fn id_in(names: &[u8], slot: u32) -> ObjectId
-    ensures { λ r. ⌜ r .bytes ≡ padded (idOf idBytes (now (names .entry)) slot) ⌝ }
+pub fn id_in(kind: Kind, names: &[u8], slot: u32) -> ObjectId
+    ensures { λ r. ⌜ r .bytes ≡ padded (idOf (widthOf kind) (now (names .entry)) slot) ⌝ }
 {
-    object::id_of(table::id_of(Kind::Sha1, names, slot as usize))
+    object::id_of(table::id_of(kind, names, slot as usize))
 }
 
 // Gives marks to the commits in the slots line[from..from + n), in order.
 pub fn mark_run(
+    kind: Kind,
     names: &mut [u8],
     marks: &mut [u8],
     levels: &mut [u32],
@@ -106,14 +109,15 @@ pub fn mark_run(
     n: usize,
     bits: u8,
 ) -> Marked
-    ensures { λ r. ⌜ MarksRun cache (now (graph .entry)) (now (store .entry)) cap (lent (now (names .entry)) (now (marks .entry)) (now (levels .entry)) (now (times .entry)) (now (line .entry))) (lent (now (names .exit)) (now (marks .exit)) (now (levels .exit)) (now (times .exit)) (now (line .exit))) p from n bits r ⌝ }
+    ensures { λ r. ⌜ MarksRun (widthOf kind) cache (now (graph .entry)) (now (store .entry)) cap (lent (now (names .entry)) (now (marks .entry)) (now (levels .entry)) (now (times .entry)) (now (line .entry))) (lent (now (names .exit)) (now (marks .exit)) (now (levels .exit)) (now (times .exit)) (now (line .exit))) p from n bits r ⌝ }
 {
     let mut r = Marked::Going(p);
     let mut i = 0;
     while i < n {
         let slot = slot_after(line, from, i);
-        let id = id_in(names, slot);
+        let id = id_in(kind, names, slot);
         r = marking::mark_next(
+            kind,
             names,
             marks,
             levels,
@@ -124,7 +128,7 @@ pub fn mark_run(
             graph,
             store,
             r,
-            object::id_slice(Kind::Sha1, &id.bytes),
+            object::id_slice(kind, &id.bytes),
             bits,
         );
         i += 1;
@@ -133,10 +137,10 @@ pub fn mark_run(
 }
 
 // Whether an id lacks one of the marks.
-fn is_lacking(names: &[u8], marks: &[u8], cap: usize, id: &[u8], bits: u8) -> bool
-    ensures { λ r. ⌜ LacksMark (now (names .entry)) (now (marks .entry)) cap (now (id .entry)) bits r ⌝ }
+fn is_lacking(kind: Kind, names: &[u8], marks: &[u8], cap: usize, id: &[u8], bits: u8) -> bool
+    ensures { λ r. ⌜ LacksMark (widthOf kind) (now (names .entry)) (now (marks .entry)) cap (now (id .entry)) bits r ⌝ }
 {
-    let s = table::find_slot(Kind::Sha1, names, marks, cap, false, id);
+    let s = table::find_slot(kind, names, marks, cap, false, id);
     match s {
         Slot::Found(k) => bits::lacks_bits(bits, table::mark_of(marks, k)),
         Slot::Vacant(_) => bits::lacks_bits(bits, 0),
@@ -146,6 +150,7 @@ fn is_lacking(names: &[u8], marks: &[u8], cap: usize, id: &[u8], bits: u8) -> bo
 
 // Passes marks to parent k of a commit: it gets them and is queued, if it lacks one. Where it may stand is asked only then.
 fn pass_one(
+    kind: Kind,
     names: &mut [u8],
     marks: &mut [u8],
     levels: &mut [u32],
@@ -161,11 +166,12 @@ fn pass_one(
     k: usize,
     bits: u8,
 ) -> Marked
-    ensures { λ r. ⌜ Takes passTo cache (now (graph .entry)) (now (store .entry)) cap (lent (now (names .entry)) (now (marks .entry)) (now (levels .entry)) (now (times .entry)) (now (line .entry))) (lent (now (names .exit)) (now (marks .exit)) (now (levels .exit)) (now (times .exit)) (now (line .exit))) p (now (id .entry)) bits r ⌝ }
+    ensures { λ r. ⌜ Takes (widthOf kind) passTo cache (now (graph .entry)) (now (store .entry)) cap (lent (now (names .entry)) (now (marks .entry)) (now (levels .entry)) (now (times .entry)) (now (line .entry))) (lent (now (names .exit)) (now (marks .exit)) (now (levels .exit)) (now (times .exit)) (now (line .exit))) p (now (id .entry)) bits r ⌝ }
 {
-    if is_lacking(names, marks, cap, id, bits) {
-        let near = reading::parent_near(commit, k, cache, graph);
+    if is_lacking(kind, names, marks, cap, id, bits) {
+        let near = reading::parent_near(kind, commit, k, cache, graph);
         marking::mark_one(
+            kind,
             names,
             marks,
             levels,
@@ -187,6 +193,7 @@ fn pass_one(
 
 // The same after an answer: where painting does not go on, nothing is done.
 fn pass_next(
+    kind: Kind,
     names: &mut [u8],
     marks: &mut [u8],
     levels: &mut [u32],
@@ -202,10 +209,11 @@ fn pass_next(
     k: usize,
     bits: u8,
 ) -> Marked
-    ensures { λ r. ⌜ TakesAfter passTo cache (now (graph .entry)) (now (store .entry)) cap (lent (now (names .entry)) (now (marks .entry)) (now (levels .entry)) (now (times .entry)) (now (line .entry))) (lent (now (names .exit)) (now (marks .exit)) (now (levels .exit)) (now (times .exit)) (now (line .exit))) past (now (id .entry)) bits r ⌝ }
+    ensures { λ r. ⌜ TakesAfter (widthOf kind) passTo cache (now (graph .entry)) (now (store .entry)) cap (lent (now (names .entry)) (now (marks .entry)) (now (levels .entry)) (now (times .entry)) (now (line .entry))) (lent (now (names .exit)) (now (marks .exit)) (now (levels .exit)) (now (times .exit)) (now (line .exit))) past (now (id .entry)) bits r ⌝ }
 {
     match past {
         Marked::Going(p) => pass_one(
+            kind,
             names,
             marks,
             levels,
@@ -239,6 +247,7 @@ fn parent_count(commit: Commit) -> usize
 
 // Passes marks to the parents of a commit, in order.
 pub fn pass_to_parents(
+    kind: Kind,
     names: &mut [u8],
     marks: &mut [u8],
     levels: &mut [u32],
@@ -252,14 +261,15 @@ pub fn pass_to_parents(
     commit: Commit,
     bits: u8,
 ) -> Marked
-    ensures { λ r. ⌜ PassesAll cache (now (graph .entry)) (now (store .entry)) cap (lent (now (names .entry)) (now (marks .entry)) (now (levels .entry)) (now (times .entry)) (now (line .entry))) (lent (now (names .exit)) (now (marks .exit)) (now (levels .exit)) (now (times .exit)) (now (line .exit))) p commit bits r ⌝ }
+    ensures { λ r. ⌜ PassesAll (widthOf kind) cache (now (graph .entry)) (now (store .entry)) cap (lent (now (names .entry)) (now (marks .entry)) (now (levels .entry)) (now (times .entry)) (now (line .entry))) (lent (now (names .exit)) (now (marks .exit)) (now (levels .exit)) (now (times .exit)) (now (line .exit))) p commit bits r ⌝ }
 {
     let n = parent_count(commit);
     let mut r = Marked::Going(p);
     let mut i = 0;
     while i < n {
-        let id = reading::parent_of(commit, i, cache, graph, store);
+        let id = reading::parent_of(kind, commit, i, cache, graph, store);
         r = pass_next(
+            kind,
             names,
             marks,
             levels,
@@ -270,7 +280,7 @@ pub fn pass_to_parents(
             graph,
             store,
             r,
-            object::id_slice(Kind::Sha1, &id.bytes),
+            object::id_slice(kind, &id.bytes),
             commit,
             i,
             bits,

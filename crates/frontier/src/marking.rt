@@ -2,6 +2,7 @@
 use crate::slots;
 use crate::slots::Added;
 use commit::Cache;
+use hash::Kind;
 use pending::Pending;
 use reading::Commit;
 use reading::NOWHERE;
@@ -10,6 +11,7 @@ ghost use mathlib.Core.Path.{_≡_};
 ghost use Rattle.frontier.specs.Paint.{lent};
 ghost use Rattle.frontier.specs.Mark.{Learns, Places, Queues, Takes, TakesAfter};
 ghost use Rattle.walk.specs.Painting.{mark};
+ghost use Rattle.hash.specs.Bytes.{widthOf};
 
 // How a part of painting ends: it goes on with this queue; a commit cannot be read; or the lent memory is too small for it.
 pub enum Marked {
@@ -27,6 +29,7 @@ pub enum Spot {
 
 // Reads a commit, which may stand at near, and sets down its generation and seconds in a slot.
 fn learn(
+    kind: Kind,
     levels: &mut [u32],
     times: &mut [i64],
     cache: Cache,
@@ -36,9 +39,9 @@ fn learn(
     near: usize,
     slot: u32,
 ) -> Spot
-    ensures { λ r. ⌜ Learns cache (now (graph .entry)) (now (store .entry)) (now (levels .entry)) (now (times .entry)) (now (levels .exit)) (now (times .exit)) (now (id .entry)) slot r ⌝ }
+    ensures { λ r. ⌜ Learns (widthOf kind) cache (now (graph .entry)) (now (store .entry)) (now (levels .entry)) (now (times .entry)) (now (levels .exit)) (now (times .exit)) (now (id .entry)) slot r ⌝ }
 {
-    let c = reading::read_commit(cache, graph, store, id, near);
+    let c = reading::read_commit(kind, cache, graph, store, id, near);
     match c {
         Commit::Row { pair, .. } => {
             slots::set_pair(levels, times, slot, pair);
@@ -54,6 +57,7 @@ fn learn(
 
 // Gives marks to an id, and reads its commit where these are the first. No promise speaks of near, where the commit may stand.
 fn place(
+    kind: Kind,
     names: &mut [u8],
     marks: &mut [u8],
     levels: &mut [u32],
@@ -66,11 +70,11 @@ fn place(
     near: usize,
     bits: u8,
 ) -> Spot
-    ensures { λ r. ⌜ Places cache (now (graph .entry)) (now (store .entry)) (now (names .entry)) (now (marks .entry)) (now (levels .entry)) (now (times .entry)) (now (names .exit)) (now (marks .exit)) (now (levels .exit)) (now (times .exit)) cap (now (id .entry)) bits r ⌝ }
+    ensures { λ r. ⌜ Places (widthOf kind) cache (now (graph .entry)) (now (store .entry)) (now (names .entry)) (now (marks .entry)) (now (levels .entry)) (now (times .entry)) (now (names .exit)) (now (marks .exit)) (now (levels .exit)) (now (times .exit)) cap (now (id .entry)) bits r ⌝ }
 {
-    let a = slots::add_mark(names, marks, cap, id, bits);
+    let a = slots::add_mark(kind, names, marks, cap, id, bits);
     match a {
-        Added::New(k) => learn(levels, times, cache, graph, store, id, near, k),
+        Added::New(k) => learn(kind, levels, times, cache, graph, store, id, near, k),
         Added::Known(k) => Spot::At(k),
         Added::Full => Spot::NoSlot,
     }
@@ -91,6 +95,7 @@ fn queue_slot(p: Pending, line: &mut [u32], levels: &[u32], times: &[i64], slot:
 
 // Gives marks to a commit and queues it.
 pub fn mark_one(
+    kind: Kind,
     names: &mut [u8],
     marks: &mut [u8],
     levels: &mut [u32],
@@ -105,9 +110,10 @@ pub fn mark_one(
     near: usize,
     bits: u8,
 ) -> Marked
-    ensures { λ r. ⌜ Takes mark cache (now (graph .entry)) (now (store .entry)) cap (lent (now (names .entry)) (now (marks .entry)) (now (levels .entry)) (now (times .entry)) (now (line .entry))) (lent (now (names .exit)) (now (marks .exit)) (now (levels .exit)) (now (times .exit)) (now (line .exit))) p (now (id .entry)) bits r ⌝ }
+    ensures { λ r. ⌜ Takes (widthOf kind) mark cache (now (graph .entry)) (now (store .entry)) cap (lent (now (names .entry)) (now (marks .entry)) (now (levels .entry)) (now (times .entry)) (now (line .entry))) (lent (now (names .exit)) (now (marks .exit)) (now (levels .exit)) (now (times .exit)) (now (line .exit))) p (now (id .entry)) bits r ⌝ }
 {
     let s = place(
+        kind,
         names,
         marks,
         levels,
@@ -129,6 +135,7 @@ pub fn mark_one(
 
 // The same after an answer, of a commit of which no place is known: where painting does not go on, nothing is done.
 pub fn mark_next(
+    kind: Kind,
     names: &mut [u8],
     marks: &mut [u8],
     levels: &mut [u32],
@@ -142,10 +149,11 @@ pub fn mark_next(
     id: &[u8],
     bits: u8,
 ) -> Marked
-    ensures { λ r. ⌜ TakesAfter mark cache (now (graph .entry)) (now (store .entry)) cap (lent (now (names .entry)) (now (marks .entry)) (now (levels .entry)) (now (times .entry)) (now (line .entry))) (lent (now (names .exit)) (now (marks .exit)) (now (levels .exit)) (now (times .exit)) (now (line .exit))) past (now (id .entry)) bits r ⌝ }
+    ensures { λ r. ⌜ TakesAfter (widthOf kind) mark cache (now (graph .entry)) (now (store .entry)) cap (lent (now (names .entry)) (now (marks .entry)) (now (levels .entry)) (now (times .entry)) (now (line .entry))) (lent (now (names .exit)) (now (marks .exit)) (now (levels .exit)) (now (times .exit)) (now (line .exit))) past (now (id .entry)) bits r ⌝ }
 {
     match past {
         Marked::Going(p) => mark_one(
+            kind,
             names,
             marks,
             levels,

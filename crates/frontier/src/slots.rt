@@ -11,6 +11,7 @@ ghost use Prim.Native.Nat.{_<_};
 ghost use lib.ListN.{getD, set};
 ghost use Rattle.frontier.specs.Bits.{isPainted, withBits};
 ghost use Rattle.frontier.specs.Slots.{mostSlots, addedAt, AddsMark};
+ghost use Rattle.hash.specs.Bytes.{widthOf};
 
 // The slot of an id that gained marks: it had none of painting's, or it had one; or there is no slot for it.
 pub enum Added {
@@ -47,11 +48,18 @@ fn raise(marks: &mut [u8], slot: usize, bits: u8) -> bool
 }
 
 // Gives marks to an id, which enters the table where it is not there.
-pub fn add_mark(names: &mut [u8], marks: &mut [u8], cap: usize, id: &[u8], bits: u8) -> Added
-    ensures { λ r. ⌜ AddsMark (now (names .entry)) (now (marks .entry)) (now (names .exit)) (now (marks .exit)) cap (now (id .entry)) bits r ⌝ }
+pub fn add_mark(
+    kind: Kind,
+    names: &mut [u8],
+    marks: &mut [u8],
+    cap: usize,
+    id: &[u8],
+    bits: u8,
+) -> Added
+    ensures { λ r. ⌜ AddsMark (widthOf kind) (now (names .entry)) (now (marks .entry)) (now (names .exit)) (now (marks .exit)) cap (now (id .entry)) bits r ⌝ }
 {
     let first = bits::with_bits(bits, 0);
-    let s = table::insert(Kind::Sha1, names, marks, cap, false, id, first);
+    let s = table::insert(kind, names, marks, cap, false, id, first);
     match s {
         Slot::Found(k) => slot_added(raise(marks, k, bits), k),
         Slot::Vacant(k) => slot_added(false, k),

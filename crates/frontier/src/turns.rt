@@ -10,9 +10,11 @@ use reading::NOWHERE;
 ghost use mathlib.Core.Path.{_≡_};
 ghost use Rattle.frontier.specs.Paint.{lent};
 ghost use Rattle.frontier.specs.Turns.{TakesTurn, TakesTurnAfter, dueAfter, TakesTurnsAfter};
+ghost use Rattle.hash.specs.Bytes.{widthOf};
 
 // One turn. STALE is passed where the commit has VISIBLE and HIDDEN, and it is not marked itself.
 pub fn turn(
+    kind: Kind,
     names: &mut [u8],
     marks: &mut [u8],
     levels: &mut [u32],
@@ -24,22 +26,24 @@ pub fn turn(
     store: &[u8],
     p: Pending,
 ) -> Marked
-    ensures { λ r. ⌜ TakesTurn cache (now (graph .entry)) (now (store .entry)) cap (lent (now (names .entry)) (now (marks .entry)) (now (levels .entry)) (now (times .entry)) (now (line .entry))) (lent (now (names .exit)) (now (marks .exit)) (now (levels .exit)) (now (times .exit)) (now (line .exit))) p r ⌝ }
+    ensures { λ r. ⌜ TakesTurn (widthOf kind) cache (now (graph .entry)) (now (store .entry)) cap (lent (now (names .entry)) (now (marks .entry)) (now (levels .entry)) (now (times .entry)) (now (line .entry))) (lent (now (names .exit)) (now (marks .exit)) (now (levels .exit)) (now (times .exit)) (now (line .exit))) p r ⌝ }
 {
     let t = pending::pop(p, line, levels, times);
     if t.found {
         let slot = t.slot;
         let rest = t.pending;
         let given = bits::passed_bits(table::mark_of(marks, slot as usize));
-        let id = lists::id_in(names, slot);
+        let id = lists::id_in(kind, names, slot);
         let commit = reading::read_commit(
+            kind,
             cache,
             graph,
             store,
-            object::id_slice(Kind::Sha1, &id.bytes),
+            object::id_slice(kind, &id.bytes),
             NOWHERE,
         );
         lists::pass_to_parents(
+            kind,
             names,
             marks,
             levels,
@@ -60,6 +64,7 @@ pub fn turn(
 
 // The same after an answer: where painting does not go on, nothing is done.
 fn turn_next(
+    kind: Kind,
     names: &mut [u8],
     marks: &mut [u8],
     levels: &mut [u32],
@@ -71,10 +76,11 @@ fn turn_next(
     store: &[u8],
     past: Marked,
 ) -> Marked
-    ensures { λ r. ⌜ TakesTurnAfter cache (now (graph .entry)) (now (store .entry)) cap (lent (now (names .entry)) (now (marks .entry)) (now (levels .entry)) (now (times .entry)) (now (line .entry))) (lent (now (names .exit)) (now (marks .exit)) (now (levels .exit)) (now (times .exit)) (now (line .exit))) past r ⌝ }
+    ensures { λ r. ⌜ TakesTurnAfter (widthOf kind) cache (now (graph .entry)) (now (store .entry)) cap (lent (now (names .entry)) (now (marks .entry)) (now (levels .entry)) (now (times .entry)) (now (line .entry))) (lent (now (names .exit)) (now (marks .exit)) (now (levels .exit)) (now (times .exit)) (now (line .exit))) past r ⌝ }
 {
     match past {
         Marked::Going(p) => turn(
+            kind,
             names,
             marks,
             levels,
@@ -109,6 +115,7 @@ fn is_due(marks: &[u8], line: &[u32], left: usize, past: Marked) -> bool
 
 // The turns, at most `most` of them.
 pub fn turns(
+    kind: Kind,
     names: &mut [u8],
     marks: &mut [u8],
     levels: &mut [u32],
@@ -121,13 +128,14 @@ pub fn turns(
     past: Marked,
     most: usize,
 ) -> Marked
-    ensures { λ r. ⌜ TakesTurnsAfter cache (now (graph .entry)) (now (store .entry)) cap (lent (now (names .entry)) (now (marks .entry)) (now (levels .entry)) (now (times .entry)) (now (line .entry))) (lent (now (names .exit)) (now (marks .exit)) (now (levels .exit)) (now (times .exit)) (now (line .exit))) past most r ⌝ }
+    ensures { λ r. ⌜ TakesTurnsAfter (widthOf kind) cache (now (graph .entry)) (now (store .entry)) cap (lent (now (names .entry)) (now (marks .entry)) (now (levels .entry)) (now (times .entry)) (now (line .entry))) (lent (now (names .exit)) (now (marks .exit)) (now (levels .exit)) (now (times .exit)) (now (line .exit))) past most r ⌝ }
 {
     let mut r = past;
     let mut left = most;
     let mut due = is_due(marks, line, left, r);
     while due {
         r = turn_next(
+            kind,
             names,
             marks,
             levels,

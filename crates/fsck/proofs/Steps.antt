@@ -4,7 +4,7 @@ use Prim.Native.Nat.{ℕ}
 use mathlib.Core.Option.{Option, none, some}
 use mathlib.Core.List.{List}
 use native.Mathlib.Omega.{arith}
-use Rattle.hash.specs.declared.Kind.the-variants.{Sha1}
+use Rattle.hash.specs.declared.Kind.{Kind}
 use Rattle.idlist.specs.IdList.{foundOf}
 use Rattle.idlist.specs.declared.Found.the-variants.{At, Absent}
 use Rattle.odb.specs.Store.{entries}
@@ -20,11 +20,11 @@ pub found-none : (o : Option ℕ) → Absent ≡ foundOf o → o ≡ none
 found-none none e = refl
 found-none (some j) e = let z : _≡_ {A = ℕ} 0 1 = cc in absurd (omega arith)
 
-module _ (store graph : List ℕ) where
-  pub after-refused : (r : Refusal) → filesRefusal store graph ≡ some r → checkNames store graph ≡ reportOf (Refused r) 0
+module _ (kind : Kind) (store graph : List ℕ) where
+  pub after-refused : (r : Refusal) → filesRefusal kind store graph ≡ some r → checkNames kind store graph ≡ reportOf (Refused r) 0
   unfolding checkNames reportAfter
   after-refused r e = rw e
 
-  pub after-fine : filesRefusal store graph ≡ none → checkNames store graph ≡ namesReport Sha1 graph (firstFalse Sha1 store 0 (entries store))
+  pub after-fine : filesRefusal kind store graph ≡ none → checkNames kind store graph ≡ namesReport kind graph (firstFalse kind store 0 (entries store))
   unfolding checkNames reportAfter
   after-fine e = rw e

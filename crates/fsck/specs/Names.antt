@@ -9,7 +9,6 @@ use mathlib.Core.List.{List, []}
 use lib.ListN.{length, take, drop}
 use Rattle.hash.specs.Bytes.{eqId, widthOf}
 use Rattle.hash.specs.declared.Kind.{Kind}
-use Rattle.hash.specs.declared.Kind.the-variants.{Sha1}
 use Rattle.idlist.specs.IdList.{idOf}
 use Rattle.odb.specs.Store.{entryIds, entries, body}
 use Rattle.walk.specs.State.{isEmpty}
@@ -59,23 +58,23 @@ unfoldable pub namesReport : Kind → List ℕ → Option ℕ → Report
 namesReport kind g none = sumReport kind g
 namesReport kind g (some k) = reportOf (Refused FalseName) k
 
--- 2, 4, 5 and 6 of an opening of these files: with no list, 3 cannot come, and settings play no part
-abbrev pub anySettings : Settings
-anySettings = record { sorting = BreadthFirst; parents = All }
+-- 2, 4, 5 and 6 of an opening of these files: with no list, 3 cannot come, and of the settings the kind of ids alone plays a part
+abbrev pub anySettings : Kind → Settings
+anySettings kind = record { sorting = BreadthFirst; parents = All; kind = kind }
 
-abbrev pub filesInput : List ℕ → List ℕ → Input
-filesInput store graph = inputOf store graph [] [] [] anySettings
+abbrev pub filesInput : Kind → List ℕ → List ℕ → Input
+filesInput kind store graph = inputOf store graph [] [] [] (anySettings kind)
 
-abbrev pub filesRefusal : List ℕ → List ℕ → Option Refusal
-filesRefusal store graph = refusal (filesInput store graph)
+abbrev pub filesRefusal : Kind → List ℕ → List ℕ → Option Refusal
+filesRefusal kind store graph = refusal (filesInput kind store graph)
 
-unfoldable pub reportAfter : List ℕ → List ℕ → Option Refusal → Report
-reportAfter store graph none = namesReport Sha1 graph (firstFalse Sha1 store 0 (entries store))
-reportAfter store graph (some r) = reportOf (Refused r) 0
+unfoldable pub reportAfter : Kind → List ℕ → List ℕ → Option Refusal → Report
+reportAfter kind store graph none = namesReport kind graph (firstFalse kind store 0 (entries store))
+reportAfter kind store graph (some r) = reportOf (Refused r) 0
 
 -- the whole check
-unfoldable pub checkNames : List ℕ → List ℕ → Report
-checkNames store graph = reportAfter store graph (filesRefusal store graph)
+unfoldable pub checkNames : Kind → List ℕ → List ℕ → Report
+checkNames kind store graph = reportAfter kind store graph (filesRefusal kind store graph)
 
 -- the number of an outcome: 0 where there is no fault
 abbrev pub checkedNumber : Checked → ℕ
@@ -85,27 +84,27 @@ checkedNumber (Refused r) = numberOf r
 -- ---- what a report means
 
 -- the layout is good, every entry is under the id of its body, and the checksum, where there is one, is true
-pub record AllTrue (store graph : List ℕ) : Type 0 where
-  pub laid-out : filesRefusal store graph ≡ none
-  pub names : (k : ℕ) → k < entries store → trueName Sha1 store k ≡ true
-  pub checksum : sumOk Sha1 graph ≡ true
+pub record AllTrue (kind : Kind) (store graph : List ℕ) : Type 0 where
+  pub laid-out : filesRefusal kind store graph ≡ none
+  pub names : (k : ℕ) → k < entries store → trueName kind store k ≡ true
+  pub checksum : sumOk kind graph ≡ true
 
 -- entry k is the first under a false name
-pub record FirstFalse (store graph : List ℕ) (k : ℕ) : Type 0 where
-  pub laid-out : filesRefusal store graph ≡ none
+pub record FirstFalse (kind : Kind) (store graph : List ℕ) (k : ℕ) : Type 0 where
+  pub laid-out : filesRefusal kind store graph ≡ none
   pub entry : k < entries store
-  pub not-its : trueName Sha1 store k ≡ false
-  pub before-it : (j : ℕ) → j < k → trueName Sha1 store j ≡ true
+  pub not-its : trueName kind store k ≡ false
+  pub before-it : (j : ℕ) → j < k → trueName kind store j ≡ true
 
 -- every name is true, and the checksum of the graph that is lent is false
-pub record SumFalse (store graph : List ℕ) : Type 0 where
-  pub laid-out : filesRefusal store graph ≡ none
-  pub names : (k : ℕ) → k < entries store → trueName Sha1 store k ≡ true
-  pub checksum : sumOk Sha1 graph ≡ false
+pub record SumFalse (kind : Kind) (store graph : List ℕ) : Type 0 where
+  pub laid-out : filesRefusal kind store graph ≡ none
+  pub names : (k : ℕ) → k < entries store → trueName kind store k ≡ true
+  pub checksum : sumOk kind graph ≡ false
 
 -- the report r is right: 2 to 6 of the files, else 16 with the first false name, else 17, else 0
-pub data Means (store graph : List ℕ) : Report → Type 0 where
-  refused-files : (r : Refusal) → filesRefusal store graph ≡ some r → Means store graph (reportOf (Refused r) 0)
-  false-name : (k : ℕ) → FirstFalse store graph k → Means store graph (reportOf (Refused FalseName) k)
-  false-sum : SumFalse store graph → Means store graph (reportOf (Refused FalseChecksum) 0)
-  no-fault : AllTrue store graph → Means store graph (reportOf Fine 0)
+pub data Means (kind : Kind) (store graph : List ℕ) : Report → Type 0 where
+  refused-files : (r : Refusal) → filesRefusal kind store graph ≡ some r → Means kind store graph (reportOf (Refused r) 0)
+  false-name : (k : ℕ) → FirstFalse kind store graph k → Means kind store graph (reportOf (Refused FalseName) k)
+  false-sum : SumFalse kind store graph → Means kind store graph (reportOf (Refused FalseChecksum) 0)
+  no-fault : AllTrue kind store graph → Means kind store graph (reportOf Fine 0)

@@ -8,7 +8,6 @@ ghost use mathlib.Core.Path.{_≡_};
 ghost use mathlib.Core.Bool.{true};
 ghost use Prim.Native.Nat.{_-_, _<_};
 ghost use Rattle.hash.specs.Bytes.{widthOf};
-ghost use Rattle.hash.specs.declared.Kind.the-variants.{Sha1};
 ghost use Rattle.idlist.specs.IdList.{foundOf};
 ghost use Rattle.odb.specs.Store.{entries, storeOk};
 ghost use Rattle.fsck.specs.Names.{trueName, firstFalse, trueSum, sumOk, sumReport, namesReport, checkNames, checkedNumber};
@@ -120,14 +119,14 @@ fn check_digests(kind: Kind, store: &[u8], graph: &[u8]) -> Report
 }
 
 // The check: the files as an opening without lists tests them, then the names, then the checksum.
-pub fn check_names(store: &[u8], graph: &[u8]) -> Report
-    ensures { λ r. ⌜ r ≡ checkNames (now (store .entry)) (now (graph .entry)) ⌝ }
+pub fn check_names(kind: Kind, store: &[u8], graph: &[u8]) -> Report
+    ensures { λ r. ⌜ r ≡ checkNames kind (now (store .entry)) (now (graph .entry)) ⌝ }
 {
-    match opening::check_input(store, graph, &store[..0], &store[..0], &store[..0]) {
+    match opening::check_input(kind, store, graph, &store[..0], &store[..0], &store[..0]) {
         Checked::Refused(r) => Report {
             outcome: Checked::Refused(r),
             entry: 0,
         },
-        Checked::Fine => check_digests(Kind::Sha1, store, graph),
+        Checked::Fine => check_digests(kind, store, graph),
     }
 }

@@ -74,7 +74,7 @@ pub fn count_of(kind: Kind, store: &[u8], k: usize) -> usize
     object::count_parents(
         kind,
         odb::entry_bytes(kind, store, k),
-        2 * hash::width(kind) + 6,
+        object::tree_size(kind),
     )
 }
 

@@ -3,10 +3,8 @@ use Prim.Native.Nat.{ℕ}
 use mathlib.Core.Path.{_≡_}
 use mathlib.Core.List.{List, [], _∷_}
 use lib.ListN.{length}
-use lib.Dec.{eqb}
-use Rattle.hash.specs.Bytes.{widthOf, pick, setDown}
+use Rattle.hash.specs.Bytes.{widthOf, setDown}
 use Rattle.hash.specs.declared.Kind.{Kind}
-use Rattle.hash.specs.declared.Kind.the-variants.{Sha1, Sha256}
 use Rattle.walk.specs.Refusals.{numberOf}
 use Rattle.graphwrite.specs.declared.Written.{Written}
 use Rattle.graphwrite.specs.declared.Written.the-variants.{File, Refused}
@@ -15,10 +13,6 @@ use Rattle.graphwrite.specs.Writing.{Measures, Writes}
 -- the result where there is no room for the length: none of document 01's numbers, and no answer's (`no-room-written` in proofs/NoRoom.antt)
 abbrev pub noRoom : ℕ
 noRoom = 101
-
--- the kind of ids by their width (card 13): 32 is SHA-256, any other number SHA-1
-unfoldable pub kindOf : ℕ → Kind
-kindOf n = pick (eqb n 32) Sha256 Sha1
 
 -- a file is 0, a refusal has its number
 abbrev pub writtenNumber : Written → ℕ

@@ -1,23 +1,12 @@
 // Writing graph files for callers in other languages: the width of ids and the length of the file as numbers. Every function is total on any
 // bytes, numbers and lengths.
 use graphwrite::Written;
-use hash::Kind;
 ghost use mathlib.Core.Path.{_≡_};
-ghost use Rattle.graphwire.specs.Wire.{kindOf, writtenNumber, bytesOf, PutsLength, LibraryMeasures, LibraryWrites};
+ghost use Rattle.wire.specs.Words.{kindOf};
+ghost use Rattle.graphwire.specs.Wire.{writtenNumber, bytesOf, PutsLength, LibraryMeasures, LibraryWrites};
 
 // The library's result where there is no room for the file's length: none of document 01's numbers.
 const NO_ROOM: u32 = 101;
-
-// The kind of ids of a width: 32 is SHA-256, any other number SHA-1.
-pub fn kind_of(width: u32) -> Kind
-    ensures { λ r. ⌜ r ≡ kindOf width ⌝ }
-{
-    if width == 32 {
-        Kind::Sha256
-    } else {
-        Kind::Sha1
-    }
-}
 
 fn wide(n: u8) -> u32
     ensures { λ r. ⌜ r ≡ n ⌝ }
@@ -61,7 +50,7 @@ pub fn graph_length(width: u32, store: &[u8], levels: &mut [u32], numbers: &mut 
     if numbers.len() == 0 {
         return NO_ROOM;
     }
-    let w = graphwrite::graph_length(kind_of(width), store, levels);
+    let w = graphwrite::graph_length(wire::kind_of(width), store, levels);
     put_length(w, numbers)
 }
 
@@ -78,6 +67,6 @@ pub fn write_graph(
     if numbers.len() == 0 {
         return NO_ROOM;
     }
-    let w = graphwrite::write_graph(kind_of(width), store, levels, out);
+    let w = graphwrite::write_graph(wire::kind_of(width), store, levels, out);
     put_length(w, numbers)
 }

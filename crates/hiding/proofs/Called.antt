@@ -9,10 +9,10 @@ use native.Mathlib.Omega.{arith}
 use lib.ListN.{length}
 use lib.Dec.{ltb}
 use borrow.Author.Tests.{ltb-true, ltb-false}
-use Rattle.hash.specs.Bytes.{Id, idBytes, idsOf}
+use Rattle.hash.specs.Bytes.{Id, idsOf}
 use Rattle.hash.proofs.Tests.{byCases}
 use Rattle.walk.specs.declared.Outcome.the-variants.{Commit, End}
-use Rattle.walk.specs.Opening.{Input, P}
+use Rattle.walk.specs.Opening.{Input, P, widthIn}
 use Rattle.traverse.specs.Demand.{Call, CallIs, here, after, answersOf, handedOut, Lists, Delivered}
 use Rattle.traverse.proofs.ThirdDemand.{third-demand}
 use Rattle.lister.specs.Demand.{ReadsAs, Delivers}
@@ -59,8 +59,8 @@ walked-leaves i t d =
 pub set-leaves : (i : Input) → Tested i → (d : SetDown i) → Leaves i (idsSetDown i d)
 set-leaves i t d =
     let g = list-demand i (d .lent) (d .ids) .demanded (d .listing) (d .left) (d .ids-left) (d .lists) (t .fits) (d .room) (t .premises) in
-    let r : idBytes * length (g .list) ≤ length (d .ids) = subst (λ (n : ℕ). idBytes * n ≤ length (d .ids)) (g .commits) (d .room-for-ids) in
-    let e : idsSetDown i d ≡ g .list = ap (λ (n : ℕ). idsOf idBytes n (d .ids-left)) (g .commits) ∙ g .in-ids .whole r in
+    let r : widthIn i * length (g .list) ≤ length (d .ids) = subst (λ (n : ℕ). widthIn i * n ≤ length (d .ids)) (g .commits) (d .room-for-ids) in
+    let e : idsSetDown i d ≡ g .list = ap (λ (n : ℕ). idsOf (widthIn i) n (d .ids-left)) (g .commits) ∙ g .in-ids .whole r in
     subst (Leaves i) (sym e) (record { once = g .no-repeats; exactly = g .exactly })
 
 pub hiding-adds-up : (i : Input) → HidingAddsUp i

@@ -9,11 +9,11 @@ use Rattle.object.specs.Header.{headerAll}
 use Rattle.odb.specs.Store.{storeAll}
 use Rattle.commitgraph.specs.Graph.{graphAll}
 use Rattle.walk.specs.Lookup.{worldOf}
-use Rattle.walk.specs.Opening.{Input, walkOf, listIds}
+use Rattle.walk.specs.Opening.{Input, walkOf, listIds, widthIn}
 use Rattle.walk.specs.Calls.{walkAll}
 use Rattle.walk.specs.Reach.{links}
 use Rattle.walk.specs.Demand.{rowGeneration, pairAt, Premises}
-use Rattle.walk.specs.Runs.{names, input, all, sample}
+use Rattle.walk.specs.Runs.{names, input, all, namesWide, sampleWide}
 use Rattle.walk.specs.Slips.{idsFor}
 use Rattle.walk.proofs.Instance.{every, isGood, fit, premises}
 use Rattle.hiding.specs.Hiding.{hiding}
@@ -26,21 +26,21 @@ abbrev both : Input
 both = hiding eight (names (5 ∷ []) ++ names (4 ∷ []))
 
 fits-all : every (fit (walkOf both .world) history) history ≡ true
-unfolding every fit isGood links pairAt rowGeneration eight input all names idsFor sample bytesAll idListAll headerAll storeAll graphAll walkAll
+unfolding every fit isGood links pairAt rowGeneration eight input all namesWide idsFor sampleWide bytesAll idListAll headerAll storeAll graphAll walkAll
 fits-all = refl
 
-tips-in : every (λ x. among x history) (listIds (both .tips)) ≡ true
-unfolding every eight input names idsFor bytesAll walkAll
+tips-in : every (λ x. among x history) (listIds (widthIn both) (both .tips)) ≡ true
+unfolding every eight input all namesWide idsFor bytesAll walkAll
 tips-in = refl
 
 hidden-in : every (λ x. among x history) (walkOf both .hidden) ≡ true
-unfolding every eight input names idsFor bytesAll walkAll
+unfolding every eight input all namesWide idsFor bytesAll walkAll
 hidden-in = refl
 
-met : Premises (walkOf both) (listIds (both .tips))
-unfolding eight input all names idsFor sample bytesAll idListAll headerAll storeAll graphAll walkAll
-met = premises (walkOf both) (listIds (both .tips)) history (tt, (tt, (tt, (tt, (tt, (tt, (tt, (tt, tt)))))))) tips-in hidden-in fits-all
+met : Premises (walkOf both) (listIds (widthIn both) (both .tips))
+unfolding eight input all namesWide idsFor sampleWide bytesAll idListAll headerAll storeAll graphAll walkAll
+met = premises (walkOf both) (listIds (widthIn both) (both .tips)) history (tt, (tt, (tt, (tt, (tt, (tt, (tt, (tt, tt)))))))) tips-in hidden-in fits-all
 
 pub joined-tested : JoinedTested
-unfolding JoinedTested eight input all names sample bytesAll idListAll headerAll storeAll graphAll walkAll
+unfolding JoinedTested eight input all namesWide sampleWide bytesAll idListAll headerAll storeAll graphAll walkAll
 joined-tested = record { fits = refl; premises = met }

@@ -1,52 +1,57 @@
 -- Lists of ids end to end: their ids are those of the parts, and with a hidden list of at most 1,024 whole ids in the place of another none of 2 to 6
 -- comes to apply, since only its own length is asked for. Assumes nothing.
 use mathlib.Core.Path.{_≡_, refl, sym, _∙_, ap}
-use Prim.Native.Nat.{ℕ, zero, suc, _+_, _*_, _/_, _%_, _≤_}
+use Prim.Native.Nat.{ℕ, zero, suc, _+_, _*_, _/_, _%_, _≤_, _<_}
 use mathlib.Core.Bool.{Bool, true, false, cond, _&&_}
 use mathlib.Core.Option.{Option, none, some}
 use mathlib.Core.List.{List, [], _∷_, _++_}
 use native.Mathlib.Omega.{arith}
+use native.Mathlib.Nat.{mul-zero, mul-mod-right, div-eq-of-eq-mul-right}
 use lib.ListN.{length, take, drop, length-append, length-drop}
 use lib.Seq.{take-append-le, drop-append-le, take-all}
 use lib.Dec.{eqb, leb}
 use borrow.Author.Tests.{leb-true, le-leb, eq-eqb}
-use Rattle.hash.specs.Bytes.{Id, idBytes, idsOf}
+use Rattle.hash.specs.Bytes.{Id, idsOf}
 use Rattle.hash.proofs.Tests.{clash, no-some}
+use Rattle.hash.proofs.Widths.{width-least}
 use Rattle.walk.specs.declared.Refusal.{Refusal}
 use Rattle.walk.specs.declared.Refusal.the-variants.{InputTooLarge, PartialId}
-use Rattle.walk.specs.Opening.{Input, listIds, listLimit, sizesOk, wholeIds, refusal}
+use Rattle.walk.specs.Opening.{Input, listIds, listLimit, sizesOk, wholeIds, refusal, widthIn}
 use Rattle.hiding.specs.Hiding.{hiding, Whole}
+
+pub some-bytes : (i : Input) → 0 < widthIn i
+some-bytes i = omega (arith, width-least (i .settings .kind))
 
 -- ---- the ids of a joined list
 
-ids-append : (n m : ℕ) (h k : List ℕ) → length h ≡ idBytes * n → idsOf idBytes (n + m) (h ++ k) ≡ idsOf idBytes n h ++ idsOf idBytes m k
+ids-append : (width : ℕ) (n m : ℕ) (h k : List ℕ) → length h ≡ width * n → idsOf width (n + m) (h ++ k) ≡ idsOf width n h ++ idsOf width m k
 unfolding idsOf
-ids-append zero m [] k e = let z : 0 + m ≡ m = omega arith in ap (λ (n : ℕ). idsOf idBytes n k) z
-ids-append zero m (x ∷ h) k e = absurd (omega arith)
-ids-append (suc n) m h k e =
-    let a : take idBytes (h ++ k) ≡ take idBytes h = take-append-le idBytes h k (omega arith) in
-    let b : drop idBytes (h ++ k) ≡ drop idBytes h ++ k = drop-append-le idBytes h k (omega arith) in
-    let c : idsOf idBytes (n + m) (drop idBytes h ++ k) ≡ idsOf idBytes n (drop idBytes h) ++ idsOf idBytes m k =
-    ids-append n m (drop idBytes h) k (omega (arith, length-drop idBytes h)) in
+ids-append width zero m [] k e = let z : 0 + m ≡ m = omega arith in ap (λ (n : ℕ). idsOf width n k) z
+ids-append width zero m (x ∷ h) k e = absurd (omega (arith, mul-zero width))
+ids-append width (suc n) m h k e =
+    let a : take width (h ++ k) ≡ take width h = take-append-le width h k (omega arith) in
+    let b : drop width (h ++ k) ≡ drop width h ++ k = drop-append-le width h k (omega arith) in
+    let c : idsOf width (n + m) (drop width h ++ k) ≡ idsOf width n (drop width h) ++ idsOf width m k =
+    ids-append width n m (drop width h) k (omega (arith, length-drop width h)) in
     let s : suc n + m ≡ suc (n + m) = omega arith in
-    ap (λ (z : ℕ). idsOf idBytes z (h ++ k)) s ∙ ap (λ (z : Id). z ∷ idsOf idBytes (n + m) (drop idBytes (h ++ k))) a
-    ∙ ap (λ (z : List ℕ). take idBytes h ∷ idsOf idBytes (n + m) z) b ∙ ap (λ (z : List Id). take idBytes h ∷ z) c
+    ap (λ (z : ℕ). idsOf width z (h ++ k)) s ∙ ap (λ (z : Id). z ∷ idsOf width (n + m) (drop width (h ++ k))) a
+    ∙ ap (λ (z : List ℕ). take width h ∷ idsOf width (n + m) z) b ∙ ap (λ (z : List Id). take width h ∷ z) c
 
-pub list-joined : (h k : List ℕ) → Whole h → Whole k → listIds (h ++ k) ≡ listIds h ++ listIds k
+pub list-joined : (width : ℕ) → 0 < width → (h k : List ℕ) → Whole width h → Whole width k → listIds width (h ++ k) ≡ listIds width h ++ listIds width k
 unfolding listIds
-list-joined h k a b =
-    let n : length h / idBytes ≡ a .count = omega (arith, a .is) in
-    let m : length k / idBytes ≡ b .count = omega (arith, b .is) in
-    let o : length (h ++ k) / idBytes ≡ a .count + b .count = omega (arith, a .is, b .is, length-append h k) in
-    ap (λ (z : ℕ). idsOf idBytes z (h ++ k)) o ∙ ids-append (a .count) (b .count) h k (a .is)
-    ∙ ap (λ (z : ℕ). idsOf idBytes z h ++ idsOf idBytes (b .count) k) (sym n) ∙ ap (λ (z : ℕ). idsOf idBytes (length h / idBytes) h ++ idsOf idBytes z k) (sym m)
+list-joined width positive h k a b =
+    let n : length h / width ≡ a .count = div-eq-of-eq-mul-right positive (a .is) in
+    let m : length k / width ≡ b .count = div-eq-of-eq-mul-right positive (b .is) in
+    let o : length (h ++ k) / width ≡ a .count + b .count = div-eq-of-eq-mul-right positive (omega (arith, a .is, b .is, length-append h k)) in
+    ap (λ (z : ℕ). idsOf width z (h ++ k)) o ∙ ids-append width (a .count) (b .count) h k (a .is)
+    ∙ ap (λ (z : ℕ). idsOf width z h ++ idsOf width (b .count) k) (sym n) ∙ ap (λ (z : ℕ). idsOf width (length h / width) h ++ idsOf width z k) (sym m)
 
 -- one id is a list
-pub list-one : (t : List ℕ) → length t ≡ idBytes → listIds t ≡ t ∷ []
+pub list-one : (width : ℕ) → 0 < width → (t : List ℕ) → length t ≡ width → listIds width t ≡ t ∷ []
 unfolding listIds idsOf
-list-one t e =
-    let n : length t / idBytes ≡ 1 = omega (arith, e) in
-    ap (λ (z : ℕ). idsOf idBytes z t) n ∙ ap (λ (z : Id). z ∷ []) (take-all idBytes t (omega arith))
+list-one width positive t e =
+    let n : length t / width ≡ 1 = div-eq-of-eq-mul-right positive (omega (arith, e)) in
+    ap (λ (z : ℕ). idsOf width z t) n ∙ ap (λ (z : Id). z ∷ []) (take-all width t (omega arith))
 
 -- ---- another hidden list is accepted where one is
 
@@ -78,24 +83,24 @@ swap-second true false q e f o = clash f refl
 swap-second false p q e f o = clash f refl
 
 module _ (i : Input) (h : List ℕ) where
-  sizes : (k : List ℕ) → length k ≤ listLimit → sizesOk (hiding i h) ≡ true → sizesOk (hiding i k) ≡ true
+  sizes : (k : List ℕ) → length k ≤ listLimit (widthIn i) → sizesOk (hiding i h) ≡ true → sizesOk (hiding i k) ≡ true
   unfolding sizesOk
-  sizes k l f = swap-fourth (leb (length (i .store)) 16777216) (leb (length (i .graph)) 16777216) (leb (length (i .tips)) listLimit) (leb (length h) listLimit)
-      (leb (length k) listLimit) (leb (length (i .excluded)) listLimit) f (le-leb (length k) listLimit l)
+  sizes k l f = swap-fourth (leb (length (i .store)) 16777216) (leb (length (i .graph)) 16777216) (leb (length (i .tips)) (listLimit (widthIn i))) (leb (length h) (listLimit (widthIn i)))
+      (leb (length k) (listLimit (widthIn i))) (leb (length (i .excluded)) (listLimit (widthIn i))) f (le-leb (length k) (listLimit (widthIn i)) l)
 
-  wholes : (k : List ℕ) → Whole k → wholeIds (hiding i h) ≡ true → wholeIds (hiding i k) ≡ true
+  wholes : (k : List ℕ) → Whole (widthIn i) k → wholeIds (hiding i h) ≡ true → wholeIds (hiding i k) ≡ true
   unfolding wholeIds
-  wholes k a f = swap-second (eqb (length (i .tips) % idBytes) 0) (eqb (length h % idBytes) 0) (eqb (length k % idBytes) 0) (eqb (length (i .excluded) % idBytes) 0) f
-      (eq-eqb (length k % idBytes) 0 (omega (arith, a .is)))
+  wholes k a f = swap-second (eqb (length (i .tips) % widthIn i) 0) (eqb (length h % widthIn i) 0) (eqb (length k % widthIn i) 0) (eqb (length (i .excluded) % widthIn i) 0) f
+      (eq-eqb (length k % widthIn i) 0 (ap (λ (z : ℕ). z % widthIn i) (a .is) ∙ mul-mod-right (widthIn i) (a .count)))
 
   -- a list that is accepted has at most 1,024 ids
-  pub accepted-short : refusal (hiding i h) ≡ none → length h ≤ listLimit
+  pub accepted-short : refusal (hiding i h) ≡ none → length h ≤ listLimit (widthIn i)
   unfolding refusal sizesOk
-  accepted-short e = leb-true (length h) listLimit
-      (fourth (leb (length (i .store)) 16777216) (leb (length (i .graph)) 16777216) (leb (length (i .tips)) listLimit) (leb (length h) listLimit)
-      (leb (length (i .excluded)) listLimit) (pick-none (sizesOk (hiding i h)) _ InputTooLarge e .0))
+  accepted-short e = leb-true (length h) (listLimit (widthIn i))
+      (fourth (leb (length (i .store)) 16777216) (leb (length (i .graph)) 16777216) (leb (length (i .tips)) (listLimit (widthIn i))) (leb (length h) (listLimit (widthIn i)))
+      (leb (length (i .excluded)) (listLimit (widthIn i))) (pick-none (sizesOk (hiding i h)) _ InputTooLarge e .0))
 
-  pub accepted-other : (k : List ℕ) → Whole k → length k ≤ listLimit → refusal (hiding i h) ≡ none → refusal (hiding i k) ≡ none
+  pub accepted-other : (k : List ℕ) → Whole (widthIn i) k → length k ≤ listLimit (widthIn i) → refusal (hiding i h) ≡ none → refusal (hiding i k) ≡ none
   unfolding refusal
   accepted-other k a l e =
       let s = pick-none (sizesOk (hiding i h)) _ InputTooLarge e in

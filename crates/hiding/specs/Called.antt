@@ -4,11 +4,11 @@ use mathlib.Core.Path.{_≡_}
 use mathlib.Core.Bool.{true}
 use mathlib.Core.List.{List}
 use lib.ListN.{length}
-use Rattle.hash.specs.Bytes.{Id, idBytes, idsOf}
+use Rattle.hash.specs.Bytes.{Id, idsOf}
 use Rattle.walk.specs.declared.Outcome.the-variants.{End}
 use Rattle.walk.specs.declared.OpenOutcome.the-variants.{Accepted}
 use Rattle.walk.specs.declared.OpenOutcome.the-variants.{Accepted}
-use Rattle.walk.specs.Opening.{Input, roomFor, P}
+use Rattle.walk.specs.Opening.{Input, roomFor, P, widthIn}
 use Rattle.traverse.specs.declared.Opened.{Opened}
 use Rattle.traverse.specs.Contract.{Lent, lengthsOf, OpenSays}
 use Rattle.traverse.specs.Demand.{Call, Calls, filesOf, CallIs, answersOf, handedOut}
@@ -42,7 +42,7 @@ ComesToItsEnd i = (m : Lent) (o : Opened) (m′ : Lent) → OpenSays i m o m′ 
 
 -- the ids handed out, in order
 abbrev pub idsHanded : (i : Input) → Walked i → List Id
-idsHanded i d = handedOut (answersOf (d .calls))
+idsHanded i d = handedOut (widthIn i) (answersOf (d .calls))
 
 -- ---- list
 
@@ -55,11 +55,11 @@ pub record SetDown (i : Input) : Type 0 where
   pub ids-left : List ℕ
   pub lists : ListSays i lent ids listing left ids-left
   pub room : roomFor i (lengthsOf lent) ≡ true
-  pub room-for-ids : idBytes * listing .commits ≤ length ids
+  pub room-for-ids : widthIn i * listing .commits ≤ length ids
 
 -- the ids in the caller's buffer, as many as are counted
 abbrev pub idsSetDown : (i : Input) → SetDown i → List Id
-idsSetDown i d = idsOf idBytes (d .listing .commits) (d .ids-left)
+idsSetDown i d = idsOf (widthIn i) (d .listing .commits) (d .ids-left)
 
 -- ---- the claim
 

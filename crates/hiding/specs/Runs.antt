@@ -2,7 +2,8 @@
 use mathlib.Core.Path.{_≡_, refl}
 use mathlib.Core.Bool.{false}
 use mathlib.Core.List.{List, [], _∷_, _++_}
-use Rattle.hash.specs.Bytes.{bytesAll}
+use Rattle.hash.specs.Bytes.{bytesAll, widthOf}
+use Rattle.hash.specs.declared.Kind.the-variants.{Sha1}
 use Rattle.idlist.specs.IdList.{idListAll}
 use Rattle.object.specs.Header.{headerAll}
 use Rattle.odb.specs.Store.{storeAll}
@@ -13,7 +14,7 @@ use Rattle.walk.specs.Opening.{Input}
 use Rattle.walk.specs.Next.{end}
 use Rattle.walk.specs.Calls.{walkAll}
 use Rattle.walk.specs.Demand.{rowGeneration, pairAt}
-use Rattle.walk.specs.Runs.{idFor, names, input, says, out, outAt, all, newest, sample}
+use Rattle.walk.specs.Runs.{idFor, names, input, says, out, outAt, all, newest, sample, idWide, sampleWide}
 use Rattle.walk.specs.Slips.{lentTwice}
 use Rattle.hiding.specs.Hiding.{hiding, Tested}
 
@@ -21,13 +22,13 @@ use Rattle.hiding.specs.Hiding.{hiding, Tested}
 
 pub record Needed : Type 0 where
   -- 2 is a parent of 4, at 20 and at 6: the pair does not fall, and a tested opening says 15
-  pub rises : ltPair (pairAt (worldOf lentTwice []) (idFor 2)) (pairAt (worldOf lentTwice []) (idFor 4)) ≡ false
+  pub rises : ltPair (pairAt (worldOf (widthOf Sha1) lentTwice []) (idFor 2)) (pairAt (worldOf (widthOf Sha1) lentTwice []) (idFor 4)) ≡ false
   -- hiding 5 leaves 1 and 2, though 5 reaches 2; the list joined to itself, which is the hidden tip lent twice, leaves 1 alone
   pub either : says lentTwice (1 ∷ []) (5 ∷ []) [] (all BreadthFirst) 4 ≡ out 1 ∷ out 2 ∷ end ∷ end ∷ []
   pub joined : says lentTwice (1 ∷ []) (5 ∷ 5 ∷ []) [] (all BreadthFirst) 3 ≡ out 1 ∷ end ∷ end ∷ []
 
 pub needed : Needed
-unfolding says all lentTwice pairAt rowGeneration idFor bytesAll idListAll headerAll storeAll graphAll walkAll
+unfolding says all lentTwice pairAt rowGeneration idWide bytesAll idListAll headerAll storeAll graphAll walkAll
 needed = record { rises = refl; either = refl; joined = refl }
 
 -- ---- clocks that fall
@@ -50,5 +51,5 @@ pub record Falling : Type 0 where
   pub newest-first : says sample (8 ∷ []) (5 ∷ 4 ∷ []) [] (all newest) 4 ≡ outAt 8 8 ∷ outAt 7 7 ∷ outAt 6 6 ∷ end ∷ []
 
 pub falling : Falling
-unfolding says all sample bytesAll idListAll headerAll storeAll graphAll walkAll
+unfolding says all sampleWide bytesAll idListAll headerAll storeAll graphAll walkAll
 falling = record { first = refl; second = refl; both = refl; swapped = refl; newest-first = refl }

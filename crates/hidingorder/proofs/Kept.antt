@@ -6,13 +6,14 @@ use Prim.Native.Nat.{ℕ, _+_, _*_, _≤_}
 use mathlib.Core.Bool.{Bool, true, not, _&&_}
 use mathlib.Core.List.{List, [], _∷_, _++_, List·Memᴰ·not-nil, Memᴰ·append-left, Memᴰ·append-right, List·Memᴰ·append-cases}
 use native.Mathlib.Omega.{arith}
+use native.Mathlib.Nat.{mul-zero, zero-div}
 use lib.ListN.{length, length-append}
 use lib.Seq.{take-all}
 use Rattle.hash.specs.Bytes.{Id, idsOf, among}
 use Rattle.hash.proofs.Tests.{clash, not-yes, and-of, and-both}
 use Rattle.walk.specs.Lookup.{World, worldOf}
 use Rattle.walk.specs.State.{State, isEmpty, emptyState}
-use Rattle.walk.specs.Opening.{Input, walkOf, listIds, P, distinct}
+use Rattle.walk.specs.Opening.{Input, walkOf, listIds, P, distinct, widthIn}
 use Rattle.walk.specs.Next.{Answer}
 use Rattle.walk.specs.Calls.{answerAt, calls}
 use Rattle.walk.specs.Universe.{storeParents}
@@ -30,7 +31,7 @@ use Rattle.reach.proofs.Closure.{links-named, list-reached}
 use Rattle.traverse.proofs.Numbered.{length-upTo, hands-ids}
 use Rattle.driver.specs.Walked.{allAnswers, wholeList}
 use Rattle.hiding.specs.Hiding.{hiding, Whole, Tested, PartsTested, SameTested}
-use Rattle.hiding.proofs.Joined.{list-joined}
+use Rattle.hiding.proofs.Joined.{some-bytes, list-joined}
 use Rattle.hiding.proofs.Adding.{parts-tested, same-tested}
 use Rattle.hidingorder.specs.Order.{those, notHidden, OrderKept}
 use Rattle.hidingorder.proofs.Those.{same-test, those-same, those-twice, those-out, those-in}
@@ -50,43 +51,43 @@ unfolding Third
 delivered i t = third i (t .fits) (t .premises)
 
 -- rows of an accepted graph file agree among themselves
-empty-graph : (b g : List ℕ) → isEmpty g ≡ true → Coherent (worldOf b g)
+empty-graph : (width : ℕ) (b g : List ℕ) → isEmpty g ≡ true → Coherent (worldOf width b g)
 unfolding isEmpty
-empty-graph b [] e = no-rows b
-empty-graph b (x ∷ g) e = clash refl (sym e)
+empty-graph width b [] e = no-rows width b
+empty-graph width b (x ∷ g) e = clash refl (sym e)
 
-coherent : (i : Input) → Accepted i → Coherent (worldOf (i .store) (i .graph))
-coherent i a = ⊎-elim (empty-graph (i .store) (i .graph)) (coherent-world (i .store) (i .graph)) (a .graph-ok)
+coherent : (i : Input) → Accepted i → Coherent (worldOf (widthIn i) (i .store) (i .graph))
+coherent i a = ⊎-elim (empty-graph (widthIn i) (i .store) (i .graph)) (coherent-world (widthIn i) (i .store) (i .graph)) (a .graph-ok)
 
 -- ---- what is hidden
 
 module _ (i : Input) where
   abbrev w : World
-  w = worldOf (i .store) (i .graph)
+  w = worldOf (widthIn i) (i .store) (i .graph)
 
   abbrev hidBy : List ℕ → Id → Bool
-  hidBy h x = among x (reachList (i .store) (i .graph) (listIds h))
+  hidBy h x = among x (reachList (widthIn i) (i .store) (i .graph) (listIds (widthIn i) h))
 
-  hid-reached : (h : List ℕ) (x : Id) → hidBy h x ≡ true → ReachedBy w (listIds h) x
-  hid-reached h x e = list-reached (i .store) (i .graph) (listIds h) .sound x (among-mem x (reachList (i .store) (i .graph) (listIds h)) e)
+  hid-reached : (h : List ℕ) (x : Id) → hidBy h x ≡ true → ReachedBy w (listIds (widthIn i) h) x
+  hid-reached h x e = list-reached (widthIn i) (i .store) (i .graph) (listIds (widthIn i) h) .sound x (among-mem x (reachList (widthIn i) (i .store) (i .graph) (listIds (widthIn i) h)) e)
 
-  reached-hid : (h : List ℕ) (x : Id) → ReachedBy w (listIds h) x → hidBy h x ≡ true
-  reached-hid h x r = mem-among x (reachList (i .store) (i .graph) (listIds h)) (list-reached (i .store) (i .graph) (listIds h) .complete x r)
+  reached-hid : (h : List ℕ) (x : Id) → ReachedBy w (listIds (widthIn i) h) x → hidBy h x ≡ true
+  reached-hid h x r = mem-among x (reachList (widthIn i) (i .store) (i .graph) (listIds (widthIn i) h)) (list-reached (widthIn i) (i .store) (i .graph) (listIds (widthIn i) h) .complete x r)
 
-  no-ids : (x : Id) → Mem x (listIds []) → ⊥
+  no-ids : (x : Id) → Mem x (listIds (widthIn i) []) → ⊥
   unfolding listIds idsOf
-  no-ids x m = List·Memᴰ·not-nil m
+  no-ids x m = List·Memᴰ·not-nil (subst (λ (n : ℕ). Mem x (idsOf (widthIn i) n [])) (zero-div (widthIn i)) m)
 
   -- ---- the list with hidden tips and the list with none
 
-  enough : (h : List ℕ) → Accepted i → 3 * length (storeParents (i .store)) + length (listIds (i .tips)) + length (listIds h) ≤ 4 * P (hiding i h)
+  enough : (h : List ℕ) → Accepted i → 3 * length (storeParents (widthIn i) (i .store)) + length (listIds (widthIn i) (i .tips)) + length (listIds (widthIn i) h) ≤ 4 * P (hiding i h)
   unfolding P
-  enough h a = omega (arith, storeParents-length (i .store) (a .store-ok), length-list (i .tips), length-list h)
+  enough h a = omega (arith, storeParents-length (widthIn i) (i .store) (a .store-ok), length-list (widthIn i) (i .tips), length-list (widthIn i) h)
 
   same-state : (h : List ℕ) (d : Delivers (hiding i h)) (f : Delivers (hiding i [])) → f .state ≡ d .state
   unfolding walkOf
   same-state h d f = opened-same (sym (open-tips (hiding i []) (f .state) (f .accepted))
-      ∙ tips-same w (i .settings) (listIds (i .excluded)) (listIds []) (listIds h) (4 * P (hiding i [])) (4 * P (hiding i h)) (distinct [] (listIds (i .excluded)) (listIds (i .tips))) emptyState
+      ∙ tips-same w (i .settings) (listIds (widthIn i) (i .excluded)) (listIds (widthIn i) []) (listIds (widthIn i) h) (4 * P (hiding i [])) (4 * P (hiding i h)) (distinct [] (listIds (widthIn i) (i .excluded)) (listIds (widthIn i) (i .tips))) emptyState
       ∙ open-tips (hiding i h) (d .state) (d .accepted))
 
   less-hidden : (h : List ℕ) → Tested (hiding i h) → Tested (hiding i []) → (d : Delivers (hiding i h)) (f : Delivers (hiding i [])) → d .list ≡ those (notHidden i h) (f .list)
@@ -94,24 +95,24 @@ module _ (i : Input) where
   less-hidden h t u d f =
       let a : Accepted (hiding i h) = accepted (hiding i h) (t .fits) in
       let b : Accepted i = record { store-ok = a .store-ok; graph-ok = a .graph-ok } in
-      same-lists w (i .settings) (listIds (i .excluded)) (listIds h) (listIds []) (4 * P (hiding i h)) (4 * P (hiding i [])) (listIds (i .tips))
+      same-lists w (i .settings) (listIds (widthIn i) (i .excluded)) (listIds (widthIn i) h) (listIds (widthIn i) []) (4 * P (hiding i h)) (4 * P (hiding i [])) (listIds (widthIn i) (i .tips))
       (t .premises) (u .premises) (coherent i b) (hidBy h)
       (λ x e. let r = hid-reached h x e in (r .root, r .lent, r .reaches))
       (λ x r. reached-hid h x (record { root = r .0; lent = r .1; reaches = r .2 }))
       (λ x r. no-ids (r .0) (r .1))
-      (d .state) (storeParents (i .store))
-      (λ x p r m. links-named (i .store) (i .graph) x p m) (enough h b)
-      (λ x p r m. links-named (i .store) (i .graph) x p m) (enough [] b)
+      (d .state) (storeParents (widthIn i) (i .store))
+      (λ x p r m. links-named (widthIn i) (i .store) (i .graph) x p m) (enough h b)
+      (λ x p r m. links-named (widthIn i) (i .store) (i .graph) x p m) (enough [] b)
       (open-tips (hiding i h) (d .state) (d .accepted))
       (d .list) (f .list)
       (λ n. subst (Hands (d .list)) (answers-calls (hiding i h) (d .state) (d .accepted) n) (d .handed-out n))
       (λ n. subst (λ (s : State). Hands (f .list) (calls (walkOf (hiding i [])) n s)) (same-state h d f)
       (subst (Hands (f .list)) (answers-calls (hiding i []) (f .state) (f .accepted) n) (f .handed-out n)))
 
-  no-bytes : Whole []
-  no-bytes = record { count = 0; is = refl }
+  no-bytes : Whole (widthIn i) []
+  no-bytes = record { count = 0; is = sym (mul-zero (widthIn i)) }
 
-  none-tested : (h : List ℕ) → Whole h → Tested (hiding i h) → Tested (hiding i [])
+  none-tested : (h : List ℕ) → Whole (widthIn i) h → Tested (hiding i h) → Tested (hiding i [])
   unfolding PartsTested
   none-tested h a t = parts-tested i [] h no-bytes a t .0
 
@@ -119,7 +120,7 @@ module _ (i : Input) where
   abbrev L : List ℕ → List Id
   L h = wholeList (hiding i h)
 
-  pub whole-less : (h : List ℕ) → Whole h → Tested (hiding i h) → L h ≡ those (notHidden i h) (L [])
+  pub whole-less : (h : List ℕ) → Whole (widthIn i) h → Tested (hiding i h) → L h ≡ those (notHidden i h) (L [])
   whole-less h a t =
       let u = none-tested h a t in
       let d = delivered (hiding i h) t in
@@ -128,11 +129,11 @@ module _ (i : Input) where
 
   -- ---- two lists
 
-  module _ (h k : List ℕ) (a : Whole h) (b : Whole k) where
-    joined-ids : (x : Id) → Mem x (listIds (h ++ k)) ↔ (Mem x (listIds h) ⊎ Mem x (listIds k))
+  module _ (h k : List ℕ) (a : Whole (widthIn i) h) (b : Whole (widthIn i) k) where
+    joined-ids : (x : Id) → Mem x (listIds (widthIn i) (h ++ k)) ↔ (Mem x (listIds (widthIn i) h) ⊎ Mem x (listIds (widthIn i) k))
     joined-ids x = (
-      (λ m. List·Memᴰ·append-cases (listIds h) (subst (λ (l : List Id). Mem x l) (list-joined h k a b) m)),
-      (λ m. subst (λ (l : List Id). Mem x l) (sym (list-joined h k a b)) (⊎-elim (Memᴰ·append-left (listIds k)) (Memᴰ·append-right (listIds h)) m)),
+      (λ m. List·Memᴰ·append-cases (listIds (widthIn i) h) (subst (λ (l : List Id). Mem x l) (list-joined (widthIn i) (some-bytes i) h k a b) m)),
+      (λ m. subst (λ (l : List Id). Mem x l) (sym (list-joined (widthIn i) (some-bytes i) h k a b)) (⊎-elim (Memᴰ·append-left (listIds (widthIn i) k)) (Memᴰ·append-right (listIds (widthIn i) h)) m)),
     )
 
     hid-either : (x : Id) → hidBy (h ++ k) x ≡ true → (hidBy h x ≡ true) ⊎ (hidBy k x ≡ true)
@@ -173,10 +174,10 @@ module _ (i : Input) where
 
   -- ---- the same ids
 
-  hid-same : (h k : List ℕ) → ((x : Id) → Mem x (listIds h) → Mem x (listIds k)) → (x : Id) → hidBy h x ≡ true → hidBy k x ≡ true
+  hid-same : (h k : List ℕ) → ((x : Id) → Mem x (listIds (widthIn i) h) → Mem x (listIds (widthIn i) k)) → (x : Id) → hidBy h x ≡ true → hidBy k x ≡ true
   hid-same h k s x e = let r = hid-reached h x e in reached-hid k x (record { root = r .root; lent = s (r .root) (r .lent); reaches = r .reaches })
 
-  pub whole-same : (h k : List ℕ) → Whole h → Whole k → ((x : Id) → Mem x (listIds h) ↔ Mem x (listIds k)) → Tested (hiding i h) → Tested (hiding i k) → L h ≡ L k
+  pub whole-same : (h k : List ℕ) → Whole (widthIn i) h → Whole (widthIn i) k → ((x : Id) → Mem x (listIds (widthIn i) h) ↔ Mem x (listIds (widthIn i) k)) → Tested (hiding i h) → Tested (hiding i k) → L h ≡ L k
   unfolding notHidden
   whole-same h k a b s t u =
       whole-less h a t

@@ -6,6 +6,7 @@
 ghost use Prim.Native.Nat.{_<_};
 ghost use Rattle.io.specs.Counts.{Counts};
 use date::Seconds;
+use hash::Kind;
 use libc::STDERR_FILENO;
 use libc::STDOUT_FILENO;
 use state::Record;
@@ -334,6 +335,7 @@ fn list_files(sorting: Sorting) {
         let settings = Settings {
             sorting,
             parents: Parents::All,
+            kind: Kind::Sha1,
         };
         list(
             &first[..store],

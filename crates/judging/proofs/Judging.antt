@@ -11,12 +11,12 @@ use native.Mathlib.Nat.{not-suc-le-zero, le-of-suc-le-suc}
 use lib.ListN.{length, getD, length-map}
 use lib.IntN.{ℤ, pos}
 use lib.Signed.{ltZ}
-use Rattle.hash.specs.Bytes.{Id, idBytes, ifSome, eqId}
+use Rattle.hash.specs.Bytes.{Id, ifSome, eqId}
 use Rattle.hash.proofs.Tests.{byCases, clash, not-yes, and-first, and-second, guard-of}
 use Rattle.hash.proofs.Ids.{eqId-same}
 use Rattle.date.specs.declared.Stamp.{Stamp}
 use Rattle.object.specs.Header.{Header, header}
-use Rattle.object.specs.Ids.{idIn}
+use Rattle.object.specs.Ids.{idIn, idRoom}
 use Rattle.object.specs.Read.{readingOf}
 use Rattle.object.specs.declared.ObjectId.{ObjectId}
 use Rattle.object.specs.declared.Reading.{Reading}
@@ -87,41 +87,41 @@ firsts (p ∷ ps) (suc i) h = firsts ps i (le-of-suc-le-suc h)
 -- ---- the parents of a row and of a body
 
 -- after k of n
-pub record Comparing (g : List ℕ) (l : Layout) (p : ℕ) (b : List ℕ) (n k : ℕ) : Type 0 where
+pub record Comparing (width : ℕ) (g : List ℕ) (l : Layout) (p : ℕ) (b : List ℕ) (n k : ℕ) : Type 0 where
   pub upto : k ≤ n
-  pub same : l ≡ layoutOf idBytes g → (ps : List (Id × ℤ)) (v : ℕ) (t : ℤ) → rowAt g p ≡ row ps v t → n ≡ length ps → header idBytes b .tree ≡ true → n ≡ length (header idBytes b .ids)
-      → (i : ℕ) → i < k → eqId (getD (map (λ q. q .0) ps) i []) (getD (header idBytes b .ids) i []) ≡ true
+  pub same : l ≡ layoutOf width g → (ps : List (Id × ℤ)) (v : ℕ) (t : ℤ) → rowAt width g p ≡ row ps v t → n ≡ length ps → header width b .tree ≡ true → n ≡ length (header width b .ids)
+      → (i : ℕ) → i < k → eqId (getD (map (λ q. q .0) ps) i []) (getD (header width b .ids) i []) ≡ true
 
-pub comparing-first : (g : List ℕ) (l : Layout) (p : ℕ) (b : List ℕ) (n : ℕ) → Comparing g l p b n 0
-comparing-first g l p b n = record { upto = omega arith; same = λ own ps v t e c tr d i h. absurd (omega arith) }
+pub comparing-first : (width : ℕ) (g : List ℕ) (l : Layout) (p : ℕ) (b : List ℕ) (n : ℕ) → Comparing width g l p b n 0
+comparing-first width g l p b n = record { upto = omega arith; same = λ own ps v t e c tr d i h. absurd (omega arith) }
 
-module _ {g : List ℕ} {l : Layout} {p : ℕ} {b : List ℕ} {n k : ℕ} (c : Comparing g l p b n k) where
-  module _ (h : k < n) {y x : Id} (z : ObjectId) {r : Bool} (own : y ≡ rowParent g l p k) (read : z .bytes ≡ parentIdAt b k) (given : x ≡ idIn idBytes (z .bytes)) (is : r ≡ eqId y x) where
+module _ {width : ℕ} {g : List ℕ} {l : Layout} {p : ℕ} {b : List ℕ} {n k : ℕ} (c : Comparing width g l p b n k) where
+  module _ (small : width ≤ idRoom) (h : k < n) {y x : Id} (z : ObjectId) {r : Bool} (own : y ≡ rowParent width g l p k) (read : z .bytes ≡ parentIdAt width b k) (given : x ≡ idIn width (z .bytes)) (is : r ≡ eqId y x) where
     -- the two that were compared
-    two : l ≡ layoutOf idBytes g → (ps : List (Id × ℤ)) (v : ℕ) (t : ℤ) → rowAt g p ≡ row ps v t → n ≡ length ps → header idBytes b .tree ≡ true → n ≡ length (header idBytes b .ids)
-        → r ≡ eqId (getD (map (λ q. q .0) ps) k []) (getD (header idBytes b .ids) k [])
+    two : l ≡ layoutOf width g → (ps : List (Id × ℤ)) (v : ℕ) (t : ℤ) → rowAt width g p ≡ row ps v t → n ≡ length ps → header width b .tree ≡ true → n ≡ length (header width b .ids)
+        → r ≡ eqId (getD (map (λ q. q .0) ps) k []) (getD (header width b .ids) k [])
     two e ps v t f m tr d =
-        let o : y ≡ getD (map (λ q. q .0) ps) k [] = own ∙ row-parent-right g p k e ps v t f (omega arith) ∙ sym (firsts ps k (omega arith)) in
-        let q : x ≡ getD (header idBytes b .ids) k [] = given ∙ ap (idIn idBytes) read ∙ parent-right b k tr (omega arith) in
+        let o : y ≡ getD (map (λ q. q .0) ps) k [] = own ∙ row-parent-right width g p k e ps v t f (omega arith) ∙ sym (firsts ps k (omega arith)) in
+        let q : x ≡ getD (header width b .ids) k [] = given ∙ ap (idIn width) read ∙ parent-right width small b k tr (omega arith) in
         is ∙ ap (λ (a : Id). eqId a x) o ∙ ap (eqId (getD (map (λ q. q .0) ps) k [])) q
 
-    pub comparing-next : r ≡ true → Comparing g l p b n (k + 1)
+    pub comparing-next : r ≡ true → Comparing width g l p b n (k + 1)
     comparing-next holds′ = record {
       upto = omega arith;
       same = λ e ps v t f m tr d i j. ⊎-elim
           (λ a. c .same e ps v t f m tr d i a)
-          (λ a. subst (λ (o : ℕ). eqId (getD (map (λ q. q .0) ps) o []) (getD (header idBytes b .ids) o []) ≡ true) (sym a) (sym (two e ps v t f m tr d) ∙ holds′))
+          (λ a. subst (λ (o : ℕ). eqId (getD (map (λ q. q .0) ps) o []) (getD (header width b .ids) o []) ≡ true) (sym a) (sym (two e ps v t f m tr d) ∙ holds′))
           (last-place i k (omega arith));
     }
 
-    pub comparing-stop : r ≡ false → ComparesParents g l p b n false
-    comparing-stop fails′ = record { right = λ e ps v t f m tr d. sym (same-broken (map (λ q. q .0) ps) (header idBytes b .ids) k (sym (two e ps v t f m tr d) ∙ fails′)) }
+    pub comparing-stop : r ≡ false → ComparesParents width g l p b n false
+    comparing-stop fails′ = record { right = λ e ps v t f m tr d. sym (same-broken (map (λ q. q .0) ps) (header width b .ids) k (sym (two e ps v t f m tr d) ∙ fails′)) }
 
-  pub comparing-last : n ≤ k → ComparesParents g l p b n true
+  pub comparing-last : n ≤ k → ComparesParents width g l p b n true
   comparing-last h = record {
     right = λ e ps v t f m tr d.
         let o = length-map ps (λ q. q .0) in
-        sym (same-places (map (λ q. q .0) ps) (header idBytes b .ids) (o ∙ sym m ∙ d) (λ i j. c .same e ps v t f m tr d i (omega (arith, o))));
+        sym (same-places (map (λ q. q .0) ps) (header width b .ids) (o ∙ sym m ∙ d) (λ i j. c .same e ps v t f m tr d i (omega (arith, o))));
   }
 
 -- ---- a header that is readable
@@ -164,29 +164,29 @@ header-read h n t e =
 
 -- ---- a row beside a body
 
-module _ (g : List ℕ) (l : Layout) (p m : ℕ) (time : ℤ) (b : List ℕ) (n : ℕ) (seconds : ℤ) where
-  pub row-count : (n ≡ m → ⊥) → ComparesRow g l p m time b n seconds false
+module _ (width : ℕ) (g : List ℕ) (l : Layout) (p m : ℕ) (time : ℤ) (b : List ℕ) (n : ℕ) (seconds : ℤ) where
+  pub row-count : (n ≡ m → ⊥) → ComparesRow width g l p m time b n seconds false
   row-count fails′ = record {
     right = λ own ps v t e c stamp f.
-        let h = header-read (header idBytes b) n stamp f in
-        let d : sameIds (map (λ q. q .0) ps) (header idBytes b .ids) ≡ false = same-long (map (λ q. q .0) ps) (header idBytes b .ids) (λ q. fails′ (h .count ∙ sym q ∙ length-map ps (λ q. q .0) ∙ sym c)) in
+        let h = header-read (header width b) n stamp f in
+        let d : sameIds (map (λ q. q .0) ps) (header width b .ids) ≡ false = same-long (map (λ q. q .0) ps) (header width b .ids) (λ q. fails′ (h .count ∙ sym q ∙ length-map ps (λ q. q .0) ∙ sym c)) in
         ap (λ (a : Bool). a && sameTime seconds time) (sym d);
   }
 
-  pub row-time : sameTime seconds time ≡ false → ComparesRow g l p m time b n seconds false
+  pub row-time : sameTime seconds time ≡ false → ComparesRow width g l p m time b n seconds false
   row-time fails′ = record {
-    right = λ own ps v t e c stamp f. sym (ap (λ (a : Bool). sameIds (map (λ q. q .0) ps) (header idBytes b .ids) && a) fails′ ∙ and-no (sameIds (map (λ q. q .0) ps) (header idBytes b .ids)));
+    right = λ own ps v t e c stamp f. sym (ap (λ (a : Bool). sameIds (map (λ q. q .0) ps) (header width b .ids) && a) fails′ ∙ and-no (sameIds (map (λ q. q .0) ps) (header width b .ids)));
   }
     where
       and-no : (a : Bool) → (a && false) ≡ false
       and-no true = refl
       and-no false = refl
 
-  pub row-both : {r : Bool} → n ≡ m → sameTime seconds time ≡ true → ComparesParents g l p b n r → ComparesRow g l p m time b n seconds r
+  pub row-both : {r : Bool} → n ≡ m → sameTime seconds time ≡ true → ComparesParents width g l p b n r → ComparesRow width g l p m time b n seconds r
   row-both {r} i holds′ o = record {
     right = λ own ps v t e c stamp f.
-        let h = header-read (header idBytes b) n stamp f in
-        o .right own ps v t e (i ∙ c) (h .tree) (h .count) ∙ sym (ap (λ (a : Bool). sameIds (map (λ q. q .0) ps) (header idBytes b .ids) && a) holds′ ∙ and-yes (sameIds (map (λ q. q .0) ps) (header idBytes b .ids)));
+        let h = header-read (header width b) n stamp f in
+        o .right own ps v t e (i ∙ c) (h .tree) (h .count) ∙ sym (ap (λ (a : Bool). sameIds (map (λ q. q .0) ps) (header width b .ids) && a) holds′ ∙ and-yes (sameIds (map (λ q. q .0) ps) (header width b .ids)));
   }
     where
       and-yes : (a : Bool) → (a && true) ≡ a
@@ -196,109 +196,109 @@ module _ (g : List ℕ) (l : Layout) (p m : ℕ) (time : ℤ) (b : List ℕ) (n 
 -- ---- the commit
 
 -- the store's header of a commit
-stored-header : {s : List ℕ} {x : Id} {b : List ℕ} → GivesBody idBytes s x b → storeOk idBytes s ≡ true → (g : List ℕ) (n : ℕ) (t : Stamp) → readingOf (header idBytes b) ≡ AsReadable n t
-    → worldOf s g .store x ≡ some (header idBytes b)
+stored-header : {width : ℕ} {s : List ℕ} {x : Id} {b : List ℕ} → GivesBody width s x b → storeOk width s ≡ true → (g : List ℕ) (n : ℕ) (t : Stamp) → readingOf (header width b) ≡ AsReadable n t
+    → worldOf width s g .store x ≡ some (header width b)
 unfolding fromStore
-stored-header {s} {x} {b} v ok g n t e = go (v .place) refl
+stored-header {width} {s} {x} {b} v ok g n t e = go (v .place) refl
   where
     never : (ps : List Id) (q : Pair) → fail CommitNotFound ≡ good ps q → ⊥
     never ps q f = let z : _≡_ {A = ℕ} 0 1 = cc in absurd (omega arith)
 
-    go : (o : Located) → v .place ≡ o → worldOf s g .store x ≡ some (header idBytes b)
+    go : (o : Located) → v .place ≡ o → worldOf width s g .store x ≡ some (header width b)
     go (BodyAt a c) p = located-body g a c (v .locates) p (v .is ∙ ap (partOf s) p) ok
     go Nowhere p =
         let q = stored-good v ok g n t e in
-        absurd (never (header idBytes b .ids) (q .pair) (sym (ap fromStore (located-none g (v .locates) p ok)) ∙ q .is))
+        absurd (never (header width b .ids) (q .pair) (sym (ap fromStore (located-none g (v .locates) p ok)) ∙ q .is))
 
 -- a row that was read
-record RowGood (g : List ℕ) (p n : ℕ) (q : GenThenTime) : Type 0 where
+record RowGood (width : ℕ) (g : List ℕ) (p n : ℕ) (q : GenThenTime) : Type 0 where
   parents : List (Id × ℤ)
-  is : rowAt g p ≡ row parents (q .generation .0) (q .time .0)
+  is : rowAt width g p ≡ row parents (q .generation .0) (q .time .0)
   count : n ≡ length parents
 
-row-good : (w : World) (x : Id) (g : List ℕ) (p n : ℕ) (q : GenThenTime) → Has n q (readRow w x (rowAt g p)) → RowGood g p n q
+row-good : (width : ℕ) (w : World) (x : Id) (g : List ℕ) (p n : ℕ) (q : GenThenTime) → Has n q (readRow w x (rowAt width g p)) → RowGood width g p n q
 unfolding rowAt readRow
-row-good w x g p n q h = go (graphParents idBytes g p) refl (h .is)
+row-good width w x g p n q h = go (graphParents width g p) refl (h .is)
   where
     same-pair : (ps qs : List Id) (a b : Pair) → good ps a ≡ good qs b → (ps ≡ qs) × (a ≡ b)
     same-pair ps qs a b e = (cc, cc)
 
-    go : (o : Option (List ℕ)) → graphParents idBytes g p ≡ o
-        → readRow w x (ifSome o corrupt (λ qs. row (map (parentAt g) qs) (generation idBytes g p) (graphSeconds idBytes g p))) ≡ good (h .parents) (pairOf q) → RowGood g p n q
+    go : (o : Option (List ℕ)) → graphParents width g p ≡ o
+        → readRow w x (ifSome o corrupt (λ qs. row (map (parentAt width g) qs) (generation width g p) (graphSeconds width g p))) ≡ good (h .parents) (pairOf q) → RowGood width g p n q
     go none k e = let z : _≡_ {A = ℕ} 0 1 = cc in absurd (omega arith)
     go (some qs) k e =
-        let i = same-pair (map (λ a. a .0) (map (parentAt g) qs)) (h .parents) (record { generation = generation idBytes g p; time = graphSeconds idBytes g p }) (pairOf q) e in
+        let i = same-pair (map (λ a. a .0) (map (parentAt width g) qs)) (h .parents) (record { generation = generation width g p; time = graphSeconds width g p }) (pairOf q) e in
         record {
-          parents = map (parentAt g) qs;
-          is = rw k (ap (λ (a : Pair). row (map (parentAt g) qs) (a .generation) (a .time)) (i .1));
-          count = h .count ∙ ap length (sym (i .0)) ∙ length-map (map (parentAt g) qs) (λ a. a .0);
+          parents = map (parentAt width g) qs;
+          is = rw k (ap (λ (a : Pair). row (map (parentAt width g) qs) (a .generation) (a .time)) (i .1));
+          count = h .count ∙ ap length (sym (i .0)) ∙ length-map (map (parentAt width g) qs) (λ a. a .0);
         }
 
-module _ {c : Cache} {g s : List ℕ} {x : Id} {d : Commit} (rd : ReadsCommit c g s x d) where
-  module _ (f : Files c g s) where
-    same-world : worldUnder c g s ≡ worldOf s g
-    same-world = ap (λ (a : Cache). worldUnder a g s) (f .cache) ∙ kept-world g s
+module _ {width : ℕ} {c : Cache} {g s : List ℕ} {x : Id} {d : Commit} (rd : ReadsCommit width c g s x d) where
+  module _ (f : Files width c g s) where
+    same-world : worldUnder width c g s ≡ worldOf width s g
+    same-world = ap (λ (a : Cache). worldUnder width a g s) (f .cache) ∙ kept-world width g s
 
-    good-file : GoodCache idBytes c g
-    good-file = subst (λ (a : Cache). GoodCache idBytes a g) (sym (f .cache)) (good-cache g true (f .graph))
+    good-file : GoodCache width c g
+    good-file = subst (λ (a : Cache). GoodCache width a g) (sym (f .cache)) (good-cache width g true (f .graph))
 
-    is-read : (e : Commit) → d ≡ e → IsRead c g s x e
-    is-read e k = subst (IsRead c g s x) k (commit-right rd (f .store) good-file)
+    is-read : (e : Commit) → d ≡ e → IsRead width c g s x e
+    is-read e k = subst (IsRead width c g s x) k (commit-right rd (f .store) good-file)
 
-    told : (e : Commit) → d ≡ e → Tells e (read (worldOf s g) x)
+    told : (e : Commit) → d ≡ e → Tells e (read (worldOf width s g) x)
     told e k = subst (λ (w : World). Tells e (read w x)) same-world (is-read e k .tells)
 
   -- its row
-  module _ (p m : ℕ) (q : GenThenTime) (k : d ≡ RowOf p m q) {l : Layout} (own : l ≡ layoutUnder c) {b : List ℕ} {n : ℕ} {seconds : ℤ} {r : Bool} (cr : ComparesRow g l p m (q .time .0) b n seconds r) where
+  module _ (p m : ℕ) (q : GenThenTime) (k : d ≡ RowOf p m q) {l : Layout} (own : l ≡ layoutUnder c) {b : List ℕ} {n : ℕ} {seconds : ℤ} {r : Bool} (cr : ComparesRow width g l p m (q .time .0) b n seconds r) where
     record RowSays : Type 0 where
-      agrees : agreesIn (worldOf s g) x ≡ r
-      pair : r ≡ true → pairOf q ≡ pairAt (worldOf s g) x
+      agrees : agreesIn (worldOf width s g) x ≡ r
+      pair : r ≡ true → pairOf q ≡ pairAt (worldOf width s g) x
 
-    row-says : Files c g s → GivesBody idBytes s x b → (t : Stamp) → readingOf (header idBytes b) ≡ AsReadable n t → seconds ≡ t .seconds .0 → RowSays
+    row-says : Files width c g s → GivesBody width s x b → (t : Stamp) → readingOf (header width b) ≡ AsReadable n t → seconds ≡ t .seconds .0 → RowSays
     unfolding read agreesIn rowAgrees sameSeconds storeSeconds pairAt rowGeneration secondsFor
     row-says f gb t e same-seconds =
-        let w = worldOf s g in
+        let w = worldOf width s g in
         let nm = is-read f (RowOf p m q) k .names in
-        let rf : RowFound c g s x p = found-row c g s x p (nm .0) (nm .1) (good-file f) (nm .2) in
-        let says : worldOf s g .graph x ≡ rowAt g p = ap (λ (a : World). a .graph x) (sym (same-world f)) ∙ rf .says in
-        let rg : RowGood g p m q = row-good (worldOf s g) x g p m q (subst (λ (a : Row). Has m q (readRow (worldOf s g) x a)) says (told f (RowOf p m q) k)) in
-        let graph-is : worldOf s g .graph x ≡ row (rg .parents) (q .generation .0) (q .time .0) = says ∙ rg .is in
-        let hd : worldOf s g .store x ≡ some (header idBytes b) = stored-header gb (f .store) g n t e in
-        let sec : storeSeconds (worldOf s g) x ≡ some seconds = ap (λ (o : Option Header). ifSome o none (λ h. h .seconds)) hd ∙ header-read (header idBytes b) n t e .seconds ∙ ap some (sym same-seconds) in
-        let ids : links (worldOf s g) x ≡ header idBytes b .ids = stored-links gb (f .store) g n t e in
-        let same : r ≡ (sameIds (map (λ a. a .0) (rg .parents)) (header idBytes b .ids) && sameTime seconds (q .time .0)) = cr .right (own ∙ rf .layout) (rg .parents) (q .generation .0) (q .time .0) (rg .is) (rg .count) t e in
+        let rf : RowFound width c g s x p = found-row width c g s x p (nm .0) (nm .1) (good-file f) (nm .2) in
+        let says : worldOf width s g .graph x ≡ rowAt width g p = ap (λ (a : World). a .graph x) (sym (same-world f)) ∙ rf .says in
+        let rg : RowGood width g p m q = row-good width (worldOf width s g) x g p m q (subst (λ (a : Row). Has m q (readRow (worldOf width s g) x a)) says (told f (RowOf p m q) k)) in
+        let graph-is : worldOf width s g .graph x ≡ row (rg .parents) (q .generation .0) (q .time .0) = says ∙ rg .is in
+        let hd : worldOf width s g .store x ≡ some (header width b) = stored-header gb (f .store) g n t e in
+        let sec : storeSeconds (worldOf width s g) x ≡ some seconds = ap (λ (o : Option Header). ifSome o none (λ h. h .seconds)) hd ∙ header-read (header width b) n t e .seconds ∙ ap some (sym same-seconds) in
+        let ids : links (worldOf width s g) x ≡ header width b .ids = stored-links gb (f .store) g n t e in
+        let same : r ≡ (sameIds (map (λ a. a .0) (rg .parents)) (header width b .ids) && sameTime seconds (q .time .0)) = cr .right (own ∙ rf .layout) (rg .parents) (q .generation .0) (q .time .0) (rg .is) (rg .count) t e in
         record {
-          agrees = ap (λ (a : Row). rowAgrees a (links (worldOf s g) x) (storeSeconds (worldOf s g) x)) graph-is
-              ∙ ap (λ (a : List Id). rowAgrees (row (rg .parents) (q .generation .0) (q .time .0)) a (storeSeconds (worldOf s g) x)) ids
-              ∙ ap (λ (a : Option ℤ). rowAgrees (row (rg .parents) (q .generation .0) (q .time .0)) (header idBytes b .ids) a) sec
+          agrees = ap (λ (a : Row). rowAgrees a (links (worldOf width s g) x) (storeSeconds (worldOf width s g) x)) graph-is
+              ∙ ap (λ (a : List Id). rowAgrees (row (rg .parents) (q .generation .0) (q .time .0)) a (storeSeconds (worldOf width s g) x)) ids
+              ∙ ap (λ (a : Option ℤ). rowAgrees (row (rg .parents) (q .generation .0) (q .time .0)) (header width b .ids) a) sec
               ∙ sym same;
           pair = λ holds′.
-              let st : seconds ≡ q .time .0 = same-time-eq seconds (q .time .0) (and-second (sameIds (map (λ a. a .0) (rg .parents)) (header idBytes b .ids)) (sameTime seconds (q .time .0)) (sym same ∙ holds′)) in
+              let st : seconds ≡ q .time .0 = same-time-eq seconds (q .time .0) (and-second (sameIds (map (λ a. a .0) (rg .parents)) (header width b .ids)) (sameTime seconds (q .time .0)) (sym same ∙ holds′)) in
               λ j. record {
                 generation = sym (ap rowGeneration graph-is) j;
                 time = sym (ap (λ (o : Option ℤ). ifSome o (pos 0) (λ a. a)) sec ∙ st) j;
               };
         }
 
-    pub judge-agrees : r ≡ true → Judges c g s x b n seconds (PairOf p q)
+    pub judge-agrees : r ≡ true → Judges width c g s x b n seconds (PairOf p q)
     judge-agrees holds′ = record { right = λ f gb t e k. let a = row-says f gb t e k in (a .agrees ∙ holds′, a .pair holds′) }
 
-    pub judge-odds : r ≡ false → Judges c g s x b n seconds AtOdds
+    pub judge-odds : r ≡ false → Judges width c g s x b n seconds AtOdds
     judge-odds fails′ = record { right = λ f gb t e k. row-says f gb t e k .agrees ∙ fails′ }
 
   -- its body alone
-  pub judge-body : (a e n : ℕ) (q : GenThenTime) (p : ℕ) {b : List ℕ} {m : ℕ} {seconds : ℤ} → d ≡ BodyOf a e n q → Judges c g s x b m seconds (PairOf p q)
+  pub judge-body : (a e n : ℕ) (q : GenThenTime) (p : ℕ) {b : List ℕ} {m : ℕ} {seconds : ℤ} → d ≡ BodyOf a e n q → Judges width c g s x b m seconds (PairOf p q)
   unfolding read readRow agreesIn rowAgrees storeSeconds pairAt rowGeneration secondsFor
   judge-body a e n q p k = record {
     right = λ f gb m is′ same-seconds.
-        let fb = found-body c g s x a e (f .store) (is-read f (BodyOf a e n q) k .names) in
-        let bare : worldOf s g .graph x ≡ no-row = ap (λ (w : World). w .graph x) (sym (same-world f)) ∙ fb .0 in
-        let hd : worldOf s g .store x ≡ some (header idBytes (partOf s (BodyAt a e))) = ap (λ (w : World). w .store x) (sym (same-world f)) ∙ fb .1 in
+        let fb = found-body width c g s x a e (f .store) (is-read f (BodyOf a e n q) k .names) in
+        let bare : worldOf width s g .graph x ≡ no-row = ap (λ (w : World). w .graph x) (sym (same-world f)) ∙ fb .0 in
+        let hd : worldOf width s g .store x ≡ some (header width (partOf s (BodyAt a e))) = ap (λ (w : World). w .store x) (sym (same-world f)) ∙ fb .1 in
         let t = told f (BodyOf a e n q) k in
-        let is : fromStore (some (header idBytes (partOf s (BodyAt a e)))) ≡ good (t .parents) (pairOf q) =
-        sym (ap (λ (o : Row). readRow (worldOf s g) x o) bare ∙ ap fromStore hd) ∙ t .is in
-        let fs = from-seconds (header idBytes (partOf s (BodyAt a e))) (t .parents) (pairOf q) is in (
-          ap (λ (o : Row). rowAgrees o (links (worldOf s g) x) (storeSeconds (worldOf s g) x)) bare,
+        let is : fromStore (some (header width (partOf s (BodyAt a e)))) ≡ good (t .parents) (pairOf q) =
+        sym (ap (λ (o : Row). readRow (worldOf width s g) x o) bare ∙ ap fromStore hd) ∙ t .is in
+        let fs = from-seconds (header width (partOf s (BodyAt a e))) (t .parents) (pairOf q) is in (
+          ap (λ (o : Row). rowAgrees o (links (worldOf width s g) x) (storeSeconds (worldOf width s g) x)) bare,
           λ j. record {
             generation = sym (ap rowGeneration bare ∙ sym (fs .level)) j;
             time = sym (ap (λ (o : Option Header). ifSome (ifSome o none (λ h. h .seconds)) (pos 0) (λ b. b)) hd ∙ ap (λ (o : Option ℤ). ifSome o (pos 0) (λ b. b)) (fs .seconds)) j;
@@ -307,29 +307,29 @@ module _ {c : Cache} {g s : List ℕ} {x : Id} {d : Commit} (rd : ReadsCommit c 
   }
 
   -- a row with a corrupt list: the commit is readable, so nothing else keeps it from being read
-  pub judge-failed : (n : Refusal) {b : List ℕ} {m : ℕ} {seconds : ℤ} → d ≡ Failed n → Judges c g s x b m seconds AtOdds
+  pub judge-failed : (n : Refusal) {b : List ℕ} {m : ℕ} {seconds : ℤ} → d ≡ Failed n → Judges width c g s x b m seconds AtOdds
   unfolding read readRow agreesIn rowAgrees Readable
-  judge-failed n {m = m} k = record { right = λ f gb t e same-seconds. go f (stored-readable gb (f .store) g m t e) (worldOf s g .graph x) refl }
+  judge-failed n {m = m} k = record { right = λ f gb t e same-seconds. go f (stored-readable gb (f .store) g m t e) (worldOf width s g .graph x) refl }
     where
       fails : (ps : List Id) (p : Pair) → good ps p ≡ fail n → ⊥
       fails ps p e = let z : _≡_ {A = ℕ} 0 1 = cc in absurd (omega arith)
 
-      go : Files c g s → Readable (worldOf s g) x → (o : Row) → worldOf s g .graph x ≡ o → rowAgrees (worldOf s g .graph x) (links (worldOf s g) x) (storeSeconds (worldOf s g) x) ≡ false
-      go f y no-row e = absurd (fails (y .0) (y .1) (sym (y .2) ∙ sym (ap (readRow (worldOf s g) x) e) ∙ told f (Failed n) k))
-      go f y corrupt e = ap (λ (o : Row). rowAgrees o (links (worldOf s g) x) (storeSeconds (worldOf s g) x)) e
-      go f y (row ps v t) e = absurd (fails (map (λ a. a .0) ps) (record { generation = v; time = t }) (sym (ap (readRow (worldOf s g) x) e) ∙ told f (Failed n) k))
+      go : Files width c g s → Readable (worldOf width s g) x → (o : Row) → worldOf width s g .graph x ≡ o → rowAgrees (worldOf width s g .graph x) (links (worldOf width s g) x) (storeSeconds (worldOf width s g) x) ≡ false
+      go f y no-row e = absurd (fails (y .0) (y .1) (sym (y .2) ∙ sym (ap (readRow (worldOf width s g) x) e) ∙ told f (Failed n) k))
+      go f y corrupt e = ap (λ (o : Row). rowAgrees o (links (worldOf width s g) x) (storeSeconds (worldOf width s g) x)) e
+      go f y (row ps v t) e = absurd (fails (map (λ a. a .0) ps) (record { generation = v; time = t }) (sym (ap (readRow (worldOf width s g) x) e) ∙ told f (Failed n) k))
 
 -- without a file no commit has a row, and the body has all
-pub judge-bare : {c : Cache} (g s : List ℕ) (x : Id) (b : List ℕ) (n : ℕ) (seconds : ℤ) (p : ℕ) (q : GenThenTime) → c ≡ NoGraph → q .generation .0 ≡ noGeneration → q .time .0 ≡ seconds
-    → Judges c g s x b n seconds (PairOf p q)
+pub judge-bare : {width : ℕ} {c : Cache} (g s : List ℕ) (x : Id) (b : List ℕ) (n : ℕ) (seconds : ℤ) (p : ℕ) (q : GenThenTime) → c ≡ NoGraph → q .generation .0 ≡ noGeneration → q .time .0 ≡ seconds
+    → Judges width c g s x b n seconds (PairOf p q)
 unfolding worldUnder agreesIn rowAgrees storeSeconds pairAt rowGeneration secondsFor
-judge-bare {c} g s x b n seconds p q k level time = record {
+judge-bare {width} {c} g s x b n seconds p q k level time = record {
   right = λ f gb t e same-seconds.
-      let under : worldUnder NoGraph g s ≡ worldOf s g = ap (λ (a : Cache). worldUnder a g s) (sym k ∙ f .cache) ∙ kept-world g s in
-      let bare : worldOf s g .graph x ≡ no-row = ap (λ (w : World). w .graph x) (sym under) in
-      let hd : worldOf s g .store x ≡ some (header idBytes b) = stored-header gb (f .store) g n t e in
-      let sec : storeSeconds (worldOf s g) x ≡ some (q .time .0) = ap (λ (o : Option Header). ifSome o none (λ h. h .seconds)) hd ∙ header-read (header idBytes b) n t e .seconds ∙ ap some (sym same-seconds ∙ sym time) in (
-        ap (λ (o : Row). rowAgrees o (links (worldOf s g) x) (storeSeconds (worldOf s g) x)) bare,
+      let under : worldUnder width NoGraph g s ≡ worldOf width s g = ap (λ (a : Cache). worldUnder width a g s) (sym k ∙ f .cache) ∙ kept-world width g s in
+      let bare : worldOf width s g .graph x ≡ no-row = ap (λ (w : World). w .graph x) (sym under) in
+      let hd : worldOf width s g .store x ≡ some (header width b) = stored-header gb (f .store) g n t e in
+      let sec : storeSeconds (worldOf width s g) x ≡ some (q .time .0) = ap (λ (o : Option Header). ifSome o none (λ h. h .seconds)) hd ∙ header-read (header width b) n t e .seconds ∙ ap some (sym same-seconds ∙ sym time) in (
+        ap (λ (o : Row). rowAgrees o (links (worldOf width s g) x) (storeSeconds (worldOf width s g) x)) bare,
         λ j. record {
           generation = sym (ap rowGeneration bare ∙ sym level) j;
           time = sym (ap (λ (o : Option ℤ). ifSome o (pos 0) (λ a. a)) sec) j;

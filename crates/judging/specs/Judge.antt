@@ -5,7 +5,7 @@ use mathlib.Core.Bool.{Bool, true, false, _&&_, _||_}
 use mathlib.Core.List.{List, map}
 use lib.ListN.{length}
 use lib.IntN.{ℤ}
-use Rattle.hash.specs.Bytes.{Id, idBytes}
+use Rattle.hash.specs.Bytes.{Id}
 use Rattle.date.specs.declared.Stamp.{Stamp}
 use Rattle.object.specs.Header.{header}
 use Rattle.object.specs.Read.{readingOf}
@@ -24,20 +24,20 @@ use Rattle.judging.specs.declared.Judged.{Judged}
 use Rattle.judging.specs.declared.Judged.the-variants.{Pair as PairOf, AtOdds}
 
 -- the files as an opening lends them: 4 to 6 do not apply, and the graph file is used
-pub record Files (c : Cache) (g s : List ℕ) : Type 0 where
-  pub cache : c ≡ cacheOf g true
-  pub store : storeOk idBytes s ≡ true
-  pub graph : (isEmpty g || graphOk idBytes g) ≡ true
+pub record Files (width : ℕ) (c : Cache) (g s : List ℕ) : Type 0 where
+  pub cache : c ≡ cacheOf width g true
+  pub store : storeOk width s ≡ true
+  pub graph : (isEmpty g || graphOk width g) ≡ true
 
 -- what `same_parents` answers of the row at position p with n parents, and of a body with as many
-pub record ComparesParents (g : List ℕ) (l : Layout) (p : ℕ) (b : List ℕ) (n : ℕ) (r : Bool) : Type 0 where
-  pub right : l ≡ layoutOf idBytes g → (ps : List (Id × ℤ)) (v : ℕ) (t : ℤ) → rowAt g p ≡ row ps v t → n ≡ length ps
-      → header idBytes b .tree ≡ true → n ≡ length (header idBytes b .ids) → r ≡ sameIds (map (λ q. q .0) ps) (header idBytes b .ids)
+pub record ComparesParents (width : ℕ) (g : List ℕ) (l : Layout) (p : ℕ) (b : List ℕ) (n : ℕ) (r : Bool) : Type 0 where
+  pub right : l ≡ layoutOf width g → (ps : List (Id × ℤ)) (v : ℕ) (t : ℤ) → rowAt width g p ≡ row ps v t → n ≡ length ps
+      → header width b .tree ≡ true → n ≡ length (header width b .ids) → r ≡ sameIds (map (λ q. q .0) ps) (header width b .ids)
 
 -- what `row_agrees` answers of the row at position p with m parents, and of a readable body with n parents and these seconds
-pub record ComparesRow (g : List ℕ) (l : Layout) (p m : ℕ) (time : ℤ) (b : List ℕ) (n : ℕ) (seconds : ℤ) (r : Bool) : Type 0 where
-  pub right : l ≡ layoutOf idBytes g → (ps : List (Id × ℤ)) (v : ℕ) (t : ℤ) → rowAt g p ≡ row ps v t → m ≡ length ps
-      → (stamp : Stamp) → readingOf (header idBytes b) ≡ AsReadable n stamp → r ≡ (sameIds (map (λ q. q .0) ps) (header idBytes b .ids) && sameTime seconds time)
+pub record ComparesRow (width : ℕ) (g : List ℕ) (l : Layout) (p m : ℕ) (time : ℤ) (b : List ℕ) (n : ℕ) (seconds : ℤ) (r : Bool) : Type 0 where
+  pub right : l ≡ layoutOf width g → (ps : List (Id × ℤ)) (v : ℕ) (t : ℤ) → rowAt width g p ≡ row ps v t → m ≡ length ps
+      → (stamp : Stamp) → readingOf (header width b) ≡ AsReadable n stamp → r ≡ (sameIds (map (λ q. q .0) ps) (header width b .ids) && sameTime seconds time)
 
 -- by the answer: the graph agrees and this is the pair, or it does not
 abbrev pub ToldJudged : World → Id → Judged → Type 0
@@ -45,5 +45,5 @@ ToldJudged w x (PairOf p q) = (agreesIn w x ≡ true) × (pairOf q ≡ pairAt w 
 ToldJudged w x AtOdds = agreesIn w x ≡ false
 
 -- what `judge` answers of the commit x, whose body b is readable with n parents and these seconds
-pub record Judges (c : Cache) (g s : List ℕ) (x : Id) (b : List ℕ) (n : ℕ) (seconds : ℤ) (r : Judged) : Type 0 where
-  pub right : Files c g s → GivesBody idBytes s x b → (t : Stamp) → readingOf (header idBytes b) ≡ AsReadable n t → seconds ≡ t .seconds .0 → ToldJudged (worldOf s g) x r
+pub record Judges (width : ℕ) (c : Cache) (g s : List ℕ) (x : Id) (b : List ℕ) (n : ℕ) (seconds : ℤ) (r : Judged) : Type 0 where
+  pub right : Files width c g s → GivesBody width s x b → (t : Stamp) → readingOf (header width b) ≡ AsReadable n t → seconds ≡ t .seconds .0 → ToldJudged (worldOf width s g) x r

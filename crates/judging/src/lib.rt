@@ -11,6 +11,7 @@ use walk::GenThenTime;
 ghost use mathlib.Core.Path.{_≡_};
 ghost use Rattle.reach.specs.Tested.{sameTime};
 ghost use Rattle.judging.specs.Judge.{ComparesParents, ComparesRow, Judges};
+ghost use Rattle.hash.specs.Bytes.{widthOf};
 
 // What a commit comes to, where the file agrees: its pair, and the position of its row.
 pub enum Judged {
@@ -29,15 +30,15 @@ fn same_time(a: Seconds, b: Seconds) -> bool
 }
 
 // Whether the first n parents of a row are those of a body, in order.
-fn same_parents(graph: &[u8], l: Layout, position: usize, body: &[u8], n: usize) -> bool
-    ensures { λ r. ⌜ ComparesParents (now (graph .entry)) l position (now (body .entry)) n r ⌝ }
+fn same_parents(kind: Kind, graph: &[u8], l: Layout, position: usize, body: &[u8], n: usize) -> bool
+    ensures { λ r. ⌜ ComparesParents (widthOf kind) (now (graph .entry)) l position (now (body .entry)) n r ⌝ }
 {
     let mut k = 0;
     while k < n {
-        let id = reading::body_parent(body, k);
+        let id = reading::body_parent(kind, body, k);
         if !hash::same(
-            reading::row_parent(graph, l, position, k),
-            object::id_slice(Kind::Sha1, &id.bytes),
+            reading::row_parent(kind, graph, l, position, k),
+            object::id_slice(kind, &id.bytes),
         ) {
             return false;
         }
@@ -48,6 +49,7 @@ fn same_parents(graph: &[u8], l: Layout, position: usize, body: &[u8], n: usize)
 
 // Whether a row with so many parents and this time agrees with a body that has n parents and these seconds.
 fn row_agrees(
+    kind: Kind,
     graph: &[u8],
     l: Layout,
     position: usize,
@@ -57,7 +59,7 @@ fn row_agrees(
     n: usize,
     seconds: Seconds,
 ) -> bool
-    ensures { λ r. ⌜ ComparesRow (now (graph .entry)) l position parents (time .0) (now (body .entry)) n (seconds .0) r ⌝ }
+    ensures { λ r. ⌜ ComparesRow (widthOf kind) (now (graph .entry)) l position parents (time .0) (now (body .entry)) n (seconds .0) r ⌝ }
 {
     if n != parents {
         return false;
@@ -65,12 +67,13 @@ fn row_agrees(
     if !same_time(seconds, time) {
         return false;
     }
-    same_parents(graph, l, position, body, n)
+    same_parents(kind, graph, l, position, body, n)
 }
 
 // A commit by its row, else by its body alone. (A commit that is readable in the store and cannot be read has a row with a corrupt list.) The
 // row may stand at position near, and the body under that entry.
 fn judge_row(
+    kind: Kind,
     cache: Cache,
     graph: &[u8],
     store: &[u8],
@@ -80,16 +83,26 @@ fn judge_row(
     n: usize,
     seconds: Seconds,
 ) -> Judged
-    ensures { λ r. ⌜ Judges cache (now (graph .entry)) (now (store .entry)) (now (id .entry)) (now (body .entry)) n (seconds .0) r ⌝ }
+    ensures { λ r. ⌜ Judges (widthOf kind) cache (now (graph .entry)) (now (store .entry)) (now (id .entry)) (now (body .entry)) n (seconds .0) r ⌝ }
 {
-    match reading::read_commit(cache, graph, store, id, near) {
+    match reading::read_commit(kind, cache, graph, store, id, near) {
         Commit::Row {
             position,
             parents,
             pair,
         } => {
             let l = reading::layout_of(cache);
-            if row_agrees(graph, l, position, parents, pair.time, body, n, seconds) {
+            if row_agrees(
+                kind,
+                graph,
+                l,
+                position,
+                parents,
+                pair.time,
+                body,
+                n,
+                seconds,
+            ) {
                 return Judged::Pair { position, pair };
             }
             Judged::AtOdds
@@ -104,6 +117,7 @@ fn judge_row(
 
 // A commit whose body has n parents and these seconds. Without a file there is nothing to agree with, and nothing more to read.
 pub fn judge(
+    kind: Kind,
     cache: Cache,
     graph: &[u8],
     store: &[u8],
@@ -113,10 +127,10 @@ pub fn judge(
     n: usize,
     seconds: Seconds,
 ) -> Judged
-    ensures { λ r. ⌜ Judges cache (now (graph .entry)) (now (store .entry)) (now (id .entry)) (now (body .entry)) n (seconds .0) r ⌝ }
+    ensures { λ r. ⌜ Judges (widthOf kind) cache (now (graph .entry)) (now (store .entry)) (now (id .entry)) (now (body .entry)) n (seconds .0) r ⌝ }
 {
     match cache {
-        Cache::Graph(_) => judge_row(cache, graph, store, id, near, body, n, seconds),
+        Cache::Graph(_) => judge_row(kind, cache, graph, store, id, near, body, n, seconds),
         Cache::NoGraph => Judged::Pair {
             position: reading::NOWHERE,
             pair: GenThenTime {

@@ -61,7 +61,7 @@ fn line_place(kind: Kind, j: usize) -> usize
     requires { ⌜ j ≤ 256 ⌝ }
     ensures { λ r. ⌜ r ≡ treeSize (widthOf kind) + parentSize (widthOf kind) * j ⌝ }
 {
-    2 * hash::width(kind) + 6 + object::parent_size(kind) * j
+    object::tree_size(kind) + object::parent_size(kind) * j
 }
 
 // Entry k has a parent line j, where it has those before: it stands at its place. (Past the count a message may look like one. No count is ever

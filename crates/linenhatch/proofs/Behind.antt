@@ -11,7 +11,8 @@ use lib.Seq.{take-append-le, take-all}
 use lib.Dec.{leb, ltb}
 use lib.IntN.{ℤ}
 use borrow.Author.Tests.{leb-true, ne-eqb}
-use Rattle.hash.specs.Bytes.{Id, idBytes}
+use Rattle.hash.specs.Bytes.{Id, widthOf}
+use Rattle.object.specs.Ids.{idIn}
 use Rattle.hash.proofs.Bytes.{setDown-fits}
 use Rattle.hash.proofs.Tests.{and-first, and-second}
 use Rattle.walk.specs.declared.Outcome.{Outcome}
@@ -30,22 +31,22 @@ use Rattle.linenhatch.specs.Listing.{LibraryCall, LibraryCalls, idSeen, 
 -- ---- the walk's calls
 
 -- the call d of the walk stands behind the call c of the library
-pub record Behind (c : LibraryCall) (d : Call) : Type 0 where
+pub record Behind (width : ℕ) (c : LibraryCall) (d : Call) : Type 0 where
   pub same-lent : d .lent ≡ c .lent
   pub same-left : d .left ≡ c .left
-  pub put : PutsAnswer (d .out .answer) (c .id) (c .id′) (c .numbers) (c .numbers′) (c .seconds) (c .seconds′) (c .result)
+  pub put : PutsAnswer width (d .out .answer) (c .id) (c .id′) (c .numbers) (c .numbers′) (c .seconds) (c .seconds′) (c .result)
   pub words-are : c .words′ ≡ wordsAfter (c .result) (d .out .record) (c .words)
-  pub room : roomToCall (c .words) (c .id) (c .numbers) (c .seconds) ≡ true
+  pub room : roomToCall width (c .words) (c .id) (c .numbers) (c .seconds) ≡ true
 
-pub data Paired : List LibraryCall → List Call → Type 0 where
-  no-pair : Paired [] []
-  pair : {c : LibraryCall} {d : Call} {cs : List LibraryCall} {ds : List Call} → Behind c d → Paired cs ds → Paired (c ∷ cs) (d ∷ ds)
+pub data Paired (width : ℕ) : List LibraryCall → List Call → Type 0 where
+  no-pair : Paired width [] []
+  pair : {c : LibraryCall} {d : Call} {cs : List LibraryCall} {ds : List Call} → Behind width c d → Paired width cs ds → Paired width (c ∷ cs) (d ∷ ds)
 
 -- the calls of the walk behind a list of calls
 pub record All (f : Files) (r : Record) (m : Lent) (cs : List LibraryCall) : Type 0 where
   pub list : List Call
   pub calls : Calls f r m list
-  pub paired : Paired cs list
+  pub paired : Paired (widthOf (f .settings .kind)) cs list
 
 pub behind-all : {f : Files} {w : List ℕ} {m : Lent} {cs : List LibraryCall} → LibraryCalls f w m cs → All f (recordOf w) m cs
 behind-all library.no-more-calls = record { list = []; calls = no-more-calls; paired = no-pair }
@@ -61,24 +62,24 @@ behind-all {f} {w} {m} (library.call {c = c} room same untouched kept rest) =
       paired = pair (record { same-lent = refl; same-left = refl; put = made .answer; words-are = made .words-are; room = room }) (more .paired);
     }
 
-pub each : {cs : List LibraryCall} {ds : List Call} → Paired cs ds → (k : ℕ) (c : LibraryCall) → CallIs cs k c → (d : Call) × CallIs ds k d × Behind c d
+pub each : {width : ℕ} {cs : List LibraryCall} {ds : List Call} → Paired width cs ds → (k : ℕ) (c : LibraryCall) → CallIs cs k c → (d : Call) × CallIs ds k d × Behind width c d
 each (pair {d = d} b p) zero c here = (d, here, b)
 each (pair b p) (suc k) c (after q) = let x = each p k c q in (x .0, after (x .1), x .2)
 
-pub as-many : {cs : List LibraryCall} {ds : List Call} → Paired cs ds → length cs ≡ length ds
+pub as-many : {width : ℕ} {cs : List LibraryCall} {ds : List Call} → Paired width cs ds → length cs ≡ length ds
 as-many no-pair = refl
 as-many (pair b p) = ap suc (as-many p)
 
 -- ---- room for an answer
 
-module _ (words id numbers : List ℕ) (seconds : List ℤ) (h : roomToCall words id numbers seconds ≡ true) where
+module _ (width : ℕ) (words id numbers : List ℕ) (seconds : List ℤ) (h : roomToCall width words id numbers seconds ≡ true) where
   abbrev tests : Bool
-  tests = leb recordWords (length words) && leb idBytes (length id)
+  tests = leb recordWords (length words) && leb width (length id)
 
-  long-id : idBytes ≤ length id
+  long-id : width ≤ length id
   unfolding roomToCall
   long-id =
-      leb-true idBytes (length id) (and-second (leb recordWords (length words)) (leb idBytes (length id)) (and-first tests (leb 8 (length numbers)) (and-first (tests && leb 8 (length numbers)) (leb 2 (length seconds)) h)))
+      leb-true width (length id) (and-second (leb recordWords (length words)) (leb width (length id)) (and-first tests (leb 8 (length numbers)) (and-first (tests && leb 8 (length numbers)) (leb 2 (length seconds)) h)))
 
   long-numbers : 8 ≤ length numbers
   unfolding roomToCall
@@ -87,39 +88,40 @@ module _ (words id numbers : List ℕ) (seconds : List ℤ) (h : roomToCall word
 -- ---- what the caller reads
 
 -- the answer a, in the buffers of the call c
-pub record Sees (c : LibraryCall) (a : Given) : Type 0 where
+pub record Sees (width : ℕ) (c : LibraryCall) (a : Given) : Type 0 where
   pub result : c .result ≡ outcomeNumber (a .outcome)
-  pub id : idSeen c ≡ a .info .id
+  pub id : idSeen width c ≡ idIn width (a .info .id)
   pub admitted : admittedSeen c ≡ a .admitted
   pub struck : struckSeen c ≡ a .struck
   pub waiting : waitingSeen c ≡ a .waiting
 
-pub sees : {c : LibraryCall} {d : Call} → Behind c d → length (d .out .answer .info .id) ≡ idBytes → Sees c (d .out .answer)
+pub sees : {width : ℕ} {c : LibraryCall} {d : Call} → Behind width c d → length (idIn width (d .out .answer .info .id)) ≡ width → Sees width c (d .out .answer)
 unfolding answerWords
-sees {c} {d} b e =
+sees {width} {c} {d} b e =
     let a = d .out .answer in
-    let i = long-id (c .words) (c .id) (c .numbers) (c .seconds) (b .room) in
-    let n = long-numbers (c .words) (c .id) (c .numbers) (c .seconds) (b .room) in
-    let x = b .put .id-is ∙ setDown-fits (c .id) 0 (a .info .id) (omega arith) in
+    let y : Id = idIn width (a .info .id) in
+    let i = long-id width (c .words) (c .id) (c .numbers) (c .seconds) (b .room) in
+    let n = long-numbers width (c .words) (c .id) (c .numbers) (c .seconds) (b .room) in
+    let x = b .put .id-is ∙ setDown-fits (c .id) 0 y (omega arith) in
     let w = b .put .numbers-are ∙ setDown-fits (c .numbers) 0 (answerWords a) (omega arith) in
     record {
       result = b .put .result;
-      id = ap (take idBytes) x ∙ take-append-le idBytes (a .info .id) (drop (0 + length (a .info .id)) (c .id)) (omega arith) ∙ take-all idBytes (a .info .id) (omega arith);
+      id = ap (take width) x ∙ take-append-le width y (drop (0 + length y) (c .id)) (omega arith) ∙ take-all width y (omega arith);
       admitted = ap (λ (l : List ℕ). getD l 0 0) w;
       struck = ap (λ (l : List ℕ). getD l 1 0) w;
       waiting = ap (λ (l : List ℕ). getD l 2 0) w;
     }
 
-pub data AllSee : List LibraryCall → List Given → Type 0 where
-  none-seen : AllSee [] []
-  seen : {c : LibraryCall} {a : Given} {cs : List LibraryCall} {as′ : List Given} → Sees c a → AllSee cs as′ → AllSee (c ∷ cs) (a ∷ as′)
+pub data AllSee (width : ℕ) : List LibraryCall → List Given → Type 0 where
+  none-seen : AllSee width [] []
+  seen : {c : LibraryCall} {a : Given} {cs : List LibraryCall} {as′ : List Given} → Sees width c a → AllSee width cs as′ → AllSee width (c ∷ cs) (a ∷ as′)
 
-pub all-see : {cs : List LibraryCall} {ds : List Call} → Paired cs ds → ((k : ℕ) (d : Call) → CallIs ds k d → length (d .out .answer .info .id) ≡ idBytes) → AllSee cs (answersOf ds)
+pub all-see : {width : ℕ} {cs : List LibraryCall} {ds : List Call} → Paired width cs ds → ((k : ℕ) (d : Call) → CallIs ds k d → length (idIn width (d .out .answer .info .id)) ≡ width) → AllSee width cs (answersOf ds)
 unfolding answersOf
 all-see no-pair h = none-seen
 all-see (pair {d = d} b p) h = seen (sees b (h zero d here)) (all-see p (λ k e q. h (suc k) e (after q)))
 
-pub take-see : (n : ℕ) {cs : List LibraryCall} {as′ : List Given} → AllSee cs as′ → AllSee (take n cs) (take n as′)
+pub take-see : {width : ℕ} (n : ℕ) {cs : List LibraryCall} {as′ : List Given} → AllSee width cs as′ → AllSee width (take n cs) (take n as′)
 take-see zero s = none-seen
 take-see (suc n) none-seen = none-seen
 take-see (suc n) (seen s p) = seen s (take-see n p)
@@ -138,12 +140,12 @@ one-if Commit left = refl
 one-if End left = refl
 one-if (Refused r) left = simp (ne-eqb (numberOf r) 0 (λ e. omega (arith, refusal-number-between r)), ne-eqb (numberOf r) 100 (λ e. omega (arith, refusal-number-between r)))
 
-pub ids-same : {cs : List LibraryCall} {as′ : List Given} → AllSee cs as′ → idsSeen cs ≡ handedOut as′
+pub ids-same : {width : ℕ} {cs : List LibraryCall} {as′ : List Given} → AllSee width cs as′ → idsSeen width cs ≡ handedOut width as′
 unfolding idsSeen handedOut
 ids-same none-seen = refl
-ids-same (seen {c = c} {a = a} s p) = λ k. (ap (λ (n : ℕ). idIfCommit n (idSeen c)) (s .result) ∙ id-if (a .outcome) (idSeen c) ∙ ap (idIf (a .outcome)) (s .id)) k ++ ids-same p k
+ids-same {width} (seen {c = c} {a = a} s p) = λ k. (ap (λ (n : ℕ). idIfCommit n (idSeen width c)) (s .result) ∙ id-if (a .outcome) (idSeen width c) ∙ ap (idIf (a .outcome)) (s .id)) k ++ ids-same p k
 
-pub refused-same : {cs : List LibraryCall} {as′ : List Given} → AllSee cs as′ → refusedSeen cs ≡ refusedCommits as′
+pub refused-same : {width : ℕ} {cs : List LibraryCall} {as′ : List Given} → AllSee width cs as′ → refusedSeen cs ≡ refusedCommits as′
 unfolding refusedSeen refusedCommits
 refused-same none-seen = refl
 refused-same (seen {c = c} {a = a} s p) = λ k.

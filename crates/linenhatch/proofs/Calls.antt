@@ -8,7 +8,7 @@ use lib.ListN.{length}
 use lib.Dec.{eqb, leb}
 use lib.IntN.{ℤ}
 use borrow.Author.Tests.{leb-true, eqb-true}
-use Rattle.hash.specs.Bytes.{idBytes}
+use Rattle.hash.specs.Bytes.{widthOf}
 use Rattle.hash.proofs.Tests.{byCases, clash, and-first}
 use Rattle.walk.specs.declared.Refusal.the-variants.{Closed}
 use Rattle.walk.specs.declared.Outcome.the-variants.{Refused}
@@ -20,15 +20,15 @@ use Rattle.wire.specs.Words.{recordWords, recordOf, roomToCall, PutsRecord}
 use Rattle.wire.specs.Numbers.{PutsAnswer}
 use Rattle.linenhatch.specs.Library.{noRoom, Made, LibraryNext}
 
-long-words : (words id numbers : List ℕ) (seconds : List ℤ) → roomToCall words id numbers seconds ≡ true → recordWords ≤ length words
+long-words : (width : ℕ) (words id numbers : List ℕ) (seconds : List ℤ) → roomToCall width words id numbers seconds ≡ true → recordWords ≤ length words
 unfolding roomToCall
-long-words words id numbers seconds h =
+long-words width words id numbers seconds h =
     let a = leb recordWords (length words) in
-    let b = leb idBytes (length id) in
+    let b = leb width (length id) in
     let d = leb 8 (length numbers) in
     leb-true recordWords (length words) (and-first a b (and-first (a && b) d (and-first (a && b && d) (leb 2 (length seconds)) h)))
 
-pub no-room-says : (f : Files) (m : Lent) (words id numbers : List ℕ) (seconds : List ℤ) {b : Bool} → b ≡ roomToCall words id numbers seconds → b ≡ false
+pub no-room-says : (f : Files) (m : Lent) (words id numbers : List ℕ) (seconds : List ℤ) {b : Bool} → b ≡ roomToCall (widthOf (f .settings .kind)) words id numbers seconds → b ≡ false
     → LibraryNext f m m words words id id numbers numbers seconds seconds noRoom
 no-room-says f m words id numbers seconds r h = record {
   no-room = λ g. (refl, record { same-memory = refl; same-words = refl; same-id = refl; same-numbers = refl; same-seconds = refl });
@@ -37,7 +37,7 @@ no-room-says f m words id numbers seconds r h = record {
 
 -- the record that the words stand for after the call is the one that it gave back
 given-back : {f : Files} {m m′ : Lent} {words words′ id id′ numbers numbers′ : List ℕ} {seconds seconds′ : List ℤ} {n : ℕ} {o : Out} → recordWords ≤ length words → NextSays f (recordOf words) m o m′
-    → PutsAnswer (o .answer) id id′ numbers numbers′ seconds seconds′ n → PutsRecord n (o .record) words words′ → recordOf words′ ≡ o .record
+    → PutsAnswer (widthOf (f .settings .kind)) (o .answer) id id′ numbers numbers′ seconds seconds′ n → PutsRecord n (o .record) words words′ → recordOf words′ ≡ o .record
 given-back {words = words} {n = n} {o = o} l s a w =
     byCases (eqb n 12)
     (λ t.
@@ -47,17 +47,23 @@ given-back {words = words} {n = n} {o = o} l s a w =
     (λ t. w .back t l)
 
 made-as : {f : Files} {m m′ : Lent} {words words′ id id′ numbers numbers′ : List ℕ} {seconds seconds′ : List ℤ} {n : ℕ} {o : Out} → recordWords ≤ length words → NextSays f (recordOf words) m o m′
-    → PutsAnswer (o .answer) id id′ numbers numbers′ seconds seconds′ n → PutsRecord n (o .record) words words′
+    → PutsAnswer (widthOf (f .settings .kind)) (o .answer) id id′ numbers numbers′ seconds seconds′ n → PutsRecord n (o .record) words words′
     → Made f m m′ words words′ id id′ numbers numbers′ seconds seconds′ n
 made-as {o = o} l s a w = record { out = o; says = s; answer = a; words-are = w .is; record-is = given-back l s a w }
 
--- the call was lent the files f, which are g, and the record r, which the words stand for
-pub made-says : {f g : Files} {r : Record} {m m′ : Lent} {words words′ id id′ numbers numbers′ : List ℕ} {seconds seconds′ : List ℤ} {n : ℕ} {o : Out} {b : Bool} → f ≡ g → r ≡ recordOf words
-    → b ≡ roomToCall words id numbers seconds → b ≡ true → NextSays f r m o m′ → PutsAnswer (o .answer) id id′ numbers numbers′ seconds seconds′ n → PutsRecord n (o .record) words words′
-    → LibraryNext g m m′ words words′ id id′ numbers numbers′ seconds seconds′ n
-made-says {f = f} {m = m} {m′ = m′} {words = words} {id = id} {numbers = numbers} {seconds = seconds} {o = o} e d q t s a w = record {
+-- the call was lent the record r, which the words stand for
+pub made-says : {f : Files} {r : Record} {m m′ : Lent} {words words′ id id′ numbers numbers′ : List ℕ} {seconds seconds′ : List ℤ} {n : ℕ} {o : Out} {b : Bool} → r ≡ recordOf words
+    → b ≡ roomToCall (widthOf (f .settings .kind)) words id numbers seconds → b ≡ true → NextSays f r m o m′ → PutsAnswer (widthOf (f .settings .kind)) (o .answer) id id′ numbers numbers′ seconds seconds′ n → PutsRecord n (o .record) words words′
+    → LibraryNext f m m′ words words′ id id′ numbers numbers′ seconds seconds′ n
+made-says {f = f} {m = m} {m′ = m′} {words = words} {id = id} {numbers = numbers} {seconds = seconds} {o = o} d q t s a w = record {
   no-room = λ g. clash t (q ∙ g);
   made = λ g.
-      made-as (long-words words id numbers seconds g)
-      (subst (λ (x : Files). NextSays x (recordOf words) m o m′) e (subst (λ (y : Record). NextSays f y m o m′) d s)) a w;
+      made-as (long-words (widthOf (f .settings .kind)) words id numbers seconds g)
+      (subst (λ (y : Record). NextSays f y m o m′) d s) a w;
 }
+
+-- files, lists and settings that are the same
+pub next-of : {f f′ : Files} {m m′ : Lent} {words words′ id id′ numbers numbers′ : List ℕ} {seconds seconds′ : List ℤ} {n : ℕ} → f ≡ f′
+    → LibraryNext f m m′ words words′ id id′ numbers numbers′ seconds seconds′ n → LibraryNext f′ m m′ words words′ id id′ numbers numbers′ seconds seconds′ n
+next-of {m = m} {m′ = m′} {words = words} {words′ = words′} {id = id} {id′ = id′} {numbers = numbers} {numbers′ = numbers′} {seconds = seconds} {seconds′ = seconds′} {n = n} =
+    subst (λ (y : Files). LibraryNext y m m′ words words′ id id′ numbers numbers′ seconds seconds′ n)

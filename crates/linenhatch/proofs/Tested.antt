@@ -4,7 +4,7 @@ use mathlib.Core.Path.{_≡_, refl, sym, _∙_, ap, subst}
 use Prim.Native.Nat.{ℕ}
 use mathlib.Core.Bool.{true}
 use mathlib.Core.List.{List}
-use Rattle.hash.specs.Bytes.{setDown}
+use Rattle.hash.specs.Bytes.{widthOf, setDown}
 use Rattle.hash.proofs.Tests.{byCases, clash}
 use Rattle.walk.specs.declared.Refusal.{Refusal}
 use Rattle.walk.specs.declared.OpenOutcome.{OpenOutcome}
@@ -45,7 +45,7 @@ module _ {i : Input} {m m′ : Lent} {words words′ numbers numbers′ : List �
         record-is = t .record-is;
       }
 
-  shut : (r : Refusal) → n ≡ numberOf r → (f : Files) (cs : List LibraryCall) → LibraryCalls f words′ m′ cs → (k : ℕ) (c : LibraryCall) → CallIs cs k c → LibraryShut c
+  shut : (r : Refusal) → n ≡ numberOf r → (f : Files) (cs : List LibraryCall) → LibraryCalls f words′ m′ cs → (k : ℕ) (c : LibraryCall) → CallIs cs k c → LibraryShut (widthOf (f .settings .kind)) c
   shut r e f cs h k c p =
       let x = each (behind-all h .paired) k c p in
       let calls = subst (λ (q : Record). Calls f q m′ (behind-all h .list)) (t .record-is) (behind-all h .calls) in

@@ -6,7 +6,8 @@ use mathlib.Core.Bool.{true, false}
 use mathlib.Core.List.{List, [], _∷_}
 use lib.ListN.{length}
 use lib.IntN.{ℤ}
-use Rattle.hash.specs.Bytes.{setDown}
+use Rattle.hash.specs.Bytes.{widthOf, setDown}
+use Rattle.hash.specs.declared.Kind.{Kind}
 use Rattle.walk.specs.declared.OpenAnswer.{OpenAnswer}
 use Rattle.walk.specs.Opening.{Input, roomFor, openWalk}
 use Rattle.walk.specs.Given.{openNumber, openGiven}
@@ -74,7 +75,7 @@ pub record LibraryOpensTested (i : Input) (m m′ : Lent) (words words′ number
 pub record Made (f : Files) (m m′ : Lent) (words words′ id id′ numbers numbers′ : List ℕ) (seconds seconds′ : List ℤ) (n : ℕ) : Type 0 where
   pub out : Out
   pub says : NextSays f (recordOf words) m out m′
-  pub answer : PutsAnswer (out .answer) id id′ numbers numbers′ seconds seconds′ n
+  pub answer : PutsAnswer (widthOf (f .settings .kind)) (out .answer) id id′ numbers numbers′ seconds seconds′ n
   pub words-are : words′ ≡ wordsAfter n (out .record) words
   pub record-is : recordOf words′ ≡ out .record
 
@@ -89,13 +90,13 @@ pub record AsLent (m m′ : Lent) (words words′ id id′ numbers numbers′ : 
 -- linenhatch_next, with its result n. Where the record or the answer has no room that is said before all else, by a number that no call's
 -- outcome has: no call is made, and nothing is altered
 pub record LibraryNext (f : Files) (m m′ : Lent) (words words′ id id′ numbers numbers′ : List ℕ) (seconds seconds′ : List ℤ) (n : ℕ) : Type 0 where
-  pub no-room : roomToCall words id numbers seconds ≡ false → (n ≡ noRoom) × AsLent m m′ words words′ id id′ numbers numbers′ seconds seconds′
-  pub made : roomToCall words id numbers seconds ≡ true → Made f m m′ words words′ id id′ numbers numbers′ seconds seconds′ n
+  pub no-room : roomToCall (widthOf (f .settings .kind)) words id numbers seconds ≡ false → (n ≡ noRoom) × AsLent m m′ words words′ id id′ numbers numbers′ seconds seconds′
+  pub made : roomToCall (widthOf (f .settings .kind)) words id numbers seconds ≡ true → Made f m m′ words words′ id id′ numbers numbers′ seconds seconds′ n
 
 -- ---- the check of names
 
 -- linenhatch_check_names, with its result n. Where there is no room for a number that is said before all else, and nothing is altered
-pub record LibraryChecks (store graph numbers numbers′ : List ℕ) (n : ℕ) : Type 0 where
+pub record LibraryChecks (kind : Kind) (store graph numbers numbers′ : List ℕ) (n : ℕ) : Type 0 where
   pub no-room : length numbers ≡ 0 → (n ≡ noRoom) × (numbers′ ≡ numbers)
-  pub result : (length numbers ≡ 0 → ⊥) → n ≡ checkedNumber (checkNames store graph .outcome)
-  pub numbers-are : (length numbers ≡ 0 → ⊥) → numbers′ ≡ setDown numbers 0 (checkNames store graph .entry ∷ [])
+  pub result : (length numbers ≡ 0 → ⊥) → n ≡ checkedNumber (checkNames kind store graph .outcome)
+  pub numbers-are : (length numbers ≡ 0 → ⊥) → numbers′ ≡ setDown numbers 0 (checkNames kind store graph .entry ∷ [])

@@ -1,8 +1,10 @@
 // The walk for callers in C and Rust: every parameter is a number or a slice (a pointer and a length), and the walk's record stands as
-// words in lent memory. bindings/c/linenhatch.h declares the functions for C. Each is total on any bytes, numbers and lengths.
+// words in lent memory. bindings/c/linenhatch.h declares the functions for C. Each is total on any bytes, numbers and lengths. width is that of ids: 32
+// is SHA-256, any other number SHA-1.
 ghost use Prim.Native.Nat.{ℕ};
 ghost use mathlib.Core.Path.{_≡_};
 ghost use mathlib.Core.List.{List};
+ghost use Rattle.hash.specs.Bytes.{widthOf};
 ghost use Rattle.walk.specs.declared.Settings.{Settings};
 ghost use Rattle.walk.specs.Opening.{P};
 ghost use lib.ListN.{length};
@@ -12,9 +14,10 @@ ghost use Rattle.tracewire.specs.Wire.{LibraryTrace};
 ghost use Rattle.mergewire.specs.Wire.{LibraryMergeBase};
 ghost use Rattle.reportwire.specs.Feed.{readerOf, LibraryFeed};
 ghost use Rattle.reportwire.specs.Terms.{LibraryTerms};
-ghost use Rattle.graphwire.specs.Wire.{kindOf, LibraryMeasures, LibraryWrites};
+ghost use Rattle.graphwire.specs.Wire.{LibraryMeasures, LibraryWrites};
 ghost use Rattle.traverse.specs.Open.{lentOf};
 ghost use Rattle.traverse.specs.Next.{filesLent};
+ghost use Rattle.wire.specs.Words.{kindOf};
 ghost use Rattle.wire.specs.Numbers.{settingsOf};
 ghost use Rattle.linenhatch.specs.Library.{LibraryOpens, LibraryOpensTested, LibraryNext, LibraryChecks};
 
@@ -24,10 +27,16 @@ const NO_ROOM: u32 = 101;
 
 // How many places a walk needs (document 01's P), so that a caller knows how much memory to lend.
 #[no_mangle]
-pub extern "C" fn linenhatch_places(store: &[u8], graph: &[u8], tips: &[u8], hidden: &[u8]) -> usize
-    ensures { λ r. ⌜ ((excluded : List ℕ) (s : Settings) → r ≡ P (inputOf (now (store .entry)) (now (graph .entry)) (now (tips .entry)) (now (hidden .entry)) excluded s)) ⌝ }
+pub extern "C" fn linenhatch_places(
+    width: u32,
+    store: &[u8],
+    graph: &[u8],
+    tips: &[u8],
+    hidden: &[u8],
+) -> usize
+    ensures { λ r. ⌜ ((excluded : List ℕ) (s : Settings) → s .kind ≡ kindOf width → r ≡ P (inputOf (now (store .entry)) (now (graph .entry)) (now (tips .entry)) (now (hidden .entry)) excluded s)) ⌝ }
 {
-    opening::capacity(store, graph, tips, hidden)
+    opening::capacity(wire::kind_of(width), store, graph, tips, hidden)
 }
 
 // Opens a walk. The result is 0 where it is accepted, else document 01's number of the refusal; the record's words and the walk's running
@@ -35,6 +44,7 @@ pub extern "C" fn linenhatch_places(store: &[u8], graph: &[u8], tips: &[u8], hid
 // altered.
 #[no_mangle]
 pub extern "C" fn linenhatch_open(
+    width: u32,
     store: &[u8],
     graph: &[u8],
     tips: &[u8],
@@ -53,12 +63,12 @@ pub extern "C" fn linenhatch_open(
     words: &mut [u64],
     numbers: &mut [u64],
 ) -> u32
-    ensures { λ n. ⌜ LibraryOpens (inputOf (now (store .entry)) (now (graph .entry)) (now (tips .entry)) (now (hidden .entry)) (now (excluded .entry)) (settingsOf sorting limited cutoff first)) (lentOf (now (names .entry)) (now (marks .entry)) (now (levels .entry)) (now (times .entry)) (now (line .entry)) (now (parents .entry))) (lentOf (now (names .exit)) (now (marks .exit)) (now (levels .exit)) (now (times .exit)) (now (line .exit)) (now (parents .exit))) (now (words .entry)) (now (words .exit)) (now (numbers .entry)) (now (numbers .exit)) n ⌝ }
+    ensures { λ n. ⌜ LibraryOpens (inputOf (now (store .entry)) (now (graph .entry)) (now (tips .entry)) (now (hidden .entry)) (now (excluded .entry)) (settingsOf width sorting limited cutoff first)) (lentOf (now (names .entry)) (now (marks .entry)) (now (levels .entry)) (now (times .entry)) (now (line .entry)) (now (parents .entry))) (lentOf (now (names .exit)) (now (marks .exit)) (now (levels .exit)) (now (times .exit)) (now (line .exit)) (now (parents .exit))) (now (words .entry)) (now (words .exit)) (now (numbers .entry)) (now (numbers .exit)) n ⌝ }
 {
     if !wire::can_open(words, numbers) {
         return NO_ROOM;
     }
-    let settings = wire::settings_of(sorting, limited, cutoff, first);
+    let settings = wire::settings_of(width, sorting, limited, cutoff, first);
     let o = traverse::open::open(
         store,
         graph,
@@ -82,6 +92,7 @@ pub extern "C" fn linenhatch_open(
 // to be listed.
 #[no_mangle]
 pub extern "C" fn linenhatch_open_tested(
+    width: u32,
     store: &[u8],
     graph: &[u8],
     tips: &[u8],
@@ -100,12 +111,12 @@ pub extern "C" fn linenhatch_open_tested(
     words: &mut [u64],
     numbers: &mut [u64],
 ) -> u32
-    ensures { λ n. ⌜ LibraryOpensTested (inputOf (now (store .entry)) (now (graph .entry)) (now (tips .entry)) (now (hidden .entry)) (now (excluded .entry)) (settingsOf sorting limited cutoff first)) (lentOf (now (names .entry)) (now (marks .entry)) (now (levels .entry)) (now (times .entry)) (now (line .entry)) (now (parents .entry))) (lentOf (now (names .exit)) (now (marks .exit)) (now (levels .exit)) (now (times .exit)) (now (line .exit)) (now (parents .exit))) (now (words .entry)) (now (words .exit)) (now (numbers .entry)) (now (numbers .exit)) n ⌝ }
+    ensures { λ n. ⌜ LibraryOpensTested (inputOf (now (store .entry)) (now (graph .entry)) (now (tips .entry)) (now (hidden .entry)) (now (excluded .entry)) (settingsOf width sorting limited cutoff first)) (lentOf (now (names .entry)) (now (marks .entry)) (now (levels .entry)) (now (times .entry)) (now (line .entry)) (now (parents .entry))) (lentOf (now (names .exit)) (now (marks .exit)) (now (levels .exit)) (now (times .exit)) (now (line .exit)) (now (parents .exit))) (now (words .entry)) (now (words .exit)) (now (numbers .entry)) (now (numbers .exit)) n ⌝ }
 {
     if !wire::can_open(words, numbers) {
         return NO_ROOM;
     }
-    let settings = wire::settings_of(sorting, limited, cutoff, first);
+    let settings = wire::settings_of(width, sorting, limited, cutoff, first);
     let o = opentested::open_tested(
         store,
         graph,
@@ -129,6 +140,7 @@ pub extern "C" fn linenhatch_open_tested(
 // were. Where there is no room for the record or the answer the result is 101: no call is made, and nothing is altered.
 #[no_mangle]
 pub extern "C" fn linenhatch_next(
+    width: u32,
     words: &mut [u64],
     store: &[u8],
     graph: &[u8],
@@ -148,12 +160,13 @@ pub extern "C" fn linenhatch_next(
     numbers: &mut [u64],
     seconds: &mut [i64],
 ) -> u32
-    ensures { λ n. ⌜ LibraryNext (filesLent (now (store .entry)) (now (graph .entry)) (now (hidden .entry)) (now (excluded .entry)) (settingsOf sorting limited cutoff first)) (lentOf (now (names .entry)) (now (marks .entry)) (now (levels .entry)) (now (times .entry)) (now (line .entry)) (now (parents .entry))) (lentOf (now (names .exit)) (now (marks .exit)) (now (levels .exit)) (now (times .exit)) (now (line .exit)) (now (parents .exit))) (now (words .entry)) (now (words .exit)) (now (id .entry)) (now (id .exit)) (now (numbers .entry)) (now (numbers .exit)) (now (seconds .entry)) (now (seconds .exit)) n ⌝ }
+    ensures { λ n. ⌜ LibraryNext (filesLent (now (store .entry)) (now (graph .entry)) (now (hidden .entry)) (now (excluded .entry)) (settingsOf width sorting limited cutoff first)) (lentOf (now (names .entry)) (now (marks .entry)) (now (levels .entry)) (now (times .entry)) (now (line .entry)) (now (parents .entry))) (lentOf (now (names .exit)) (now (marks .exit)) (now (levels .exit)) (now (times .exit)) (now (line .exit)) (now (parents .exit))) (now (words .entry)) (now (words .exit)) (now (id .entry)) (now (id .exit)) (now (numbers .entry)) (now (numbers .exit)) (now (seconds .entry)) (now (seconds .exit)) n ⌝ }
 {
-    if !wire::can_call(words, id, numbers, seconds) {
+    let settings = wire::settings_of(width, sorting, limited, cutoff, first);
+    let kind = settings.kind;
+    if !wire::can_call(kind, words, id, numbers, seconds) {
         return NO_ROOM;
     }
-    let settings = wire::settings_of(sorting, limited, cutoff, first);
     let r = wire::decode(words);
     let o = simple::once(
         r,
@@ -169,7 +182,7 @@ pub extern "C" fn linenhatch_next(
         line,
         parents,
     );
-    let n = wire::put_answer(o.answer, id, numbers, seconds);
+    let n = wire::put_answer(kind, o.answer, id, numbers, seconds);
     wire::put_record(n, o.record, words);
     n
 }
@@ -178,13 +191,18 @@ pub extern "C" fn linenhatch_next(
 // is lent, ends in the digest of the rest; else the number of the refusal. After 16 the first number is the entry's, counted from 0, else 0.
 // Where there is no room for that number the result is 101: nothing is checked, and nothing is altered.
 #[no_mangle]
-pub extern "C" fn linenhatch_check_names(store: &[u8], graph: &[u8], numbers: &mut [u64]) -> u32
-    ensures { λ n. ⌜ LibraryChecks (now (store .entry)) (now (graph .entry)) (now (numbers .entry)) (now (numbers .exit)) n ⌝ }
+pub extern "C" fn linenhatch_check_names(
+    width: u32,
+    store: &[u8],
+    graph: &[u8],
+    numbers: &mut [u64],
+) -> u32
+    ensures { λ n. ⌜ LibraryChecks (kindOf width) (now (store .entry)) (now (graph .entry)) (now (numbers .entry)) (now (numbers .exit)) n ⌝ }
 {
     if numbers.len() == 0 {
         return NO_ROOM;
     }
-    let r = fsck::check_names(store, graph);
+    let r = fsck::check_names(wire::kind_of(width), store, graph);
     let w = [r.entry as u64];
     wire::put(numbers, &w);
     let o = r.outcome;
@@ -197,6 +215,7 @@ pub extern "C" fn linenhatch_check_names(store: &[u8], graph: &[u8], numbers: &m
 // answer, the result is 101: nothing is read, and nothing is altered.
 #[no_mangle]
 pub extern "C" fn linenhatch_trace(
+    width: u32,
     store: &[u8],
     start: &[u8],
     list: &[u8],
@@ -205,9 +224,9 @@ pub extern "C" fn linenhatch_trace(
     id: &mut [u8],
     numbers: &mut [u64],
 ) -> u32
-    ensures { λ n. ⌜ LibraryTrace (now (store .entry)) (now (start .entry)) (now (list .entry)) d (now (memo .entry)) (now (memo .exit)) (now (id .entry)) (now (id .exit)) (now (numbers .entry)) (now (numbers .exit)) n ⌝ }
+    ensures { λ n. ⌜ LibraryTrace (widthOf (kindOf width)) (now (store .entry)) (now (start .entry)) (now (list .entry)) d (now (memo .entry)) (now (memo .exit)) (now (id .entry)) (now (id .exit)) (now (numbers .entry)) (now (numbers .exit)) n ⌝ }
 {
-    tracewire::trace(store, start, list, d, memo, id, numbers)
+    tracewire::trace(width, store, start, list, d, memo, id, numbers)
 }
 
 // Where two series part (document 02, cards 8 and 11): the result is 0, the first number 1 and the id that of the first best common commit; or
@@ -215,6 +234,7 @@ pub extern "C" fn linenhatch_trace(
 // was. Where a tip is shorter than an id, or there is no room for the answer, the result is 101: nothing is read, and nothing is altered.
 #[no_mangle]
 pub extern "C" fn linenhatch_merge_base(
+    width: u32,
     store: &[u8],
     one: &[u8],
     other: &[u8],
@@ -227,9 +247,10 @@ pub extern "C" fn linenhatch_merge_base(
     id: &mut [u8],
     numbers: &mut [u64],
 ) -> u32
-    ensures { λ n. ⌜ LibraryMergeBase (now (store .entry)) (now (one .entry)) (now (other .entry)) (lengthsOf (length (now (names .entry))) (length (now (marks .entry))) (length (now (levels .entry))) (length (now (times .entry))) (length (now (line .entry))) (length (now (parents .entry)))) (lent (now (names .entry)) (now (marks .entry)) (now (line .entry))) (lent (now (names .exit)) (now (marks .exit)) (now (line .exit))) (now (levels .entry)) (now (levels .exit)) (now (id .entry)) (now (id .exit)) (now (numbers .entry)) (now (numbers .exit)) n ⌝ }
+    ensures { λ n. ⌜ LibraryMergeBase (kindOf width) (now (store .entry)) (now (one .entry)) (now (other .entry)) (lengthsOf (length (now (names .entry))) (length (now (marks .entry))) (length (now (levels .entry))) (length (now (times .entry))) (length (now (line .entry))) (length (now (parents .entry)))) (lent (now (names .entry)) (now (marks .entry)) (now (line .entry))) (lent (now (names .exit)) (now (marks .exit)) (now (line .exit))) (now (levels .entry)) (now (levels .exit)) (now (id .entry)) (now (id .exit)) (now (numbers .entry)) (now (numbers .exit)) n ⌝ }
 {
     mergewire::merge_base(
+        width,
         store,
         one,
         other,
@@ -245,7 +266,7 @@ pub extern "C" fn linenhatch_merge_base(
 }
 
 // How long the graph file of a store is (document 02, card 4): the result is 0 and the first number the file's bytes, else the number of the
-// refusal, 2, 4, 1, 18 or 19, and 0. width is that of ids: 32 is SHA-256, any other number SHA-1. After 2, 4 and 1 the lent levels, one for each
+// refusal, 2, 4, 1, 18 or 19, and 0. After 2, 4 and 1 the lent levels, one for each
 // entry, are as they were. Where there is no room for the number the result is 101: nothing is read, and nothing is altered.
 #[no_mangle]
 pub extern "C" fn linenhatch_graph_length(
@@ -282,6 +303,7 @@ pub extern "C" fn linenhatch_write_graph(
 // to 8 the lent memory is as it was. Where there is no room for the numbers the result is 101: nothing is read, and nothing is altered.
 #[no_mangle]
 pub extern "C" fn linenhatch_feed(
+    width: u32,
     store: &[u8],
     graph: &[u8],
     tips: &[u8],
@@ -302,9 +324,10 @@ pub extern "C" fn linenhatch_feed(
     numbers: &mut [u64],
     difference: &mut [i64],
 ) -> u32
-    ensures { λ n. ⌜ LibraryFeed (readerOf outside) (now (embargoed .entry)) (inputOf (now (store .entry)) (now (graph .entry)) (now (tips .entry)) (now (hidden .entry)) (now (excluded .entry)) (settingsOf sorting limited cutoff first)) (lentOf (now (names .entry)) (now (marks .entry)) (now (levels .entry)) (now (times .entry)) (now (line .entry)) (now (parents .entry))) (lentOf (now (names .exit)) (now (marks .exit)) (now (levels .exit)) (now (times .exit)) (now (line .exit)) (now (parents .exit))) (now (numbers .entry)) (now (numbers .exit)) (now (difference .entry)) (now (difference .exit)) n ⌝ }
+    ensures { λ n. ⌜ LibraryFeed (readerOf outside) (now (embargoed .entry)) (inputOf (now (store .entry)) (now (graph .entry)) (now (tips .entry)) (now (hidden .entry)) (now (excluded .entry)) (settingsOf width sorting limited cutoff first)) (lentOf (now (names .entry)) (now (marks .entry)) (now (levels .entry)) (now (times .entry)) (now (line .entry)) (now (parents .entry))) (lentOf (now (names .exit)) (now (marks .exit)) (now (levels .exit)) (now (times .exit)) (now (line .exit)) (now (parents .exit))) (now (numbers .entry)) (now (numbers .exit)) (now (difference .entry)) (now (difference .exit)) n ⌝ }
 {
     reportwire::feed(
+        width,
         store,
         graph,
         tips,
@@ -332,6 +355,7 @@ pub extern "C" fn linenhatch_feed(
 // memory is as it was. Where there is no room for the counts or the number the result is 101: nothing is read, and nothing is altered.
 #[no_mangle]
 pub extern "C" fn linenhatch_terms(
+    width: u32,
     store: &[u8],
     graph: &[u8],
     tips: &[u8],
@@ -351,9 +375,10 @@ pub extern "C" fn linenhatch_terms(
     counts: &mut [u64],
     numbers: &mut [u64],
 ) -> u32
-    ensures { λ n. ⌜ LibraryTerms (inputOf (now (store .entry)) (now (graph .entry)) (now (tips .entry)) (now (hidden .entry)) (now (excluded .entry)) (settingsOf sorting limited cutoff first)) (now (months .entry)) (lentOf (now (names .entry)) (now (marks .entry)) (now (levels .entry)) (now (times .entry)) (now (line .entry)) (now (parents .entry))) (lentOf (now (names .exit)) (now (marks .exit)) (now (levels .exit)) (now (times .exit)) (now (line .exit)) (now (parents .exit))) (now (counts .entry)) (now (counts .exit)) (now (numbers .entry)) (now (numbers .exit)) n ⌝ }
+    ensures { λ n. ⌜ LibraryTerms (inputOf (now (store .entry)) (now (graph .entry)) (now (tips .entry)) (now (hidden .entry)) (now (excluded .entry)) (settingsOf width sorting limited cutoff first)) (now (months .entry)) (lentOf (now (names .entry)) (now (marks .entry)) (now (levels .entry)) (now (times .entry)) (now (line .entry)) (now (parents .entry))) (lentOf (now (names .exit)) (now (marks .exit)) (now (levels .exit)) (now (times .exit)) (now (line .exit)) (now (parents .exit))) (now (counts .entry)) (now (counts .exit)) (now (numbers .entry)) (now (numbers .exit)) n ⌝ }
 {
     reportwire::terms::terms(
+        width,
         store,
         graph,
         tips,

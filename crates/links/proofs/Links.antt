@@ -8,7 +8,7 @@ use mathlib.Core.List.{List, List·Memᴰ}
 use native.Mathlib.Omega.{arith}
 use lib.ListN.{length, getD}
 use lib.IntN.{ℤ, pos}
-use Rattle.hash.specs.Bytes.{Id, idBytes, among}
+use Rattle.hash.specs.Bytes.{Id, among, widthOf}
 use Rattle.hash.proofs.Tests.{byCases, clash}
 use Rattle.walk.specs.declared.Settings.{Settings}
 use Rattle.walk.specs.declared.Sorting.{Sorting}
@@ -20,7 +20,7 @@ use Rattle.walk.specs.Next.{admits, visit}
 use Rattle.walk.proofs.Laws.{add-cases}
 use Rattle.state.specs.declared.Record.{Record}
 use Rattle.state.specs.declared.Seen.{Seen}
-use Rattle.state.specs.Reads.{Shape, Reads, Universe}
+use Rattle.state.specs.Reads.{Shape, Reads, Universe, memoryWidth}
 use Rattle.state.specs.Shapes.{beforeOf, shapeFor, joins}
 use Rattle.state.specs.Steps.{mem, Sees, Waits}
 use Rattle.state.proofs.Shapes.{waits-shape}
@@ -67,21 +67,21 @@ module _ (v : Walk) (st : State) (x : Id) (t : ℤ) where
 
 -- ---- whether a link is admitted
 
-at-settings : (excluded : List ℕ) (settings : Settings) (x : Id) (t : ℤ) (v : Walk) → v .settings ≡ settings → v .excluded ≡ listIds excluded
-    → (not (among x (listIds excluded)) && (onlyFirst settings || notBefore (cutoffOf (settings .sorting)) t)) ≡ admits v x t
+at-settings : (excluded : List ℕ) (settings : Settings) (x : Id) (t : ℤ) (v : Walk) → v .settings ≡ settings → v .excluded ≡ listIds (widthOf (settings .kind)) excluded
+    → (not (among x (listIds (widthOf (settings .kind)) excluded)) && (onlyFirst settings || notBefore (cutoffOf (settings .sorting)) t)) ≡ admits v x t
 unfolding admits
 at-settings excluded settings x t v p q =
     ap (λ (l : List Id). not (among x l) && (onlyFirst settings || notBefore (cutoffOf (settings .sorting)) t)) (sym q)
     ∙ ap (λ (s : Settings). not (among x (v .excluded)) && (onlyFirst s || notBefore (cutoffOf (s .sorting)) t)) (sym p)
 
 module _ {excluded : List ℕ} {settings : Settings} {x : Id} {t : ℤ} where
-  pub not-admitted : {b : Bool} → b ≡ among x (listIds excluded) → b ≡ true → Admits excluded settings x t false
+  pub not-admitted : {b : Bool} → b ≡ among x (listIds (widthOf (settings .kind)) excluded) → b ≡ true → Admits excluded settings x t false
   not-admitted e k = record { right = λ v p q. rw (sym e ∙ k) at (at-settings excluded settings x t v p q) }
 
-  pub first-admitted : {b c : Bool} → b ≡ among x (listIds excluded) → b ≡ false → c ≡ onlyFirst settings → c ≡ true → Admits excluded settings x t true
+  pub first-admitted : {b c : Bool} → b ≡ among x (listIds (widthOf (settings .kind)) excluded) → b ≡ false → c ≡ onlyFirst settings → c ≡ true → Admits excluded settings x t true
   first-admitted e k f l = record { right = λ v p q. rw (sym e ∙ k, sym f ∙ l) at (at-settings excluded settings x t v p q) }
 
-  pub timed-admitted : {b c d : Bool} → b ≡ among x (listIds excluded) → b ≡ false → c ≡ onlyFirst settings → c ≡ false → d ≡ notBefore (cutoffOf (settings .sorting)) t
+  pub timed-admitted : {b c d : Bool} → b ≡ among x (listIds (widthOf (settings .kind)) excluded) → b ≡ false → c ≡ onlyFirst settings → c ≡ false → d ≡ notBefore (cutoffOf (settings .sorting)) t
       → Admits excluded settings x t d
   timed-admitted e k f l m = record { right = λ v p q. m ∙ (rw (sym e ∙ k, sym f ∙ l) at (at-settings excluded settings x t v p q)) }
 
@@ -136,7 +136,11 @@ joins-waits {v} {sh} {excluded} {settings} by st x t =
 module _ (excluded : List ℕ) (settings : Settings) (r r′ : Record) (names marks names′ marks′ : List ℕ) (times times′ : List ℤ) (line line′ : List ℕ) (x : Id) (a : Seen)
     (s : Sees r names marks names′ marks′ x a) where
   module _ (v : Walk) (sh : Shape) (st : State) (u : List Id) (n : ℕ) (by : GoesBy v sh excluded settings) (d : Ready sh r (mem names marks times line) st u (suc n))
-      (w : length x ≡ idBytes) (i : List·Memᴰ x u) where
+      (w : length x ≡ widthOf (settings .kind)) (i : List·Memᴰ x u) where
+    -- the memory holds ids of that kind
+    held-wide : length x ≡ memoryWidth sh
+    held-wide = w ∙ sym (ap widthOf (by .same-kind))
+
     abbrev Goal : State → Type 0
     Goal st′ = Went sh (mem names marks times line) r′ (mem names′ marks′ times′ line′) st′ u n
 
@@ -152,18 +156,18 @@ module _ (excluded : List ℕ) (settings : Settings) (r r′ : Record) (names ma
     went-known f p q h t =
         byCases (st .frontier x || st .seen x)
         (λ k. subst Goal (sym (visit-old v st x t k)) (let o = s .still f in still st (same-state (d .reads) (o .0) (o .1) p q h) h q (d .inside) refl))
-        (λ k. clash (s .new times line sh st (d .reads) (d .failed) w k u (d .inside) i .fresh) f)
+        (λ k. clash (s .new times line sh st (d .reads) (d .failed) held-wide k u (d .inside) i .fresh) f)
 
     went-turned : {t : ℤ} → Enters excluded settings r times times′ line line′ x t (a .slot) r′ → (st .frontier x || st .seen x) ≡ false → admits v x t ≡ false → Goal (sees st x)
     went-turned e k n =
-        let o = s .new times line sh st (d .reads) (d .failed) w k u (d .inside) i in
+        let o = s .new times line sh st (d .reads) (d .failed) held-wide k u (d .inside) i in
         let p = e .turned v (by .same-settings) (by .same-excluded) n in
         let g : Reads r′ (mem names′ marks′ times′ line′) sh (sees st x) = rw (p .0, p .1, p .2) (o .reads) in
         still (sees st x) g (p .2) (p .1) (sees-inside v st x (pos 0) i (d .inside)) (sees-count v st x (pos 0))
 
     went-admitted : {t : ℤ} → Enters excluded settings r times times′ line line′ x t (a .slot) r′ → (st .frontier x || st .seen x) ≡ false → admits v x t ≡ true → Goal (waits v st x t)
     went-admitted {t} e k n =
-        let o = s .new times line sh st (d .reads) (d .failed) w k u (d .inside) i in
+        let o = s .new times line sh st (d .reads) (d .failed) held-wide k u (d .inside) i in
         let p = e .admitted v (by .same-settings) (by .same-excluded) n in
         let g = p .joined names′ marks′ sh (sees st x) x (o .reads) (d .failed) (o .slot) (d .slots) (omega (arith, d .numbers, d .reads .admitted)) in
         record {
@@ -194,6 +198,10 @@ module _ (excluded : List ℕ) (settings : Settings) (r r′ : Record) (names ma
         byCases (r .queue .timed)
         (λ j. subst (λ (z : ℤ). Goal (visit v st x z)) (q j) (went f t e))
         (λ j. subst Goal (visit-timeless v st x t t′ (not-timed j)) (went f t e))
+
+-- what is seen by a record is seen by the same record
+pub sees-as : {r r′ : Record} {names marks names′ marks′ : List ℕ} {x : Id} {a : Seen} → r ≡ r′ → Sees r names marks names′ marks′ x a → Sees r′ names marks names′ marks′ x a
+sees-as {names = names} {marks = marks} {names′ = names′} {marks′ = marks′} {x = x} {a = a} e s = subst (λ (z : Record). Sees z names marks names′ marks′ x a) e s
 
 -- where the seconds t of a new parent are t′, in a queue by time
 pub visits : {excluded : List ℕ} {settings : Settings} {r r′ : Record} {names marks names′ marks′ : List ℕ} {times times′ : List ℤ} {line line′ : List ℕ} {x : Id} {a : Seen}

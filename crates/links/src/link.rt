@@ -4,6 +4,7 @@ use commitgraph::rows;
 use date::Seconds;
 use hash::Kind;
 use state::Record;
+use state::Waiting;
 use walk::Parents;
 use walk::Settings;
 ghost use mathlib.Core.Path.{_≡_};
@@ -11,9 +12,11 @@ ghost use mathlib.Core.Bool.{true};
 ghost use Rattle.commitgraph.specs.Graph.{secondsIn};
 ghost use Rattle.walk.specs.Settings.{onlyFirst};
 ghost use Rattle.reading.specs.Tip.{GivesSeconds};
+ghost use Rattle.state.specs.declared.Record.{Record};
+ghost use Rattle.state.specs.Shapes.{waitingIn};
 ghost use Rattle.state.specs.Steps.{mem};
 ghost use Rattle.links.specs.Link.{Admits, Enters, Visits, VisitsStored};
-ghost use Rattle.hash.specs.Bytes.{idBytes};
+ghost use Rattle.hash.specs.Bytes.{widthOf};
 
 // No place is noted from here on.
 const MOST: usize = 4294967295;
@@ -33,7 +36,8 @@ pub fn only_first(settings: Settings) -> bool
 pub fn admits(excluded: &[u8], settings: Settings, id: &[u8], s: Seconds) -> bool
     ensures { λ r. ⌜ Admits (now (excluded .entry)) settings (now (id .entry)) (s .0) r ⌝ }
 {
-    if reading::is_among(excluded, id) {
+    let kind = settings.kind;
+    if reading::is_among(kind, excluded, id) {
         return false;
     }
     if only_first(settings) {
@@ -45,7 +49,7 @@ pub fn admits(excluded: &[u8], settings: Settings, id: &[u8], s: Seconds) -> boo
 
 // A new parent waits in its slot, if its link is admitted.
 fn insert_into_queue(
-    r: Record,
+    w: Waiting,
     slot: usize,
     times: &mut [i64],
     line: &mut [u32],
@@ -53,21 +57,31 @@ fn insert_into_queue(
     settings: Settings,
     id: &[u8],
     s: Seconds,
-) -> Record
-    ensures { λ a. ⌜ Enters (now (excluded .entry)) settings r (now (times .entry)) (now (times .exit)) (now (line .entry)) (now (line .exit)) (now (id .entry)) (s .0) slot a ⌝ }
+) -> Waiting
+    ensures { λ a. ⌜ ((r : Record) → Enters (now (excluded .entry)) settings (waitingIn r w) (now (times .entry)) (now (times .exit)) (now (line .entry)) (now (line .exit)) (now (id .entry)) (s .0) slot (waitingIn r a)) ⌝ }
 {
     if admits(excluded, settings, id, s) {
-        return state::wait(r, times, line, slot, s);
+        return state::lengthen(w, times, line, slot, s);
     }
-    r
+    w
 }
 
 // The seconds of a new parent in its own graph row, where commits wait by time; else they are not asked.
-fn new_row_seconds(graph: &[u8], l: Layout, parent: usize, timed: bool) -> Seconds
-    ensures { λ r. ⌜ (timed ≡ true → r .0 ≡ secondsIn idBytes (now (graph .entry)) l parent) ⌝ }
+fn new_row_seconds(kind: Kind, graph: &[u8], l: Layout, parent: usize, timed: bool) -> Seconds
+    ensures { λ r. ⌜ (timed ≡ true → r .0 ≡ secondsIn (widthOf kind) (now (graph .entry)) l parent) ⌝ }
 {
     if timed {
-        return rows::seconds(Kind::Sha1, graph, l, parent);
+        // a copy that is made here and not for each link: `rows::seconds` is not compiled into its callers, and what goes to it by value stands in memory
+        let own = Layout {
+            fan: l.fan,
+            ids: l.ids,
+            rows: l.rows,
+            edge: l.edge,
+            edges: l.edges,
+            count: l.count,
+            levels: l.levels,
+        };
+        return rows::seconds(kind, graph, own, parent);
     }
     Seconds(0)
 }
@@ -86,6 +100,7 @@ fn note(levels: &mut [u32], slot: usize, place: usize) {
 // Visits the parent at a position of the commit-graph file: its seconds are those of its own row.
 pub fn insert_into_seen_and_queue_cached(
     r: Record,
+    w: Waiting,
     names: &mut [u8],
     marks: &mut [u8],
     levels: &mut [u32],
@@ -97,27 +112,35 @@ pub fn insert_into_seen_and_queue_cached(
     l: Layout,
     parent: usize,
     id: &[u8],
-) -> Record
-    ensures { λ a. ⌜ Visits (now (excluded .entry)) settings r (mem (now (names .entry)) (now (marks .entry)) (now (times .entry)) (now (line .entry))) (mem (now (names .exit)) (now (marks .exit)) (now (times .exit)) (now (line .exit))) (now (id .entry)) (secondsIn idBytes (now (graph .entry)) l parent) a ⌝ }
+) -> Waiting
+    ensures { λ a. ⌜ Visits (now (excluded .entry)) settings (waitingIn r w) (mem (now (names .entry)) (now (marks .entry)) (now (times .entry)) (now (line .entry))) (mem (now (names .exit)) (now (marks .exit)) (now (times .exit)) (now (line .exit))) (now (id .entry)) (secondsIn (widthOf (settings .kind)) (now (graph .entry)) l parent) (waitingIn r a) ⌝ }
 {
-    let seen = state::see(r, names, marks, id);
-    // a known parent changes nothing, and the record is handed back before anything of it is asked
+    let kind = settings.kind;
+    let seen = state::see(state::with_waiting(r, w), names, marks, id);
+    // a known parent changes nothing, and what waits is handed back before anything of it is asked
     if !seen.fresh {
-        return r;
+        return w;
     }
-    let q = r.queue;
-    let s = new_row_seconds(graph, l, parent, q.timed);
+    let q = w.queue;
+    let s = new_row_seconds(kind, graph, l, parent, q.timed);
     note(levels, seen.slot, parent);
-    insert_into_queue(r, seen.slot, times, line, excluded, settings, id, s)
+    insert_into_queue(w, seen.slot, times, line, excluded, settings, id, s)
 }
 
 // The seconds of a new parent in the store, where commits wait by time, and its entry is noted beside its slot; else they are not asked.
-fn new_seconds(store: &[u8], id: &[u8], timed: bool, levels: &mut [u32], slot: usize) -> Seconds
-    ensures { λ r. ⌜ (timed ≡ true → GivesSeconds (now (store .entry)) (now (id .entry)) r) ⌝ }
+fn new_seconds(
+    kind: Kind,
+    store: &[u8],
+    id: &[u8],
+    timed: bool,
+    levels: &mut [u32],
+    slot: usize,
+) -> Seconds
+    ensures { λ r. ⌜ (timed ≡ true → GivesSeconds (widthOf kind) (now (store .entry)) (now (id .entry)) r) ⌝ }
 {
     if timed {
         let mut entry = 0;
-        let s = reading::seconds_noting(store, id, &mut entry);
+        let s = reading::seconds_noting(kind, store, id, &mut entry);
         note(levels, slot, entry);
         return s;
     }
@@ -127,6 +150,7 @@ fn new_seconds(store: &[u8], id: &[u8], timed: bool, levels: &mut [u32], slot: u
 // Visits a parent of a commit from the store: its seconds are those in the store, else 0.
 pub fn insert_into_seen_and_queue_stored(
     r: Record,
+    w: Waiting,
     names: &mut [u8],
     marks: &mut [u8],
     levels: &mut [u32],
@@ -136,14 +160,15 @@ pub fn insert_into_seen_and_queue_stored(
     settings: Settings,
     store: &[u8],
     id: &[u8],
-) -> Record
-    ensures { λ a. ⌜ VisitsStored (now (excluded .entry)) settings (now (store .entry)) r (mem (now (names .entry)) (now (marks .entry)) (now (times .entry)) (now (line .entry))) (mem (now (names .exit)) (now (marks .exit)) (now (times .exit)) (now (line .exit))) (now (id .entry)) a ⌝ }
+) -> Waiting
+    ensures { λ a. ⌜ VisitsStored (now (excluded .entry)) settings (now (store .entry)) (waitingIn r w) (mem (now (names .entry)) (now (marks .entry)) (now (times .entry)) (now (line .entry))) (mem (now (names .exit)) (now (marks .exit)) (now (times .exit)) (now (line .exit))) (now (id .entry)) (waitingIn r a) ⌝ }
 {
-    let seen = state::see(r, names, marks, id);
+    let kind = settings.kind;
+    let seen = state::see(state::with_waiting(r, w), names, marks, id);
     if !seen.fresh {
-        return r;
+        return w;
     }
-    let q = r.queue;
-    let s = new_seconds(store, id, q.timed, levels, seen.slot);
-    insert_into_queue(r, seen.slot, times, line, excluded, settings, id, s)
+    let q = w.queue;
+    let s = new_seconds(kind, store, id, q.timed, levels, seen.slot);
+    insert_into_queue(w, seen.slot, times, line, excluded, settings, id, s)
 }

@@ -1,16 +1,17 @@
 -- The third demand for a caller of `list` alone: what is proved of the walk's list and of its answers, read off what `list` gives back. Assumes nothing.
 use mathlib.Core.Path.{_≡_, refl, sym, _∙_, ap, subst}
-use Prim.Native.Nat.{ℕ, _+_, _*_, _/_}
+use Prim.Native.Nat.{ℕ, _+_, _*_, _/_, _<_}
 use mathlib.Core.Bool.{true}
 use mathlib.Core.Option.{none}
 use mathlib.Core.List.{List}
 use native.Mathlib.Omega.{arith}
 use lib.ListN.{length, take, drop}
 use lib.Seq.{take-all}
-use Rattle.hash.specs.Bytes.{Id, idBytes, setDown, idsOf}
+use Rattle.hash.specs.Bytes.{Id, setDown, idsOf}
+use Rattle.hash.proofs.Widths.{width-least}
 use Rattle.walk.specs.declared.OpenOutcome.the-variants.{Accepted, NotOpened}
 use Rattle.walk.specs.State.{State}
-use Rattle.walk.specs.Opening.{Input, walkOf, listIds, refusal, roomFor, P, Opening, closed, opened, openWalk}
+use Rattle.walk.specs.Opening.{Input, widthIn, walkOf, listIds, refusal, roomFor, P, Opening, closed, opened, openWalk}
 use Rattle.walk.specs.Next.{Answer}
 use Rattle.walk.specs.Calls.{answerAt}
 use Rattle.walk.specs.Demand.{Premises}
@@ -30,11 +31,11 @@ use Rattle.lister.specs.Demand.{ReadsAs, Delivers, AnyListing, ListDeman
 use Rattle.lister.proofs.SetDown.{read-back, kept-past}
 use Rattle.lister.proofs.Refusals.{hands-none, none-first, first-of}
 
-reads-as : (list : List Id) (ids ids′ : List ℕ) → Wide list → ids′ ≡ setDown ids 0 (joined (take (length ids / idBytes) list)) → ReadsAs list ids ids′
-reads-as list ids ids′ w e = record {
-  front = λ k h g. ap (idsOf idBytes k) e ∙ read-back ids list k w h g;
-  whole = λ g. ap (idsOf idBytes (length list)) e ∙ read-back ids list (length list) w (omega arith) g ∙ take-all (length list) list (omega arith);
-  past = λ g. ap (drop (idBytes * length list)) e ∙ kept-past ids list (length list) w refl g;
+reads-as : (width : ℕ) → 0 < width → (list : List Id) (ids ids′ : List ℕ) → Wide width list → ids′ ≡ setDown ids 0 (joined (take (length ids / width) list)) → ReadsAs width list ids ids′
+reads-as width pos list ids ids′ w e = record {
+  front = λ k h g. ap (idsOf width k) e ∙ read-back width pos ids list k w h g;
+  whole = λ g. ap (idsOf width (length list)) e ∙ read-back width pos ids list (length list) w (omega arith) g ∙ take-all (length list) list (omega arith);
+  past = λ g. ap (drop (width * length list)) e ∙ kept-past width pos ids list (length list) w refl g;
 }
 
 module _ (i : Input) (m : Lent) (ids : List ℕ) (l : Listing) (m′ : Lent) (ids′ : List ℕ) (s : ListSays i m ids l m′ ids′) where
@@ -55,14 +56,14 @@ module _ (i : Input) (m : Lent) (ids : List ℕ) (l : Listing) (m′ : Lent) (id
         ended = ends-from i (o .state) (o .opens-true);
         no-more = list-all i (o .state) (o .opens-true);
         commits = w .commits;
-        in-ids = reads-as (wholeList i) ids ids′ (list-wide i (o .state) (o .opens-true)) (w .set-down);
+        in-ids = reads-as (widthIn i) (omega (arith, width-least (i .settings .kind))) (wholeList i) ids ids′ (list-wide i (o .state) (o .opens-true)) (w .set-down);
         none-refused = (λ z. w .reason ∙ f .0 (sym (w .refused) ∙ z), λ z. w .refused ∙ f .1 (sym (w .reason) ∙ z));
         refused-by = λ r z.
             let k = first-of (answerAt i) (P i + 2) r (sym (ap firstRefusal (answers-at i (P i + 2))) ∙ sym (w .reason) ∙ z) in
             refused-by-call i (o .state) (o .opens-true) (k .0) r (k .1);
       }
 
-  delivers : refusal i ≡ none → roomFor i (lengthsOf m) ≡ true → Premises (walkOf i) (listIds (i .tips)) → Delivers i ids l ids′
+  delivers : refusal i ≡ none → roomFor i (lengthsOf m) ≡ true → Premises (walkOf i) (listIds (widthIn i) (i .tips)) → Delivers i ids l ids′
   delivers e room pre =
       let q = listed-whole i e pre in
       let d = q .0 in
@@ -77,7 +78,7 @@ module _ (i : Input) (m : Lent) (ids : List ℕ) (l : Listing) (m′ : Lent) (id
         exactly = d .exactly;
         within = d .within;
         commits = w .commits ∙ ap (λ (x : List Id). length x) same;
-        in-ids = subst (λ (x : List Id). ReadsAs x ids ids′) same (a .in-ids);
+        in-ids = subst (λ (x : List Id). ReadsAs (widthIn i) x ids ids′) same (a .in-ids);
         none-refused = w .refused ∙ h .0;
         no-reason = w .reason ∙ h .1;
       }

@@ -2,13 +2,15 @@
 use mathlib.Core.Path.{_≡_, refl, sym, _∙_, ap, subst}
 use Prim.Native.Nat.{ℕ, _+_, _*_, _-_, _/_}
 use mathlib.Core.List.{List}
+use native.Mathlib.Nat.{mul-zero}
 use native.Mathlib.Omega.{arith}
 use lib.ListN.{length, take}
-use Rattle.hash.specs.Bytes.{idBytes, setDown}
+use Rattle.hash.specs.Bytes.{setDown}
+use Rattle.hash.proofs.Widths.{width-least}
 use Rattle.walk.specs.declared.Refusal.{Refusal}
 use Rattle.walk.specs.declared.OpenOutcome.the-variants.{NotOpened}
 use Rattle.walk.specs.State.{State}
-use Rattle.walk.specs.Opening.{Input, P, roomFor, closed, opened, openWalk}
+use Rattle.walk.specs.Opening.{Input, widthIn, P, roomFor, closed, opened, openWalk}
 use Rattle.walk.specs.Calls.{answers}
 use Rattle.walk.specs.Given.{joined}
 use Rattle.opening.specs.Checks.{checkedBy}
@@ -38,10 +40,10 @@ module _ {i : Input} {m : Lent} {d : Driven} {l : Listing} {m′ : Lent} {embarg
       let h : Held = holding noTally ids (zeros (length counts)) in
       let a : Made Ids embargoed (goodPart terms) i h (m .parents) (P i + 2) d m′ ids′ counts′ =
       subst (λ (k : ℕ). Made Ids embargoed (goodPart terms) i h (m .parents) k d m′ ids′ counts′) (v .whole refl) (v .made) in
-      let c : Counts ids (answers i (P i + 2)) (holding (d .tally) ids′ counts′) = subst (Counts ids (answers i (P i + 2))) (sym (a .held)) (counts-all i ids embargoed (goodPart terms) (zeros (length counts)) (P i + 2)) in
+      let c : Counts (widthIn i) ids (answers i (P i + 2)) (holding (d .tally) ids′ counts′) = subst (Counts (widthIn i) ids (answers i (P i + 2))) (sym (a .held)) (counts-all i ids embargoed (goodPart terms) (zeros (length counts)) (P i + 2)) in
       let w = opens i (roomFor i (lengthsOf m)) (sym (ap checkedBy e)) in
-      let y : idBytes * 0 ≡ 0 = omega arith in
-      let z : length ids / idBytes - 0 ≡ length ids / idBytes = omega arith in
+      let y : widthIn i * 0 ≡ 0 = mul-zero (widthIn i) in
+      let z : length ids / widthIn i - 0 ≡ length ids / widthIn i = omega arith in
       record {
         accepted = a .accepted;
         commits = c .commits;
@@ -49,8 +51,8 @@ module _ {i : Input} {m : Lent} {d : Driven} {l : Listing} {m′ : Lent} {embarg
         reason = c .reason;
         set-down =
             c .put-down
-            ∙ put-down-all ids 0 (wholeList i) (list-wide i (w .state) (w .opens-true))
-            ∙ ap (λ (x : ℕ). setDown ids x (joined (take (length ids / idBytes - 0) (wholeList i)))) y
+            ∙ put-down-all (widthIn i) (omega (arith, width-least (i .settings .kind))) ids 0 (wholeList i) (list-wide i (w .state) (w .opens-true))
+            ∙ ap (λ (x : ℕ). setDown ids x (joined (take (length ids / widthIn i - 0) (wholeList i)))) y
             ∙ ap (λ (x : ℕ). setDown ids 0 (joined (take x (wholeList i)))) z;
         parents = a .parents;
         reads = a .reads;

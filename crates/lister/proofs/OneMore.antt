@@ -1,10 +1,13 @@
 -- One answer more: each count goes on by that answer alone. Assumes nothing.
 use mathlib.Core.Path.{_≡_, refl, sym, _∙_, ap}
-use Prim.Native.Nat.{ℕ, suc, _+_, _*_}
-use mathlib.Core.List.{List, [], _∷_, _++_, append-nil}
+use Prim.Native.Nat.{ℕ, suc, _+_, _*_, _≤_}
+use mathlib.Core.List.{List, [], _∷_, _++_, append-nil, List·Memᴰ·head}
 use native.Mathlib.Omega.{arith}
 use lib.ListN.{length, length-append}
-use Rattle.hash.specs.Bytes.{Id, idBytes, setDown}
+use Rattle.hash.specs.Bytes.{Id, setDown}
+use Rattle.object.specs.Ids.{idRoom}
+use Rattle.object.proofs.IdBytes.{id-in}
+use Rattle.walk.specs.Reach.{Mem}
 use Rattle.walk.specs.declared.Refusal.{Refusal}
 use Rattle.walk.specs.declared.Outcome.{Outcome}
 use Rattle.walk.specs.declared.Outcome.the-variants.{Commit, End, Refused}
@@ -41,12 +44,12 @@ unfolding firstRefusal
 first-more [] a = first-only (a .kind)
 first-more (b ∷ l) a = first-later (b .kind) (outcomeOf (a .kind)) (firstRefusal l) (firstRefusal (l ++ (a ∷ []))) (first-more l a)
 
-put-more : (b : List ℕ) (n : ℕ) (l : List Id) (x : Id) → putDown b n (l ++ (x ∷ [])) ≡ setDown (putDown b n l) (idBytes * (n + length l)) x
+put-more : (width : ℕ) (b : List ℕ) (n : ℕ) (l : List Id) (x : Id) → putDown width b n (l ++ (x ∷ [])) ≡ setDown (putDown width b n l) (width * (n + length l)) x
 unfolding putDown
-put-more b n [] x = let e : n ≡ n + 0 = omega arith in ap (λ (k : ℕ). setDown b (idBytes * k) x) e
-put-more b n (y ∷ l) x =
+put-more width b n [] x = let e : n ≡ n + 0 = omega arith in ap (λ (k : ℕ). setDown b (width * k) x) e
+put-more width b n (y ∷ l) x =
     let e : suc n + length l ≡ n + suc (length l) = omega arith in
-    put-more (setDown b (idBytes * n) y) (suc n) l x ∙ ap (λ (k : ℕ). setDown (putDown (setDown b (idBytes * n) y) (suc n) l) (idBytes * k) x) e
+    put-more width (setDown b (width * n) y) (suc n) l x ∙ ap (λ (k : ℕ). setDown (putDown width (setDown b (width * n) y) (suc n) l) (width * k) x) e
 
 -- ---- what one answer adds
 
@@ -61,10 +64,13 @@ refused-on n end = omega arith
 refused-on n (refused r) = omega arith
 refused-on n (handed x g t) = omega arith
 
-pub ids-on : (b : List ℕ) (l : List Id) (k : Kind) → idsAfter (putDown b 0 l) (length l) (outcomeOf k) (idOfKind k) ≡ putDown b 0 (l ++ handedBy k)
+pub ids-on : (width : ℕ) → width ≤ idRoom → (b : List ℕ) (l : List Id) (k : Kind) → ((x : Id) → Mem x (handedBy k) → length x ≡ width)
+    → idsAfter width (putDown width b 0 l) (length l) (outcomeOf k) (idOfKind k) ≡ putDown width b 0 (l ++ handedBy k)
 unfolding handedBy
-ids-on b l end = sym (ap (putDown b 0) (append-nil l))
-ids-on b l (refused r) = sym (ap (putDown b 0) (append-nil l))
-ids-on b l (handed x g t) =
+ids-on width small b l end h = sym (ap (putDown width b 0) (append-nil l))
+ids-on width small b l (refused r) h = sym (ap (putDown width b 0) (append-nil l))
+ids-on width small b l (handed x g t) h =
     let e : length l ≡ 0 + length l = omega arith in
-    ap (λ (n : ℕ). setDown (putDown b 0 l) (idBytes * n) x) e ∙ sym (put-more b 0 l x)
+    ap (λ (y : Id). setDown (putDown width b 0 l) (width * length l) y) (id-in width x (h x (List·Memᴰ·head refl)) small)
+    ∙ ap (λ (n : ℕ). setDown (putDown width b 0 l) (width * n) x) e
+    ∙ sym (put-more width b 0 l x)

@@ -1,12 +1,14 @@
--- Ids of 20 bytes set down one behind the other are set down at once, as far as whole ids fit, and are read back as they were. Assumes nothing.
+-- Ids of one width set down one behind the other are set down at once, as far as whole ids fit, and are read back as they were. Assumes nothing.
 use mathlib.Core.Path.{_≡_, refl, sym, _∙_, ap, subst}
 use mathlib.Core.Logic.{⊎-elim}
-use Prim.Native.Nat.{ℕ, zero, suc, _+_, _*_, _-_, _/_, _≤_}
+use Prim.Native.Nat.{ℕ, zero, suc, _+_, _*_, _-_, _/_, _≤_, _<_}
 use mathlib.Core.List.{List, [], _∷_, _++_, append-assoc, List·Memᴰ·head, List·Memᴰ·tail, Memᴰ·append-left}
+use native.Mathlib.Nat.{mul-zero}
 use native.Mathlib.Omega.{arith}
 use lib.ListN.{length, take, drop, length-append, length-take, take-append-drop}
 use lib.Seq.{length-take-le, take-nil, take-at, drop-at, drop-append-add, drop-drop, take-take}
-use Rattle.hash.specs.Bytes.{Id, idBytes, setDown, idsOf}
+use Rattle.hash.specs.Bytes.{Id, setDown, idsOf}
+use Rattle.hash.proofs.Widths.{in-all, ids-fit, fit-ids}
 use Rattle.hash.proofs.Bytes.{setDown-fits, setDown-not, length-setDown}
 use Rattle.hashtable.proofs.TableIds.{less?}
 use Rattle.walk.specs.Reach.{Mem}
@@ -15,19 +17,19 @@ use Rattle.driver.proofs.Ended.{set-down-nothing}
 use Rattle.driver.proofs.Whole.{Wide}
 use Rattle.lister.specs.Walked.{putDown}
 
-wide-head : (x : Id) (l : List Id) → Wide (x ∷ l) → length x ≡ idBytes
-wide-head x l w = w x (List·Memᴰ·head refl)
+wide-head : (width : ℕ) (x : Id) (l : List Id) → Wide width (x ∷ l) → length x ≡ width
+wide-head width x l w = w x (List·Memᴰ·head refl)
 
-wide-tail : (x : Id) (l : List Id) → Wide (x ∷ l) → Wide l
-wide-tail x l w y m = w y (List·Memᴰ·tail m)
+wide-tail : (width : ℕ) (x : Id) (l : List Id) → Wide width (x ∷ l) → Wide width l
+wide-tail width x l w y m = w y (List·Memᴰ·tail m)
 
-wide-take : (n : ℕ) (l : List Id) → Wide l → Wide (take n l)
-wide-take n l w x m = w x (subst (λ (r : List Id). Mem x r) (take-append-drop n l) (Memᴰ·append-left (drop n l) m))
+wide-take : (width : ℕ) (n : ℕ) (l : List Id) → Wide width l → Wide width (take n l)
+wide-take width n l w x m = w x (subst (λ (r : List Id). Mem x r) (take-append-drop n l) (Memᴰ·append-left (drop n l) m))
 
-length-joined : (l : List Id) → Wide l → length (joined l) ≡ idBytes * length l
+length-joined : (width : ℕ) (l : List Id) → Wide width l → length (joined l) ≡ width * length l
 unfolding joined
-length-joined [] w = refl
-length-joined (x ∷ l) w = length-append x (joined l) ∙ omega (arith, wide-head x l w, length-joined l (wide-tail x l w))
+length-joined width [] w = sym (mul-zero width)
+length-joined width (x ∷ l) w = length-append x (joined l) ∙ omega (arith, wide-head width x l w, length-joined width l (wide-tail width x l w))
 
 -- ---- set down at once
 
@@ -51,75 +53,83 @@ set-down-behind b i x y h =
     ∙ ap (λ (j : ℕ). take i b ++ ((x ++ y) ++ drop j b)) (sym k)
     ∙ sym (setDown-fits b i (x ++ y) (omega (arith, h, k)))
 
--- as many ids as fit behind the n before them
-fit : (b : List ℕ) (n : ℕ) (l : List Id) → Wide l → length (joined (take (length b / idBytes - n) l)) ≤ idBytes * (length b / idBytes - n)
-fit b n l w =
-    let m = length b / idBytes - n in
-    omega (arith, length-joined (take m l) (wide-take m l w), length-take m l)
+-- room for n ids, one more and r behind it
+room-behind : (width len n r : ℕ) → 0 < width → suc n + r ≤ len / width → width * n + width + width * r ≤ len
+room-behind width len n r pos h = omega (arith, ids-fit width len (suc n + r) pos h)
 
-pub put-down-all : (b : List ℕ) (n : ℕ) (l : List Id) → Wide l → putDown b n l ≡ setDown b (idBytes * n) (joined (take (length b / idBytes - n) l))
+-- and none for one more
+no-room : (width len n : ℕ) → 0 < width → len / width ≤ n → len < width * n + width
+no-room width len n pos h = ⊎-elim (λ g. g) (λ g. absurd (omega (arith, fit-ids width len (suc n) pos (omega (arith, g)), h))) (less? len (width * n + width))
+
+-- as many ids as fit behind the n before them
+fit : (width : ℕ) (b : List ℕ) (n : ℕ) (l : List Id) → Wide width l → length (joined (take (length b / width - n) l)) ≤ width * (length b / width - n)
+fit width b n l w =
+    let m = length b / width - n in
+    omega (arith, length-joined width (take m l) (wide-take width m l w), in-all width {j = length (take m l)} {k = m} (omega (arith, length-take m l)))
+
+pub put-down-all : (width : ℕ) → 0 < width → (b : List ℕ) (n : ℕ) (l : List Id) → Wide width l → putDown width b n l ≡ setDown b (width * n) (joined (take (length b / width - n) l))
 unfolding putDown joined
-put-down-all b n [] w = sym (ap (λ (r : List Id). setDown b (idBytes * n) (joined r)) (take-nil (length b / idBytes - n)) ∙ set-down-nothing b (idBytes * n))
-put-down-all b n (x ∷ l) w =
-    let c : List ℕ = setDown b (idBytes * n) x in
-    let q : ℕ = length b / idBytes in
+put-down-all width pos b n [] w = sym (ap (λ (r : List Id). setDown b (width * n) (joined r)) (take-nil (length b / width - n)) ∙ set-down-nothing b (width * n))
+put-down-all width pos b n (x ∷ l) w =
+    let c : List ℕ = setDown b (width * n) x in
+    let q : ℕ = length b / width in
     let y : List ℕ = joined (take (q - suc n) l) in
-    let z : idBytes * suc n ≡ idBytes * n + length x = omega (arith, wide-head x l w) in
-    let s : length c ≡ length b = length-setDown b (idBytes * n) x in
-    let rest : putDown c (suc n) l ≡ setDown c (idBytes * suc n) y =
-    put-down-all c (suc n) l (wide-tail x l w) ∙ ap (λ (j : ℕ). setDown c (idBytes * suc n) (joined (take (j / idBytes - suc n) l))) s in
+    let z : width * suc n ≡ width * n + length x = omega (arith, wide-head width x l w) in
+    let s : length c ≡ length b = length-setDown b (width * n) x in
+    let rest : putDown width c (suc n) l ≡ setDown c (width * suc n) y =
+    put-down-all width pos c (suc n) l (wide-tail width x l w) ∙ ap (λ (j : ℕ). setDown c (width * suc n) (joined (take (j / width - suc n) l))) s in
     ⊎-elim
     (λ h.
     let o : q - n ≡ suc (q - suc n) = omega (arith, h) in
     rest
     ∙ ap (λ (j : ℕ). setDown c j y) z
-    ∙ set-down-behind b (idBytes * n) x y (omega (arith, h, fit b (suc n) l (wide-tail x l w), wide-head x l w))
-    ∙ ap (λ (j : ℕ). setDown b (idBytes * n) (joined (take j (x ∷ l)))) (sym o))
+    ∙ set-down-behind b (width * n) x y (omega (arith, fit width b (suc n) l (wide-tail width x l w), wide-head width x l w, room-behind width (length b) n (q - suc n) pos (omega (arith, h))))
+    ∙ ap (λ (j : ℕ). setDown b (width * n) (joined (take j (x ∷ l)))) (sym o))
     (λ h.
     let o : q - n ≡ 0 = omega (arith, h) in
     let u : q - suc n ≡ 0 = omega (arith, h) in
-    let v : c ≡ b = setDown-not b (idBytes * n) x (omega (arith, h, wide-head x l w)) in
+    let v : c ≡ b = setDown-not b (width * n) x (omega (arith, no-room width (length b) n pos h, wide-head width x l w)) in
     rest
-    ∙ ap (λ (j : ℕ). setDown c (idBytes * suc n) (joined (take j l))) u
-    ∙ set-down-nothing c (idBytes * suc n)
+    ∙ ap (λ (j : ℕ). setDown c (width * suc n) (joined (take j l))) u
+    ∙ set-down-nothing c (width * suc n)
     ∙ v
-    ∙ sym (set-down-nothing b (idBytes * n))
-    ∙ ap (λ (j : ℕ). setDown b (idBytes * n) (joined (take j (x ∷ l)))) (sym o))
+    ∙ sym (set-down-nothing b (width * n))
+    ∙ ap (λ (j : ℕ). setDown b (width * n) (joined (take j (x ∷ l)))) (sym o))
     (less? n q)
 
 -- ---- read back
 
-ids-read : (k : ℕ) (l : List Id) (r : List ℕ) → Wide l → k ≤ length l → idsOf idBytes k (joined l ++ r) ≡ take k l
+ids-read : (width : ℕ) (k : ℕ) (l : List Id) (r : List ℕ) → Wide width l → k ≤ length l → idsOf width k (joined l ++ r) ≡ take k l
 unfolding idsOf joined
-ids-read zero l r w h = refl
-ids-read (suc k) [] r w h = absurd (omega (arith, h))
-ids-read (suc k) (x ∷ l) r w h =
+ids-read width zero l r w h = refl
+ids-read width (suc k) [] r w h = absurd (omega (arith, h))
+ids-read width (suc k) (x ∷ l) r w h =
     let e : (x ++ joined l) ++ r ≡ x ++ (joined l ++ r) = append-assoc x (joined l) r in
-    ap (λ (b : List ℕ). take idBytes b ∷ idsOf idBytes k (drop idBytes b)) e
-    ∙ ap (λ (y : Id). y ∷ idsOf idBytes k (drop idBytes (x ++ (joined l ++ r)))) (take-at x (joined l ++ r) idBytes (wide-head x l w))
-    ∙ ap (λ (b : List ℕ). x ∷ idsOf idBytes k b) (drop-at x (joined l ++ r) idBytes (wide-head x l w))
-    ∙ ap (λ (t : List Id). x ∷ t) (ids-read k l r (wide-tail x l w) (omega (arith, h)))
+    ap (λ (b : List ℕ). take width b ∷ idsOf width k (drop width b)) e
+    ∙ ap (λ (y : Id). y ∷ idsOf width k (drop width (x ++ (joined l ++ r)))) (take-at x (joined l ++ r) width (wide-head width x l w))
+    ∙ ap (λ (b : List ℕ). x ∷ idsOf width k b) (drop-at x (joined l ++ r) width (wide-head width x l w))
+    ∙ ap (λ (t : List Id). x ∷ t) (ids-read width k l r (wide-tail width x l w) (omega (arith, h)))
 
 -- the first k of the ids set down from the start, where there is room for k
-pub read-back : (b : List ℕ) (l : List Id) (k : ℕ) → Wide l → k ≤ length l → idBytes * k ≤ length b → idsOf idBytes k (setDown b 0 (joined (take (length b / idBytes) l))) ≡ take k l
-read-back b l k w h g =
-    let q : ℕ = length b / idBytes in
+pub read-back : (width : ℕ) → 0 < width → (b : List ℕ) (l : List Id) (k : ℕ) → Wide width l → k ≤ length l → width * k ≤ length b → idsOf width k (setDown b 0 (joined (take (length b / width) l))) ≡ take k l
+read-back width pos b l k w h g =
+    let q : ℕ = length b / width in
     let t : List Id = take q l in
-    let n : length (joined t) ≡ idBytes * length t = length-joined t (wide-take q l w) in
+    let n : length (joined t) ≡ width * length t = length-joined width t (wide-take width q l w) in
     let m = length-take q l in
-    ap (idsOf idBytes k) (setDown-fits b 0 (joined t) (omega (arith, n, m)))
-    ∙ ids-read k t (drop (0 + length (joined t)) b) (wide-take q l w) (omega (arith, g, h, m))
-    ∙ take-take k q l (omega (arith, g))
+    ap (idsOf width k) (setDown-fits b 0 (joined t) (omega (arith, n, ids-fit width (length b) (length t) pos (omega (arith, m)))))
+    ∙ ids-read width k t (drop (0 + length (joined t)) b) (wide-take width q l w) (omega (arith, fit-ids width (length b) k pos g, h, m))
+    ∙ take-take k q l (fit-ids width (length b) k pos g)
 
 -- past them every byte is as it was
-pub kept-past : (b : List ℕ) (l : List Id) (k : ℕ) → Wide l → k ≡ length l → idBytes * k ≤ length b → drop (idBytes * k) (setDown b 0 (joined (take (length b / idBytes) l))) ≡ drop (idBytes * k) b
-kept-past b l k w h g =
-    let q : ℕ = length b / idBytes in
+pub kept-past : (width : ℕ) → 0 < width → (b : List ℕ) (l : List Id) (k : ℕ) → Wide width l → k ≡ length l → width * k ≤ length b → drop (width * k) (setDown b 0 (joined (take (length b / width) l))) ≡ drop (width * k) b
+kept-past width pos b l k w h g =
+    let q : ℕ = length b / width in
     let t : List Id = take q l in
-    let n : length (joined t) ≡ idBytes * length t = length-joined t (wide-take q l w) in
+    let n : length (joined t) ≡ width * length t = length-joined width t (wide-take width q l w) in
     let m = length-take q l in
-    let s : length (joined t) ≡ idBytes * k = omega (arith, n, m, g, h) in
-    let o : 0 + length (joined t) ≡ idBytes * k = omega (arith, s) in
-    ap (drop (idBytes * k)) (setDown-fits b 0 (joined t) (omega (arith, s, g)))
-    ∙ drop-at (joined t) (drop (0 + length (joined t)) b) (idBytes * k) s
+    let s : length (joined t) ≡ width * k = n ∙ ap (λ (j : ℕ). width * j) (omega (arith, m, h, fit-ids width (length b) k pos g)) in
+    let o : 0 + length (joined t) ≡ width * k = omega (arith, s) in
+    ap (drop (width * k)) (setDown-fits b 0 (joined t) (omega (arith, s, g)))
+    ∙ drop-at (joined t) (drop (0 + length (joined t)) b) (width * k) s
     ∙ ap (λ (j : ℕ). drop j b) o

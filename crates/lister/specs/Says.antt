@@ -3,13 +3,13 @@ use Prim.Native.Nat.{ℕ, _+_, _/_}
 use mathlib.Core.Path.{_≡_}
 use mathlib.Core.List.{List}
 use lib.ListN.{length, take}
-use Rattle.hash.specs.Bytes.{idBytes, setDown}
+use Rattle.hash.specs.Bytes.{setDown}
 use Rattle.walk.specs.declared.Refusal.{Refusal}
 use Rattle.walk.specs.declared.Outcome.the-variants.{End}
 use Rattle.walk.specs.declared.OpenOutcome.{OpenOutcome}
 use Rattle.walk.specs.declared.OpenOutcome.the-variants.{Accepted, NotOpened}
 use Rattle.walk.specs.State.{State}
-use Rattle.walk.specs.Opening.{Input, P, roomFor, openWalk, closed, opened}
+use Rattle.walk.specs.Opening.{Input, widthIn, P, roomFor, openWalk, closed, opened}
 use Rattle.walk.specs.Calls.{stateAfter}
 use Rattle.walk.specs.Given.{joined}
 use Rattle.state.specs.declared.Record.{Record}
@@ -35,8 +35,8 @@ pub record Whole (i : Input) (m : Lent) (ids : List ℕ) (l : Listing) (m′ : L
   -- how many calls were refused, and the first refusal
   pub refused : l .refused ≡ refusals (allAnswers i)
   pub reason : l .reason ≡ firstRefusal (allAnswers i)
-  -- the list from the start of ids, 20 bytes an id, as far as whole ids fit; every other byte is as it was
-  pub set-down : ids′ ≡ setDown ids 0 (joined (take (length ids / idBytes) (wholeList i)))
+  -- the list from the start of ids, each as wide as the kind says, as far as whole ids fit; every other byte is as it was
+  pub set-down : ids′ ≡ setDown ids 0 (joined (take (length ids / widthIn i) (wholeList i)))
   -- what the calls leave in parents, and working memory that reads as the walk's last state
   pub parents : m′ .parents ≡ parentsLeft (allAnswers i) (m .parents)
   pub reads : Reads (l .record) (m′ .memory) (shapeOf i) (stateAfter i (P i + 2))

@@ -1,7 +1,7 @@
 -- The refusals among a walk's answers, and ids set down one behind the other. Assumes nothing.
 use Prim.Native.Nat.{ℕ, suc, _+_, _*_}
 use mathlib.Core.List.{List, [], _∷_}
-use Rattle.hash.specs.Bytes.{Id, idBytes, setDown}
+use Rattle.hash.specs.Bytes.{Id, setDown}
 use Rattle.walk.specs.declared.Outcome.{Outcome}
 use Rattle.walk.specs.declared.Outcome.the-variants.{End, Refused}
 use Rattle.walk.specs.Next.{Kind, end, refused, handed, Answer}
@@ -28,7 +28,7 @@ unfoldable pub firstRefusal : List Answer → Outcome
 firstRefusal [] = End
 firstRefusal (a ∷ rest) = refusalOr (a .kind) (firstRefusal rest)
 
--- ids set down one behind the other, behind n others; one that does not fit changes nothing
-unfoldable pub putDown : List ℕ → ℕ → List Id → List ℕ
-putDown b n [] = b
-putDown b n (x ∷ xs) = putDown (setDown b (idBytes * n) x) (suc n) xs
+-- ids so wide set down one behind the other, behind n others; one that does not fit changes nothing
+unfoldable pub putDown : ℕ → List ℕ → ℕ → List Id → List ℕ
+putDown width b n [] = b
+putDown width b n (x ∷ xs) = putDown width (setDown b (width * n) x) (suc n) xs

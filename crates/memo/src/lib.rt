@@ -6,12 +6,12 @@ use object::Reading;
 ghost use mathlib.Core.Path.{_≡_};
 ghost use Prim.Native.Nat.{_+_, _*_, _<_, _≤_};
 ghost use lib.ListN.{length};
-ghost use Rattle.hash.specs.Bytes.{idBytes};
 ghost use Rattle.object.specs.Header.{header};
 ghost use Rattle.object.specs.Read.{readingOf};
 ghost use Rattle.odb.specs.Store.{standingEntries};
 ghost use Rattle.memo.specs.Cells.{rowCells, sideCells, cellAt, codeOf, hasCell, recalled, noted, AllZero};
 ghost use Rattle.memo.specs.AtHand.{parentsRead, EntryOf};
+ghost use Rattle.hash.specs.Bytes.{widthOf};
 
 // The cells of a row, and of either bench in it: for 0 to 12 moves.
 const ROW_CELLS: usize = 26;
@@ -77,20 +77,20 @@ pub fn clear(memo: &mut [u8])
 }
 
 // The number of the entry under an id, n where none is found.
-pub fn entry_of(store: &[u8], n: usize, id: &[u8]) -> usize
-    ensures { λ r. ⌜ EntryOf (now (store .entry)) n (now (id .entry)) r ⌝ }
+pub fn entry_of(kind: Kind, store: &[u8], n: usize, id: &[u8]) -> usize
+    ensures { λ r. ⌜ EntryOf (widthOf kind) (now (store .entry)) n (now (id .entry)) r ⌝ }
 {
     let mut found = false;
     let mut entry = n;
-    odb::try_find_noting(Kind::Sha1, store, id, &mut found, &mut entry);
+    odb::try_find_noting(kind, store, id, &mut found, &mut entry);
     entry
 }
 
 // The number of parents of a readable body; 0 of any other.
-pub fn parent_count(body: &[u8]) -> usize
-    ensures { λ r. ⌜ r ≡ parentsRead (readingOf (header idBytes (now (body .entry)))) ⌝ }
+pub fn parent_count(kind: Kind, body: &[u8]) -> usize
+    ensures { λ r. ⌜ r ≡ parentsRead (readingOf (header (widthOf kind) (now (body .entry)))) ⌝ }
 {
-    match object::readable(Kind::Sha1, body) {
+    match object::readable(kind, body) {
         Reading::Readable { parents, .. } => parents,
         Reading::Bad => 0,
         Reading::Crowded => 0,

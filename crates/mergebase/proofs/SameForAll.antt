@@ -6,6 +6,7 @@ use mathlib.Core.List.{List, [], _∷_, List·Memᴰ·head, List·Memᴰ·tail, 
 use mathlib.Core.Logic.{⊎-elim}
 use Prim.Native.Nat.{ℕ}
 use Rattle.hash.specs.Bytes.{Id}
+use Rattle.hash.specs.declared.Kind.{Kind}
 use Rattle.walk.specs.Lookup.{World}
 use Rattle.walk.specs.Opening.{Lengths}
 use Rattle.walk.specs.Reach.{Mem}
@@ -81,6 +82,6 @@ said-swap {w} {a} {b} (first r x h) = first (all-swap w a b r) x (first-swap h)
 said-swap {w} {a} {b} (tangled r x c n) = tangled (all-swap w a b r) x (common-swap c) (λ y g. n y (best-swap g))
 
 -- two calls over one store, with the tips in either order and in any memory that is enough, say the same
-pub same-for-all : {store : List ℕ} {a b : Id} {l k : Lengths} {m m′ n n′ : Lent} {v v′ u u′ : List ℕ} {r q : MergeBase} → MergeBaseSays store a b l m m′ v v′ r → MergeBaseSays store b a k n n′ u u′ q
-    → earlyRefusal store a b l ≡ none → earlyRefusal store b a k ≡ none → r ≡ q
+pub same-for-all : {kind : Kind} {store : List ℕ} {a b : Id} {l k : Lengths} {m m′ n n′ : Lent} {v v′ u u′ : List ℕ} {r q : MergeBase} → MergeBaseSays kind store a b l m m′ v v′ r → MergeBaseSays kind store b a k n n′ u u′ q
+    → earlyRefusal kind store a b l ≡ none → earlyRefusal kind store b a k ≡ none → r ≡ q
 same-for-all one other e f = said-once (one .parts e []) (said-swap (other .parts f []))

@@ -4,7 +4,8 @@ use Prim.Native.Nat.{ℕ}
 use mathlib.Core.Path.{_≡_}
 use mathlib.Core.Option.{none, some}
 use mathlib.Core.List.{List, [], _∷_}
-use Rattle.hash.specs.Bytes.{Id}
+use Rattle.hash.specs.Bytes.{Id, widthOf}
+use Rattle.hash.specs.declared.Kind.{Kind}
 use Rattle.walk.specs.declared.Refusal.{Refusal}
 use Rattle.walk.specs.declared.Refusal.the-variants.{UnreadableReach, TangledReach}
 use Rattle.walk.specs.Lookup.{World, worldOf}
@@ -24,6 +25,6 @@ pub data FirstParts (w : World) (a b : Id) : MergeBase → Type 0 where
   tangled : AllReadable w (a ∷ b ∷ []) → (x : Id) → Common w a b x → ((y : Id) → Best w a b y → ⊥) → FirstParts w a b (refusedBase TangledReach)
 
 -- after 2, 4 and 1 nothing is altered; otherwise what is said is right, whatever a graph file would say
-pub record MergeBaseSays (store : List ℕ) (a b : Id) (l : Lengths) (m m′ : Lent) (levels levels′ : List ℕ) (r : MergeBase) : Type 0 where
-  pub early : (n : Refusal) → earlyRefusal store a b l ≡ some n → (r ≡ refusedBase n) × (m′ ≡ m) × (levels′ ≡ levels)
-  pub parts : earlyRefusal store a b l ≡ none → (g : List ℕ) → FirstParts (worldOf store g) a b r
+pub record MergeBaseSays (kind : Kind) (store : List ℕ) (a b : Id) (l : Lengths) (m m′ : Lent) (levels levels′ : List ℕ) (r : MergeBase) : Type 0 where
+  pub early : (n : Refusal) → earlyRefusal kind store a b l ≡ some n → (r ≡ refusedBase n) × (m′ ≡ m) × (levels′ ≡ levels)
+  pub parts : earlyRefusal kind store a b l ≡ none → (g : List ℕ) → FirstParts (worldOf (widthOf kind) store g) a b r

@@ -8,7 +8,8 @@ use mathlib.Core.Option.{Option, none, some}
 use mathlib.Core.List.{List, [], _∷_, _++_}
 use lib.ListN.{length}
 use lib.Dec.{leb}
-use Rattle.hash.specs.Bytes.{Id, idBytes}
+use Rattle.hash.specs.Bytes.{Id, widthOf}
+use Rattle.hash.specs.declared.Kind.{Kind}
 use Rattle.object.specs.Ids.{padded}
 use Rattle.odb.specs.Store.{storeOk}
 use Rattle.reading.specs.Body.{noBytes}
@@ -27,15 +28,15 @@ use Rattle.mergebase.specs.declared.Parted.the-variants.{Nothing, Commit
 
 -- ---- 2, 4 and 1
 
--- "two tips and no graph"; settings play no part in P
-abbrev pub tipsInput : List ℕ → Id → Id → Input
-tipsInput store a b = inputOf store [] (a ++ b) [] [] (record { sorting = BreadthFirst; parents = All })
+-- "two tips and no graph"; of the settings the kind of ids alone plays a part in P
+abbrev pub tipsInput : Kind → List ℕ → Id → Id → Input
+tipsInput kind store a b = inputOf store [] (a ++ b) [] [] (record { sorting = BreadthFirst; parents = All; kind = kind })
 
 -- "before that 2, 4 and 1": the first that applies
-unfoldable pub earlyRefusal : List ℕ → Id → Id → Lengths → Option Refusal
-earlyRefusal store a b l =
-    let one : Option Refusal = cond (roomFor (tipsInput store a b) l) none (some BufferTooSmall) in
-    let four : Option Refusal = cond (storeOk idBytes store) one (some CorruptStore) in
+unfoldable pub earlyRefusal : Kind → List ℕ → Id → Id → Lengths → Option Refusal
+earlyRefusal kind store a b l =
+    let one : Option Refusal = cond (roomFor (tipsInput kind store a b) l) none (some BufferTooSmall) in
+    let four : Option Refusal = cond (storeOk (widthOf kind) store) one (some CorruptStore) in
     cond (leb (length store) 16777216) four (some InputTooLarge)
 
 -- ---- the answers

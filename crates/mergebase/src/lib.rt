@@ -11,9 +11,10 @@ use walk::Refusal;
 ghost use mathlib.Core.Path.{_≡_};
 ghost use Prim.Native.Nat.{_+_, _/_};
 ghost use lib.ListN.{length};
-ghost use Rattle.hash.specs.Bytes.{Id, idBytes};
+ghost use Rattle.hash.specs.Bytes.{Id, widthOf};
 ghost use Rattle.object.specs.Ids.{idIn};
-ghost use Rattle.walk.specs.Opening.{parentBytes, listIds};
+ghost use Rattle.object.specs.Header.{parentSize};
+ghost use Rattle.walk.specs.Opening.{listIds};
 ghost use Rattle.opening.specs.Checks.{lengthsOf, checkedOf};
 ghost use Rattle.reach.specs.Memory.{lent};
 ghost use Rattle.mergebase.specs.Parting.{earlyRefusal};
@@ -45,14 +46,15 @@ pub enum Place {
 const MOST_FILE: usize = 16777216;
 
 // How many places two tips need without a graph, over a store of n bytes (document 01's P).
-fn places(n: usize) -> usize
-    ensures { λ r. ⌜ r ≡ 2 + n / parentBytes ⌝ }
+fn places(kind: Kind, n: usize) -> usize
+    ensures { λ r. ⌜ r ≡ 2 + n / parentSize (widthOf kind) ⌝ }
 {
-    2 + n / object::parent_size(Kind::Sha1)
+    2 + n / object::parent_size(kind)
 }
 
 // Refusals 2, 4 and 1, in order.
 fn check(
+    kind: Kind,
     store: &[u8],
     names: usize,
     marks: usize,
@@ -61,16 +63,17 @@ fn check(
     line: usize,
     parents: usize,
 ) -> Checked
-    ensures { λ r. ⌜ ((a b : Id) → length a ≡ idBytes → length b ≡ idBytes → r ≡ checkedOf (earlyRefusal (now (store .entry)) a b (lengthsOf names marks levels times line parents))) ⌝ }
+    ensures { λ r. ⌜ ((a b : Id) → length a ≡ widthOf kind → length b ≡ widthOf kind → r ≡ checkedOf (earlyRefusal kind (now (store .entry)) a b (lengthsOf names marks levels times line parents))) ⌝ }
 {
     if MOST_FILE < store.len() {
         return Checked::Refused(Refusal::InputTooLarge);
     }
-    if !odb::is_good(Kind::Sha1, store) {
+    if !odb::is_good(kind, store) {
         return Checked::Refused(Refusal::CorruptStore);
     }
     if !opening::has_room(
-        places(store.len()),
+        kind,
+        places(kind, store.len()),
         names,
         marks,
         levels,
@@ -96,6 +99,7 @@ fn place_of(choice: Choice) -> Place
 
 // The first best commit after both searches, the first of which met n.
 fn best_of(
+    kind: Kind,
     names: &[u8],
     marks: &[u8],
     levels: &mut [u32],
@@ -104,15 +108,16 @@ fn best_of(
     store: &[u8],
     n: usize,
 ) -> Place
-    ensures { λ r. ⌜ BestOf (now (store .entry)) (lent (now (names .entry)) (now (marks .entry)) (now (line .entry))) (now (levels .entry)) cap n r ⌝ }
+    ensures { λ r. ⌜ BestOf (widthOf kind) (now (store .entry)) (lent (now (names .entry)) (now (marks .entry)) (now (line .entry))) (now (levels .entry)) cap n r ⌝ }
 {
     stain::clear(levels, cap);
-    stain::stain_all(names, marks, levels, line, cap, store, n);
-    place_of(parting::choose(names, marks, levels, line, store, n))
+    stain::stain_all(kind, names, marks, levels, line, cap, store, n);
+    place_of(parting::choose(kind, names, marks, levels, line, store, n))
 }
 
 // The search from the other tip, after that from one, which met n.
 fn part_from(
+    kind: Kind,
     names: &mut [u8],
     marks: &mut [u8],
     levels: &mut [u32],
@@ -122,10 +127,10 @@ fn part_from(
     other: &[u8],
     n: usize,
 ) -> Place
-    ensures { λ r. ⌜ PartsFrom (now (store .entry)) (lent (now (names .entry)) (now (marks .entry)) (now (line .entry))) (lent (now (names .exit)) (now (marks .exit)) (now (line .exit))) (now (levels .entry)) cap n (listIds (now (other .entry))) r ⌝ }
+    ensures { λ r. ⌜ PartsFrom (widthOf kind) (now (store .entry)) (lent (now (names .entry)) (now (marks .entry)) (now (line .entry))) (lent (now (names .exit)) (now (marks .exit)) (now (line .exit))) (now (levels .entry)) cap n (listIds (widthOf kind) (now (other .entry))) r ⌝ }
 {
-    match reach::search_from(names, marks, line, cap, true, cap, store, other) {
-        Sought::Whole(_) => best_of(names, marks, levels, line, cap, store, n),
+    match reach::search_from(kind, names, marks, line, cap, true, cap, store, other) {
+        Sought::Whole(_) => best_of(kind, names, marks, levels, line, cap, store, n),
         Sought::Unreadable => Place::Refused(Refusal::UnreadableReach),
         Sought::NoRoom => Place::Refused(Refusal::BufferTooSmall),
     }
@@ -133,6 +138,7 @@ fn part_from(
 
 // Both searches, in memory that has room for them.
 fn part_tips(
+    kind: Kind,
     names: &mut [u8],
     marks: &mut [u8],
     levels: &mut [u32],
@@ -142,19 +148,19 @@ fn part_tips(
     one: &[u8],
     other: &[u8],
 ) -> Place
-    ensures { λ r. ⌜ PartsTips (now (store .entry)) (lent (now (names .entry)) (now (marks .entry)) (now (line .entry))) (lent (now (names .exit)) (now (marks .exit)) (now (line .exit))) (now (levels .entry)) cap (listIds (now (one .entry))) (listIds (now (other .entry))) r ⌝ }
+    ensures { λ r. ⌜ PartsTips (widthOf kind) (now (store .entry)) (lent (now (names .entry)) (now (marks .entry)) (now (line .entry))) (lent (now (names .exit)) (now (marks .exit)) (now (line .exit))) (now (levels .entry)) cap (listIds (widthOf kind) (now (one .entry))) (listIds (widthOf kind) (now (other .entry))) r ⌝ }
 {
     table::clear(marks, cap);
-    match reach::search_from(names, marks, line, cap, false, 0, store, one) {
-        Sought::Whole(n) => part_from(names, marks, levels, line, cap, store, other, n),
+    match reach::search_from(kind, names, marks, line, cap, false, 0, store, one) {
+        Sought::Whole(n) => part_from(kind, names, marks, levels, line, cap, store, other, n),
         Sought::Unreadable => Place::Refused(Refusal::UnreadableReach),
         Sought::NoRoom => Place::Refused(Refusal::BufferTooSmall),
     }
 }
 
 // The answer by its place.
-fn answer(names: &[u8], place: Place) -> MergeBase
-    ensures { λ r. ⌜ r ≡ answerOf (now (names .entry)) place ⌝ }
+fn answer(kind: Kind, names: &[u8], place: Place) -> MergeBase
+    ensures { λ r. ⌜ r ≡ answerOf (widthOf kind) (now (names .entry)) place ⌝ }
 {
     match place {
         Place::Nothing => MergeBase {
@@ -163,7 +169,7 @@ fn answer(names: &[u8], place: Place) -> MergeBase
         },
         Place::Commit(slot) => MergeBase {
             outcome: Parted::Commit,
-            commit: object::id_of(table::id_of(Kind::Sha1, names, slot as usize)),
+            commit: object::id_of(table::id_of(kind, names, slot as usize)),
         },
         Place::Refused(r) => MergeBase {
             outcome: Parted::Refused(r),
@@ -174,6 +180,7 @@ fn answer(names: &[u8], place: Place) -> MergeBase
 
 // The call: 2, 4 and 1 are tested first and alter nothing; after that the lent memory is free, and what is said is right.
 pub fn merge_base(
+    kind: Kind,
     store: &[u8],
     one: ObjectId,
     other: ObjectId,
@@ -184,9 +191,10 @@ pub fn merge_base(
     line: &mut [u32],
     parents: &[u8],
 ) -> MergeBase
-    ensures { λ r. ⌜ MergeBaseSays (now (store .entry)) (idIn idBytes (one .bytes)) (idIn idBytes (other .bytes)) (lengthsOf (length (now (names .entry))) (length (now (marks .entry))) (length (now (levels .entry))) (length (now (times .entry))) (length (now (line .entry))) (length (now (parents .entry)))) (lent (now (names .entry)) (now (marks .entry)) (now (line .entry))) (lent (now (names .exit)) (now (marks .exit)) (now (line .exit))) (now (levels .entry)) (now (levels .exit)) r ⌝ }
+    ensures { λ r. ⌜ MergeBaseSays kind (now (store .entry)) (idIn (widthOf kind) (one .bytes)) (idIn (widthOf kind) (other .bytes)) (lengthsOf (length (now (names .entry))) (length (now (marks .entry))) (length (now (levels .entry))) (length (now (times .entry))) (length (now (line .entry))) (length (now (parents .entry)))) (lent (now (names .entry)) (now (marks .entry)) (now (line .entry))) (lent (now (names .exit)) (now (marks .exit)) (now (line .exit))) (now (levels .entry)) (now (levels .exit)) r ⌝ }
 {
     let checked = check(
+        kind,
         store,
         names.len(),
         marks.len(),
@@ -196,19 +204,20 @@ pub fn merge_base(
         parents.len(),
     );
     match checked {
-        Checked::Refused(r) => answer(names, Place::Refused(r)),
+        Checked::Refused(r) => answer(kind, names, Place::Refused(r)),
         Checked::Fine => {
             let place = part_tips(
+                kind,
                 names,
                 marks,
                 levels,
                 line,
-                places(store.len()),
+                places(kind, store.len()),
                 store,
-                object::id_slice(Kind::Sha1, &one.bytes),
-                object::id_slice(Kind::Sha1, &other.bytes),
+                object::id_slice(kind, &one.bytes),
+                object::id_slice(kind, &other.bytes),
             );
-            answer(names, place)
+            answer(kind, names, place)
         }
     }
 }

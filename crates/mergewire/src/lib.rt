@@ -1,22 +1,24 @@
-// Where two series part, for callers in other languages: the tips as bytes, and the answer as an id and a number in lent slices. Every function
+// Where two series part, for callers in other languages: the width of ids as a number, the tips as bytes, and the answer as an id and a number in lent slices. Every function
 // is total on any bytes, numbers and lengths.
 use hash::Kind;
 use mergebase::MergeBase;
 use mergebase::Parted;
 ghost use mathlib.Core.Path.{_≡_};
 ghost use lib.ListN.{length};
+ghost use Rattle.hash.specs.Bytes.{widthOf};
 ghost use Rattle.opening.specs.Checks.{lengthsOf};
 ghost use Rattle.reach.specs.Memory.{lent};
+ghost use Rattle.wire.specs.Words.{kindOf};
 ghost use Rattle.mergewire.specs.Wire.{partedNumber, found, roomToPart, PutsBase, LibraryMergeBase};
 
 // The library's result where the tips or what an answer is set down in are too short: none of document 01's numbers.
 const NO_ROOM: u32 = 101;
 
 // Whether both tips are whole, and there is room for an id and a number.
-fn can_part(one: &[u8], other: &[u8], id: &[u8], numbers: &[u64]) -> bool
-    ensures { λ r. ⌜ r ≡ roomToPart (now (one .entry)) (now (other .entry)) (now (id .entry)) (now (numbers .entry)) ⌝ }
+fn can_part(kind: Kind, one: &[u8], other: &[u8], id: &[u8], numbers: &[u64]) -> bool
+    ensures { λ r. ⌜ r ≡ roomToPart (widthOf kind) (now (one .entry)) (now (other .entry)) (now (id .entry)) (now (numbers .entry)) ⌝ }
 {
-    let w = hash::width(Kind::Sha1);
+    let w = hash::width(kind);
     if one.len() < w {
         return false;
     }
@@ -58,19 +60,20 @@ fn has_commit(o: Parted) -> u64
 }
 
 // An answer set down, and its number.
-fn put_base(r: MergeBase, id: &mut [u8], numbers: &mut [u64]) -> u32
-    ensures { λ n. ⌜ PutsBase r (now (id .entry)) (now (id .exit)) (now (numbers .entry)) (now (numbers .exit)) n ⌝ }
+fn put_base(kind: Kind, r: MergeBase, id: &mut [u8], numbers: &mut [u64]) -> u32
+    ensures { λ n. ⌜ PutsBase (widthOf kind) r (now (id .entry)) (now (id .exit)) (now (numbers .entry)) (now (numbers .exit)) n ⌝ }
 {
     let o = r.outcome;
     let w = [has_commit(o)];
     wire::put(numbers, &w);
     let x = r.commit;
-    hash::set_down(id, 0, object::id_slice(Kind::Sha1, &x.bytes));
+    hash::set_down(id, 0, object::id_slice(kind, &x.bytes));
     number(o)
 }
 
 // The call, its answer set down; without room for it, or with a tip that is no whole id, nothing is altered and the result is 101.
 pub fn merge_base(
+    width: u32,
     store: &[u8],
     one: &[u8],
     other: &[u8],
@@ -83,12 +86,14 @@ pub fn merge_base(
     id: &mut [u8],
     numbers: &mut [u64],
 ) -> u32
-    ensures { λ n. ⌜ LibraryMergeBase (now (store .entry)) (now (one .entry)) (now (other .entry)) (lengthsOf (length (now (names .entry))) (length (now (marks .entry))) (length (now (levels .entry))) (length (now (times .entry))) (length (now (line .entry))) (length (now (parents .entry)))) (lent (now (names .entry)) (now (marks .entry)) (now (line .entry))) (lent (now (names .exit)) (now (marks .exit)) (now (line .exit))) (now (levels .entry)) (now (levels .exit)) (now (id .entry)) (now (id .exit)) (now (numbers .entry)) (now (numbers .exit)) n ⌝ }
+    ensures { λ n. ⌜ LibraryMergeBase (kindOf width) (now (store .entry)) (now (one .entry)) (now (other .entry)) (lengthsOf (length (now (names .entry))) (length (now (marks .entry))) (length (now (levels .entry))) (length (now (times .entry))) (length (now (line .entry))) (length (now (parents .entry)))) (lent (now (names .entry)) (now (marks .entry)) (now (line .entry))) (lent (now (names .exit)) (now (marks .exit)) (now (line .exit))) (now (levels .entry)) (now (levels .exit)) (now (id .entry)) (now (id .exit)) (now (numbers .entry)) (now (numbers .exit)) n ⌝ }
 {
-    if !can_part(one, other, id, numbers) {
+    let kind = wire::kind_of(width);
+    if !can_part(kind, one, other, id, numbers) {
         return NO_ROOM;
     }
     let r = mergebase::merge_base(
+        kind,
         store,
         object::id_of(one),
         object::id_of(other),
@@ -99,5 +104,5 @@ pub fn merge_base(
         line,
         parents,
     );
-    put_base(r, id, numbers)
+    put_base(kind, r, id, numbers)
 }

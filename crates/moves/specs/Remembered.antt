@@ -3,7 +3,7 @@ use Prim.Native.Nat.{ℕ, _<_}
 use mathlib.Core.Path.{_≡_}
 use mathlib.Core.Bool.{Bool, true, false}
 use mathlib.Core.List.{List}
-use Rattle.hash.specs.Bytes.{Id, idBytes, among}
+use Rattle.hash.specs.Bytes.{Id, among}
 use Rattle.odb.specs.Store.{standingEntries, storeOk}
 use Rattle.walk.specs.Reach.{links}
 use Rattle.memo.specs.Cells.{codeOf, Holds}
@@ -11,27 +11,27 @@ use Rattle.memo.specs.AtHand.{storeAlone, idAt, EntryOf}
 use Rattle.moves.specs.Game.{forced, bedForced, firstOf}
 
 -- what the cells mean: the game from an entry, a bench to move, with so many moves
-abbrev pub played : List ℕ → List Id → ℕ → Bool → ℕ → Bool
-played s list k bed d = forced (storeAlone s) list bed d (idAt s k)
+abbrev pub played : ℕ → List ℕ → List Id → ℕ → Bool → ℕ → Bool
+played width s list k bed d = forced (storeAlone width s) list bed d (idAt width s k)
 
-abbrev pub Remembers : List ℕ → List Id → List ℕ → Type 0
-Remembers s list m = Holds (played s list) (standingEntries idBytes s) m
+abbrev pub Remembers : ℕ → List ℕ → List Id → List ℕ → Type 0
+Remembers width s list m = Holds (played width s list) (standingEntries width s) m
 
 -- whether x is on the list, k being its entry
-pub record Lists (s : List ℕ) (list : List Id) (k : ℕ) (x : Id) (m m′ : List ℕ) (r : Bool) : Type 0 where
-  pub right : EntryOf s (standingEntries idBytes s) x k → Remembers s list m → (r ≡ among x list) × Remembers s list m′
+pub record Lists (width : ℕ) (s : List ℕ) (list : List Id) (k : ℕ) (x : Id) (m m′ : List ℕ) (r : Bool) : Type 0 where
+  pub right : EntryOf width s (standingEntries width s) x k → Remembers width s list m → (r ≡ among x list) × Remembers width s list m′
 
 -- what is settled without a move: 0 where nothing is
-pub record Settles (s : List ℕ) (list : List Id) (k : ℕ) (bed : Bool) (d : ℕ) (x : Id) (m m′ : List ℕ) (r : ℕ) : Type 0 where
+pub record Settles (width : ℕ) (s : List ℕ) (list : List Id) (k : ℕ) (bed : Bool) (d : ℕ) (x : Id) (m m′ : List ℕ) (r : ℕ) : Type 0 where
   pub left : r ≡ 0 → 0 < d
-  pub keeps : EntryOf s (standingEntries idBytes s) x k → Remembers s list m → Remembers s list m′
-  pub open′ : EntryOf s (standingEntries idBytes s) x k → Remembers s list m → r ≡ 0 → among x list ≡ false
-  pub known : EntryOf s (standingEntries idBytes s) x k → Remembers s list m → (r ≡ 0 → ⊥) → r ≡ codeOf (forced (storeAlone s) list bed d x)
+  pub keeps : EntryOf width s (standingEntries width s) x k → Remembers width s list m → Remembers width s list m′
+  pub open′ : EntryOf width s (standingEntries width s) x k → Remembers width s list m → r ≡ 0 → among x list ≡ false
+  pub known : EntryOf width s (standingEntries width s) x k → Remembers width s list m → (r ≡ 0 → ⊥) → r ≡ codeOf (forced (storeAlone width s) list bed d x)
 
 -- whether the cone forces the trace, a bench to move
-pub record Judges (s : List ℕ) (list : List Id) (bed : Bool) (d : ℕ) (x : Id) (m m′ : List ℕ) (r : Bool) : Type 0 where
-  pub right : storeOk idBytes s ≡ true → Remembers s list m → (r ≡ forced (storeAlone s) list bed d x) × Remembers s list m′
+pub record Judges (width : ℕ) (s : List ℕ) (list : List Id) (bed : Bool) (d : ℕ) (x : Id) (m m′ : List ℕ) (r : Bool) : Type 0 where
+  pub right : storeOk width s ≡ true → Remembers width s list m → (r ≡ forced (storeAlone width s) list bed d x) × Remembers width s list m′
 
 -- the number of the first parent from which the cone forces it, the bed to move with d moves left
-pub record FindsFirst (s : List ℕ) (list : List Id) (d : ℕ) (x : Id) (m m′ : List ℕ) (r : ℕ) : Type 0 where
-  pub right : storeOk idBytes s ≡ true → Remembers s list m → (r ≡ firstOf (λ p. bedForced d (storeAlone s) list p) (links (storeAlone s) x)) × Remembers s list m′
+pub record FindsFirst (width : ℕ) (s : List ℕ) (list : List Id) (d : ℕ) (x : Id) (m m′ : List ℕ) (r : ℕ) : Type 0 where
+  pub right : storeOk width s ≡ true → Remembers width s list m → (r ≡ firstOf (λ p. bedForced d (storeAlone width s) list p) (links (storeAlone width s) x)) × Remembers width s list m′

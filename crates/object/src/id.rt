@@ -4,7 +4,7 @@ use hash::Kind;
 ghost use mathlib.Core.Path.{_≡_};
 ghost use Prim.Native.Nat.{_≤_};
 ghost use lib.ListN.{length};
-ghost use Rattle.hash.specs.Bytes.{widthOf};
+ghost use Rattle.hash.specs.Bytes.{widthOf, idBytes};
 ghost use Rattle.object.specs.Ids.{padded, idIn};
 
 // The id that a slice with a whole id begins with. (So it tests no place, and is copied at once.)
@@ -21,14 +21,15 @@ fn whole_id(x: &[u8]) -> ObjectId
     ObjectId { bytes }
 }
 
-// The id of a slice that is an id of 20 bytes, zeros after it. (Copied at once too.)
+// The id of a slice that is a SHA-1 id, zeros after it. (Copied at once too: the width is a constant to the compiler.)
 fn narrow_id(x: &[u8]) -> ObjectId
-    requires { ⌜ length (now x) ≡ 20 ⌝ }
+    requires { ⌜ length (now x) ≡ idBytes ⌝ }
     ensures { λ r. ⌜ r .bytes ≡ padded (now (x .entry)) ⌝ }
 {
+    let w = hash::width(Kind::Sha1);
     let mut bytes = [0u8; 32];
     let mut i = 0;
-    while i < 20 {
+    while i < w {
         bytes[i] = x[i];
         i += 1;
     }
@@ -56,7 +57,7 @@ pub fn id_of(x: &[u8]) -> ObjectId
     if 32 <= x.len() {
         return whole_id(x);
     }
-    if x.len() == 20 {
+    if x.len() == hash::width(Kind::Sha1) {
         return narrow_id(x);
     }
     short_id(x)
@@ -66,8 +67,5 @@ pub fn id_of(x: &[u8]) -> ObjectId
 pub fn id_slice<'a>(kind: Kind, bytes: &'a [u8; 32]) -> &'a [u8]
     ensures { λ r. ⌜ now r ≡ idIn (widthOf kind) (now (bytes .entry)) ⌝ }
 {
-    match kind {
-        Kind::Sha1 => hash::part(bytes, 0, 20),
-        Kind::Sha256 => hash::part(bytes, 0, 32),
-    }
+    hash::id_at(kind, bytes, 0)
 }

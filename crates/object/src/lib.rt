@@ -42,23 +42,17 @@ pub enum Reading {
 }
 
 // The length of a tree line, newline included.
-fn tree_size(kind: Kind) -> usize
+pub fn tree_size(kind: Kind) -> usize
     ensures { λ r. ⌜ (r ≡ treeSize (widthOf kind)) × (r ≤ 70) ⌝ }
 {
-    match kind {
-        Kind::Sha1 => 46,
-        Kind::Sha256 => 70,
-    }
+    2 * hash::width(kind) + 6
 }
 
 // The length of a parent line, newline included.
 pub fn parent_size(kind: Kind) -> usize
     ensures { λ r. ⌜ (r ≡ parentSize (widthOf kind)) × (r ≤ 72) ⌝ }
 {
-    match kind {
-        Kind::Sha1 => 48,
-        Kind::Sha256 => 72,
-    }
+    2 * hash::width(kind) + 8
 }
 
 // The most parents of a readable commit.
@@ -120,8 +114,8 @@ fn wrong_digits(kind: Kind, body: &[u8], at: usize) -> u8
     ensures { λ r. ⌜ eqb r 0 ≡ isSome (hexBytes (widthOf kind) (drop at (now (body .entry)))) ⌝ }
 {
     match kind {
-        Kind::Sha1 => wrong_in(20, body, at),
-        Kind::Sha256 => wrong_in(32, body, at),
+        Kind::Sha1 => wrong_in(hash::width(Kind::Sha1), body, at),
+        Kind::Sha256 => wrong_in(hash::width(Kind::Sha256), body, at),
     }
 }
 
@@ -170,8 +164,8 @@ fn decoded(kind: Kind, body: &[u8], at: usize) -> ParentLine
     ensures { λ r. ⌜ r ≡ idRead (hexBytes (widthOf kind) (drop at (now (body .entry)))) ⌝ }
 {
     match kind {
-        Kind::Sha1 => decode(20, body, at),
-        Kind::Sha256 => decode(32, body, at),
+        Kind::Sha1 => decode(hash::width(Kind::Sha1), body, at),
+        Kind::Sha256 => decode(hash::width(Kind::Sha256), body, at),
     }
 }
 
@@ -185,12 +179,12 @@ fn put_decoded(kind: Kind, body: &[u8], at: usize, out: &mut [u8], k: usize)
     match kind {
         Kind::Sha1 => {
             let mut id = [0u8; 20];
-            decode_to(20, body, at, &mut id);
+            decode_to(hash::width(Kind::Sha1), body, at, &mut id);
             hash::set_nth(Kind::Sha1, out, k, &id);
         }
         Kind::Sha256 => {
             let mut id = [0u8; 32];
-            decode_to(32, body, at, &mut id);
+            decode_to(hash::width(Kind::Sha256), body, at, &mut id);
             hash::set_nth(Kind::Sha256, out, k, &id);
         }
     }

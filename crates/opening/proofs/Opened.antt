@@ -15,7 +15,7 @@ use Rattle.walk.specs.declared.Refusal.the-variants.{BufferTooSmall}
 use Rattle.walk.specs.Settings.{timed}
 use Rattle.walk.specs.Lookup.{worldOf, storeSeconds}
 use Rattle.walk.specs.State.{State}
-use Rattle.walk.specs.Opening.{Input, listIds, distinct, refusal, Opening, closed, opened, openTips, openOr, openWalk}
+use Rattle.walk.specs.Opening.{Input, listIds, distinct, refusal, Opening, closed, opened, openTips, openOr, openWalk, widthIn}
 use Rattle.walk.specs.Reach.{Mem}
 use Rattle.opening.specs.declared.Checked.the-variants.{Fine, Refused}
 use Rattle.opening.specs.Checks.{checkedBy}
@@ -71,18 +71,18 @@ opens i room e =
 -- ---- the tips of an opened walk, under a time order
 
 module _ (i : Input) (st : State) (e : openWalk i true ≡ opened st) (t : timed (i .settings .sorting) ≡ true) where
-  none-at-fault : firstFault (worldOf (i .store) (i .graph)) (listIds (i .excluded)) (listIds (i .tips)) ≡ none
+  none-at-fault : firstFault (worldOf (widthIn i) (i .store) (i .graph)) (listIds (widthIn i) (i .excluded)) (listIds (widthIn i) (i .tips)) ≡ none
   none-at-fault =
       let a : refusal i ≡ none = opens i true (sym (ap checkedBy e)) .accepted in
       fine-as _ (sym (ap checkedBy e) ∙ ap checkedBy (open-roomy i true a refl) ∙ open-timed i t)
 
   -- each tip that is lent and not excluded
-  pub tip-seconds : (x : Id) → Mem x (listIds (i .tips)) → among x (listIds (i .excluded)) ≡ false → (s : ℤ) × (storeSeconds (worldOf (i .store) (i .graph)) x ≡ some s)
-  tip-seconds x m a = no-fault (worldOf (i .store) (i .graph)) (listIds (i .excluded)) (listIds (i .tips)) none-at-fault x m a
+  pub tip-seconds : (x : Id) → Mem x (listIds (widthIn i) (i .tips)) → among x (listIds (widthIn i) (i .excluded)) ≡ false → (s : ℤ) × (storeSeconds (worldOf (widthIn i) (i .store) (i .graph)) x ≡ some s)
+  tip-seconds x m a = no-fault (worldOf (widthIn i) (i .store) (i .graph)) (listIds (widthIn i) (i .excluded)) (listIds (widthIn i) (i .tips)) none-at-fault x m a
 
   -- each tip that is left without repeats and excluded ids
-  pub remaining-seconds : (x : Id) → Mem x (distinct [] (listIds (i .excluded)) (listIds (i .tips))) → (s : ℤ) × (storeSeconds (worldOf (i .store) (i .graph)) x ≡ some s)
+  pub remaining-seconds : (x : Id) → Mem x (distinct [] (listIds (widthIn i) (i .excluded)) (listIds (widthIn i) (i .tips))) → (s : ℤ) × (storeSeconds (worldOf (widthIn i) (i .store) (i .graph)) x ≡ some s)
   remaining-seconds x m =
-      let w = worldOf (i .store) (i .graph) in
-      no-fault w [] (distinct [] (listIds (i .excluded)) (listIds (i .tips)))
-      (distinct-fault w (listIds (i .excluded)) (listIds (i .tips)) ∙ none-at-fault) x m (among-none x)
+      let u = worldOf (widthIn i) (i .store) (i .graph) in
+      no-fault u [] (distinct [] (listIds (widthIn i) (i .excluded)) (listIds (widthIn i) (i .tips)))
+      (distinct-fault u (listIds (widthIn i) (i .excluded)) (listIds (widthIn i) (i .tips)) ∙ none-at-fault) x m (among-none x)

@@ -20,7 +20,7 @@ use Rattle.walk.specs.declared.Refusal.the-variants.{TipNotFound, TipUnreadable
 use Rattle.walk.specs.Settings.{timed, cutoffOf, notBefore}
 use Rattle.walk.specs.Lookup.{World, worldOf, storeSeconds}
 use Rattle.walk.specs.State.{Walk, State, emptyState, sees, waits}
-use Rattle.walk.specs.Opening.{Input, walkOf, listIds, distinct, Opening, closed, tipsIn, openTips}
+use Rattle.walk.specs.Opening.{Input, walkOf, listIds, distinct, Opening, closed, tipsIn, openTips, widthIn}
 use Rattle.walk.specs.Reach.{Mem}
 use Rattle.opening.specs.declared.Checked.{Checked}
 use Rattle.opening.specs.declared.Checked.the-variants.{Fine, Refused}
@@ -29,7 +29,6 @@ use Rattle.reading.specs.declared.tip.TipRead.{TipRead}
 use Rattle.reading.specs.declared.tip.TipRead.the-variants.{Good, Missing, Unreadable}
 use Rattle.reading.proofs.Tips.{tip-right}
 use Rattle.opening.specs.Checks.{checkedOf, checkedBy, faultOf, TestsTips, no-tip, skipped, good-tip, at-fault, ChecksTips}
-use Rattle.hash.specs.Bytes.{idBytes}
 
 -- ---- answers
 
@@ -118,41 +117,41 @@ module _ (w : World) (excluded : List Id) where
 
 -- ---- the tips as they are read, on any bytes
 
-module _ {s : List ℕ} {excluded : List Id} {x : Id} where
-  pub one-skipped : among x excluded ≡ true → TestsTips s excluded (x ∷ []) Fine
+module _ {w : ℕ} {s : List ℕ} {excluded : List Id} {x : Id} where
+  pub one-skipped : among x excluded ≡ true → TestsTips w s excluded (x ∷ []) Fine
   one-skipped a = skipped a no-tip
 
-  pub one-read : {q : TipRead} {c : Checked} → among x excluded ≡ false → ReadsTip s x q → c ≡ faultOf q → TestsTips s excluded (x ∷ []) c
-  one-read {q} a k e = subst (TestsTips s excluded (x ∷ [])) (sym e) (go q k)
+  pub one-read : {q : TipRead} {c : Checked} → among x excluded ≡ false → ReadsTip w s x q → c ≡ faultOf q → TestsTips w s excluded (x ∷ []) c
+  one-read {q} a k e = subst (TestsTips w s excluded (x ∷ [])) (sym e) (go q k)
     where
-      go : (q : TipRead) → ReadsTip s x q → TestsTips s excluded (x ∷ []) (faultOf q)
+      go : (q : TipRead) → ReadsTip w s x q → TestsTips w s excluded (x ∷ []) (faultOf q)
       go (Good t) k = good-tip a k refl no-tip
       go Missing k = at-fault a k refl
       go Unreadable k = at-fault a k refl
 
   -- a fault decides, whatever comes after it; and a tip without one leaves it to those after it
-  pub one-refused : (xs : List Id) {c : Checked} {w : Refusal} → TestsTips s excluded (x ∷ []) c → c ≡ Refused w → TestsTips s excluded (x ∷ xs) (Refused w)
+  pub one-refused : (xs : List Id) {c : Checked} {why : Refusal} → TestsTips w s excluded (x ∷ []) c → c ≡ Refused why → TestsTips w s excluded (x ∷ xs) (Refused why)
   one-refused xs (skipped a no-tip) i = let z : _≡_ {A = ℕ} 0 1 = cc in absurd (omega arith)
   one-refused xs (good-tip a k f no-tip) i = let z : _≡_ {A = ℕ} 0 1 = cc in absurd (omega arith)
-  one-refused xs (at-fault a k f) i = subst (TestsTips s excluded (x ∷ xs)) i (at-fault a k f)
+  one-refused xs (at-fault a k f) i = subst (TestsTips w s excluded (x ∷ xs)) i (at-fault a k f)
 
-  pub one-fine : {xs : List Id} {c r : Checked} → TestsTips s excluded (x ∷ []) c → c ≡ Fine → TestsTips s excluded xs r → TestsTips s excluded (x ∷ xs) r
+  pub one-fine : {xs : List Id} {c r : Checked} → TestsTips w s excluded (x ∷ []) c → c ≡ Fine → TestsTips w s excluded xs r → TestsTips w s excluded (x ∷ xs) r
   one-fine (skipped a no-tip) i t = skipped a t
   one-fine (good-tip a k f no-tip) i t = good-tip a k f t
   one-fine (at-fault a k f) i t = let z : _≡_ {A = ℕ} 0 1 = cc in absurd (omega arith)
 
 -- in a good store they come to the first fault that the walk's world has
-pub tests-right : {s : List ℕ} {excluded xs : List Id} {r : Checked} → TestsTips s excluded xs r → storeOk idBytes s ≡ true → (g : List ℕ) → r ≡ checkedOf (firstFault (worldOf s g) excluded xs)
-tests-right {s} {excluded} no-tip ok g = sym (ap checkedOf (no-tips (worldOf s g) excluded))
-tests-right {s} {excluded} (skipped {x = x} {xs = xs} a t) ok g = tests-right t ok g ∙ sym (ap checkedOf (skips (worldOf s g) excluded x xs a))
-tests-right {s} {excluded} (good-tip {x = x} {xs = xs} a k f t) ok g =
-    let w = worldOf s g in
-    let n : faultOr (w .store x) none ≡ none = fine-as (faultOr (w .store x) none) (sym f ∙ ap faultOf (tip-right k ok g) ∙ tip-told (w .store x)) in
-    tests-right t ok g ∙ sym (ap checkedOf (reads w excluded x xs a ∙ fault-none (w .store x) n (firstFault w excluded xs)))
-tests-right {s} {excluded} (at-fault {x = x} {xs = xs} {w = v} a k f) ok g =
-    let w = worldOf s g in
-    let n : faultOr (w .store x) none ≡ some v = refused-as (faultOr (w .store x) none) (sym f ∙ ap faultOf (tip-right k ok g) ∙ tip-told (w .store x)) in
-    sym (ap checkedOf (reads w excluded x xs a ∙ fault-some (w .store x) n (firstFault w excluded xs)))
+pub tests-right : {w : ℕ} {s : List ℕ} {excluded xs : List Id} {r : Checked} → TestsTips w s excluded xs r → storeOk w s ≡ true → (g : List ℕ) → r ≡ checkedOf (firstFault (worldOf w s g) excluded xs)
+tests-right {w} {s} {excluded} no-tip ok g = sym (ap checkedOf (no-tips (worldOf w s g) excluded))
+tests-right {w} {s} {excluded} (skipped {x = x} {xs = xs} a t) ok g = tests-right t ok g ∙ sym (ap checkedOf (skips (worldOf w s g) excluded x xs a))
+tests-right {w} {s} {excluded} (good-tip {x = x} {xs = xs} a k f t) ok g =
+    let u = worldOf w s g in
+    let n : faultOr (u .store x) none ≡ none = fine-as (faultOr (u .store x) none) (sym f ∙ ap faultOf (tip-right k ok g) ∙ tip-told (u .store x)) in
+    tests-right t ok g ∙ sym (ap checkedOf (reads u excluded x xs a ∙ fault-none (u .store x) n (firstFault u excluded xs)))
+tests-right {w} {s} {excluded} (at-fault {x = x} {xs = xs} {why = v} a k f) ok g =
+    let u = worldOf w s g in
+    let n : faultOr (u .store x) none ≡ some v = refused-as (faultOr (u .store x) none) (sym f ∙ ap faultOf (tip-right k ok g) ∙ tip-told (u .store x)) in
+    sym (ap checkedOf (reads u excluded x xs a ∙ fault-some (u .store x) n (firstFault u excluded xs)))
 
 -- ---- repeats
 
@@ -209,18 +208,18 @@ module _ (v : Walk) where
 
 module _ (i : Input) where
   pub open-timed : timed (i .settings .sorting) ≡ true
-      → checkedBy (openTips i true) ≡ checkedOf (firstFault (worldOf (i .store) (i .graph)) (listIds (i .excluded)) (listIds (i .tips)))
+      → checkedBy (openTips i true) ≡ checkedOf (firstFault (worldOf (widthIn i) (i .store) (i .graph)) (listIds (widthIn i) (i .excluded)) (listIds (widthIn i) (i .tips)))
   unfolding openTips walkOf
   open-timed t =
-      tips-timed (walkOf i) t (distinct [] (listIds (i .excluded)) (listIds (i .tips))) emptyState
-      ∙ ap checkedOf (distinct-fault (worldOf (i .store) (i .graph)) (listIds (i .excluded)) (listIds (i .tips)))
+      tips-timed (walkOf i) t (distinct [] (listIds (widthIn i) (i .excluded)) (listIds (widthIn i) (i .tips))) emptyState
+      ∙ ap checkedOf (distinct-fault (worldOf (widthIn i) (i .store) (i .graph)) (listIds (widthIn i) (i .excluded)) (listIds (widthIn i) (i .tips)))
 
   pub open-untimed : timed (i .settings .sorting) ≡ false → checkedBy (openTips i true) ≡ Fine
   unfolding openTips walkOf
-  open-untimed t = tips-untimed (walkOf i) t (distinct [] (listIds (i .excluded)) (listIds (i .tips))) emptyState
+  open-untimed t = tips-untimed (walkOf i) t (distinct [] (listIds (widthIn i) (i .excluded)) (listIds (widthIn i) (i .tips))) emptyState
 
 -- what `check_tips` answers, in a good store
-pub tips-right : {r : Checked} (i : Input) → ChecksTips (i .store) (i .tips) (i .excluded) (i .settings .sorting) r → storeOk idBytes (i .store) ≡ true → r ≡ checkedBy (openTips i true)
+pub tips-right : {r : Checked} (i : Input) → ChecksTips (widthIn i) (i .store) (i .tips) (i .excluded) (i .settings .sorting) r → storeOk (widthIn i) (i .store) ≡ true → r ≡ checkedBy (openTips i true)
 tips-right i k ok =
     byCases (timed (i .settings .sorting))
     (λ t. tests-right (k .by-time t) ok (i .graph) ∙ sym (open-timed i t))

@@ -57,13 +57,13 @@ faultOf Unreadable = Refused TipUnreadable
 
 -- 7: "time order, tip not in the book", 8: "its header not good through committer"; "the first tip at fault in list order decides which": what
 -- the tips come to in their order, read from any bytes as a store; excluded ones are not read
-pub data TestsTips (s : List ℕ) (excluded : List Id) : List Id → Checked → Type 0 where
-  no-tip : TestsTips s excluded [] Fine
-  skipped : {x : Id} {xs : List Id} {r : Checked} → among x excluded ≡ true → TestsTips s excluded xs r → TestsTips s excluded (x ∷ xs) r
-  good-tip : {x : Id} {xs : List Id} {r : Checked} {q : TipRead} → among x excluded ≡ false → ReadsTip s x q → faultOf q ≡ Fine → TestsTips s excluded xs r → TestsTips s excluded (x ∷ xs) r
-  at-fault : {x : Id} {xs : List Id} {q : TipRead} {w : Refusal} → among x excluded ≡ false → ReadsTip s x q → faultOf q ≡ Refused w → TestsTips s excluded (x ∷ xs) (Refused w)
+pub data TestsTips (w : ℕ) (s : List ℕ) (excluded : List Id) : List Id → Checked → Type 0 where
+  no-tip : TestsTips w s excluded [] Fine
+  skipped : {x : Id} {xs : List Id} {r : Checked} → among x excluded ≡ true → TestsTips w s excluded xs r → TestsTips w s excluded (x ∷ xs) r
+  good-tip : {x : Id} {xs : List Id} {r : Checked} {q : TipRead} → among x excluded ≡ false → ReadsTip w s x q → faultOf q ≡ Fine → TestsTips w s excluded xs r → TestsTips w s excluded (x ∷ xs) r
+  at-fault : {x : Id} {xs : List Id} {q : TipRead} {why : Refusal} → among x excluded ≡ false → ReadsTip w s x q → faultOf q ≡ Refused why → TestsTips w s excluded (x ∷ xs) (Refused why)
 
 -- what `check_tips` answers: in breadth order no tip is read
-pub record ChecksTips (s tips excluded : List ℕ) (o : Sorting) (r : Checked) : Type 0 where
+pub record ChecksTips (w : ℕ) (s tips excluded : List ℕ) (o : Sorting) (r : Checked) : Type 0 where
   pub untimed : timed o ≡ false → r ≡ Fine
-  pub by-time : timed o ≡ true → TestsTips s (listIds excluded) (listIds tips) r
+  pub by-time : timed o ≡ true → TestsTips w s (listIds w excluded) (listIds w tips) r

@@ -11,9 +11,10 @@ ghost use mathlib.Core.Option.{none};
 ghost use Prim.Native.Nat.{ℕ, _/_, _%_};
 ghost use lib.Dec.{eqb, leb};
 ghost use lib.ListN.{length};
-ghost use Rattle.hash.specs.Bytes.{idBytes};
-ghost use Rattle.walk.specs.Opening.{Input, listIds, parentBytes, P, listLimit, sizesOk, wholeIds, refusal, roomFor, openWalk};
+ghost use Rattle.object.specs.Header.{parentSize};
+ghost use Rattle.walk.specs.Opening.{Input, listIds, P, listLimit, sizesOk, wholeIds, refusal, roomFor, openWalk};
 ghost use Rattle.opening.specs.Checks.{inputOf, lengthsOf, checkedOf, checkedBy, faultOf, TestsTips, ChecksTips};
+ghost use Rattle.hash.specs.Bytes.{widthOf};
 
 // What a test of an opening gives: no fault, or the refusal of the first fault.
 pub enum Checked {
@@ -31,15 +32,22 @@ const MOST_IDS: usize = 1024;
 const MOST_PARENTS: usize = 256;
 
 // Whether a list has at most the bytes of 1,024 ids.
-fn list_fits(list: &[u8]) -> bool
-    ensures { λ r. ⌜ r ≡ leb (length (now (list .entry))) listLimit ⌝ }
+fn list_fits(kind: Kind, list: &[u8]) -> bool
+    ensures { λ r. ⌜ r ≡ leb (length (now (list .entry))) (listLimit (widthOf kind)) ⌝ }
 {
-    list.len() <= MOST_IDS * hash::width(Kind::Sha1)
+    list.len() <= MOST_IDS * hash::width(kind)
 }
 
 // Whether the files and the lists have at most their sizes.
-fn sizes_fit(store: &[u8], graph: &[u8], tips: &[u8], hidden: &[u8], excluded: &[u8]) -> bool
-    ensures { λ r. ⌜ ((s : Settings) → r ≡ sizesOk (inputOf (now (store .entry)) (now (graph .entry)) (now (tips .entry)) (now (hidden .entry)) (now (excluded .entry)) s)) ⌝ }
+fn sizes_fit(
+    kind: Kind,
+    store: &[u8],
+    graph: &[u8],
+    tips: &[u8],
+    hidden: &[u8],
+    excluded: &[u8],
+) -> bool
+    ensures { λ r. ⌜ ((s : Settings) → s .kind ≡ kind → r ≡ sizesOk (inputOf (now (store .entry)) (now (graph .entry)) (now (tips .entry)) (now (hidden .entry)) (now (excluded .entry)) s)) ⌝ }
 {
     if MOST_FILE < store.len() {
         return false;
@@ -47,85 +55,87 @@ fn sizes_fit(store: &[u8], graph: &[u8], tips: &[u8], hidden: &[u8], excluded: &
     if MOST_FILE < graph.len() {
         return false;
     }
-    if !list_fits(tips) {
+    if !list_fits(kind, tips) {
         return false;
     }
-    if !list_fits(hidden) {
+    if !list_fits(kind, hidden) {
         return false;
     }
-    list_fits(excluded)
+    list_fits(kind, excluded)
 }
 
 // Whether a list is of whole ids.
-fn is_whole(list: &[u8]) -> bool
-    ensures { λ r. ⌜ r ≡ eqb (length (now (list .entry)) % idBytes) 0 ⌝ }
+fn is_whole(kind: Kind, list: &[u8]) -> bool
+    ensures { λ r. ⌜ r ≡ eqb (length (now (list .entry)) % widthOf kind) 0 ⌝ }
 {
-    hash::whole(Kind::Sha1, list.len())
+    hash::whole(kind, list.len())
 }
 
 // Whether the lists are of whole ids.
-fn lists_whole(tips: &[u8], hidden: &[u8], excluded: &[u8]) -> bool
-    ensures { λ r. ⌜ ((store graph : List ℕ) (s : Settings) → r ≡ wholeIds (inputOf store graph (now (tips .entry)) (now (hidden .entry)) (now (excluded .entry)) s)) ⌝ }
+fn lists_whole(kind: Kind, tips: &[u8], hidden: &[u8], excluded: &[u8]) -> bool
+    ensures { λ r. ⌜ ((store graph : List ℕ) (s : Settings) → s .kind ≡ kind → r ≡ wholeIds (inputOf store graph (now (tips .entry)) (now (hidden .entry)) (now (excluded .entry)) s)) ⌝ }
 {
-    if !is_whole(tips) {
+    if !is_whole(kind, tips) {
         return false;
     }
-    if !is_whole(hidden) {
+    if !is_whole(kind, hidden) {
         return false;
     }
-    is_whole(excluded)
+    is_whole(kind, excluded)
 }
 
 // Refusals 2 to 6: the sizes, the lists, the layout of the store, and of the graph file, if one is lent, its header and its layout.
 pub fn check_input(
+    kind: Kind,
     store: &[u8],
     graph: &[u8],
     tips: &[u8],
     hidden: &[u8],
     excluded: &[u8],
 ) -> Checked
-    ensures { λ r. ⌜ ((s : Settings) → r ≡ checkedOf (refusal (inputOf (now (store .entry)) (now (graph .entry)) (now (tips .entry)) (now (hidden .entry)) (now (excluded .entry)) s))) ⌝ }
+    ensures { λ r. ⌜ ((s : Settings) → s .kind ≡ kind → r ≡ checkedOf (refusal (inputOf (now (store .entry)) (now (graph .entry)) (now (tips .entry)) (now (hidden .entry)) (now (excluded .entry)) s))) ⌝ }
 {
-    if !sizes_fit(store, graph, tips, hidden, excluded) {
+    if !sizes_fit(kind, store, graph, tips, hidden, excluded) {
         return Checked::Refused(Refusal::InputTooLarge);
     }
-    if !lists_whole(tips, hidden, excluded) {
+    if !lists_whole(kind, tips, hidden, excluded) {
         return Checked::Refused(Refusal::PartialId);
     }
-    if !odb::is_good(Kind::Sha1, store) {
+    if !odb::is_good(kind, store) {
         return Checked::Refused(Refusal::CorruptStore);
     }
     if graph.len() == 0 {
         return Checked::Fine;
     }
-    if !commitgraph::has_header(Kind::Sha1, graph) {
+    if !commitgraph::has_header(kind, graph) {
         return Checked::Refused(Refusal::UnknownGraph);
     }
-    if !commitgraph::is_good(Kind::Sha1, graph) {
+    if !commitgraph::is_good(kind, graph) {
         return Checked::Refused(Refusal::CorruptGraph);
     }
     Checked::Fine
 }
 
 // The most parent lines that can stand in a store of n bytes.
-fn lines_in(n: usize) -> usize
-    ensures { λ r. ⌜ r ≡ n / parentBytes ⌝ }
+fn lines_in(kind: Kind, n: usize) -> usize
+    ensures { λ r. ⌜ r ≡ n / parentSize (widthOf kind) ⌝ }
 {
-    n / object::parent_size(Kind::Sha1)
+    n / object::parent_size(kind)
 }
 
 // How many places a walk needs (document 01's P).
-pub fn capacity(store: &[u8], graph: &[u8], tips: &[u8], hidden: &[u8]) -> usize
-    ensures { λ r. ⌜ ((excluded : List ℕ) (s : Settings) → r ≡ P (inputOf (now (store .entry)) (now (graph .entry)) (now (tips .entry)) (now (hidden .entry)) excluded s)) ⌝ }
+pub fn capacity(kind: Kind, store: &[u8], graph: &[u8], tips: &[u8], hidden: &[u8]) -> usize
+    ensures { λ r. ⌜ ((excluded : List ℕ) (s : Settings) → s .kind ≡ kind → r ≡ P (inputOf (now (store .entry)) (now (graph .entry)) (now (tips .entry)) (now (hidden .entry)) excluded s)) ⌝ }
 {
-    hash::ids_in(Kind::Sha1, tips.len())
-        + hash::ids_in(Kind::Sha1, hidden.len())
-        + lines_in(store.len())
+    hash::ids_in(kind, tips.len())
+        + hash::ids_in(kind, hidden.len())
+        + lines_in(kind, store.len())
         + commitgraph::count(graph)
 }
 
 // Refusal 1: whether every lent buffer has its size, for this many places. The lengths are in the buffers' own elements.
 pub fn has_room(
+    kind: Kind,
     cap: usize,
     names: usize,
     marks: usize,
@@ -134,9 +144,9 @@ pub fn has_room(
     line: usize,
     parents: usize,
 ) -> bool
-    ensures { λ r. ⌜ ((i : Input) → cap ≡ P i → r ≡ roomFor i (lengthsOf names marks levels times line parents)) ⌝ }
+    ensures { λ r. ⌜ ((i : Input) → i .settings .kind ≡ kind → cap ≡ P i → r ≡ roomFor i (lengthsOf names marks levels times line parents)) ⌝ }
 {
-    if hash::ids_in(Kind::Sha1, names) < cap {
+    if hash::ids_in(kind, names) < cap {
         return false;
     }
     if marks < cap {
@@ -151,7 +161,7 @@ pub fn has_room(
     if line / 5 < cap {
         return false;
     }
-    MOST_PARENTS * hash::width(Kind::Sha1) <= parents
+    MOST_PARENTS * hash::width(kind) <= parents
 }
 
 // What is wrong with a tip that was read: the store lacks it, or its header is not good through committer.
@@ -166,23 +176,23 @@ fn tip_fault(read: TipRead) -> Checked
 }
 
 // The same of a tip in the store; one that is excluded is not read.
-fn check_tip(store: &[u8], excluded: &[u8], id: &[u8]) -> Checked
-    ensures { λ r. ⌜ TestsTips (now (store .entry)) (listIds (now (excluded .entry))) (now (id .entry) ∷ []) r ⌝ }
+fn check_tip(kind: Kind, store: &[u8], excluded: &[u8], id: &[u8]) -> Checked
+    ensures { λ r. ⌜ TestsTips (widthOf kind) (now (store .entry)) (listIds (widthOf kind) (now (excluded .entry))) (now (id .entry) ∷ []) r ⌝ }
 {
-    if reading::is_among(excluded, id) {
+    if reading::is_among(kind, excluded, id) {
         return Checked::Fine;
     }
-    tip_fault(reading::read_tip(store, id))
+    tip_fault(reading::read_tip(kind, store, id))
 }
 
 // The first fault of the tips, in list order. A repeated tip has the fault of its first place.
-fn read_tips(store: &[u8], tips: &[u8], excluded: &[u8]) -> Checked
-    ensures { λ r. ⌜ TestsTips (now (store .entry)) (listIds (now (excluded .entry))) (listIds (now (tips .entry))) r ⌝ }
+fn read_tips(kind: Kind, store: &[u8], tips: &[u8], excluded: &[u8]) -> Checked
+    ensures { λ r. ⌜ TestsTips (widthOf kind) (now (store .entry)) (listIds (widthOf kind) (now (excluded .entry))) (listIds (widthOf kind) (now (tips .entry))) r ⌝ }
 {
-    let n = hash::ids_in(Kind::Sha1, tips.len());
+    let n = hash::ids_in(kind, tips.len());
     let mut k = 0;
     while k < n {
-        match check_tip(store, excluded, hash::nth(Kind::Sha1, tips, k)) {
+        match check_tip(kind, store, excluded, hash::nth(kind, tips, k)) {
             Checked::Refused(r) => {
                 return Checked::Refused(r);
             }
@@ -194,13 +204,19 @@ fn read_tips(store: &[u8], tips: &[u8], excluded: &[u8]) -> Checked
 }
 
 // Refusals 7 and 8: under a time order each tip that is not excluded is in the store, with a header that is good through committer.
-pub fn check_tips(store: &[u8], tips: &[u8], excluded: &[u8], sorting: Sorting) -> Checked
-    ensures { λ r. ⌜ ChecksTips (now (store .entry)) (now (tips .entry)) (now (excluded .entry)) sorting r ⌝ }
+pub fn check_tips(
+    kind: Kind,
+    store: &[u8],
+    tips: &[u8],
+    excluded: &[u8],
+    sorting: Sorting,
+) -> Checked
+    ensures { λ r. ⌜ ChecksTips (widthOf kind) (now (store .entry)) (now (tips .entry)) (now (excluded .entry)) sorting r ⌝ }
 {
     if !walk::is_timed(sorting) {
         return Checked::Fine;
     }
-    read_tips(store, tips, excluded)
+    read_tips(kind, store, tips, excluded)
 }
 
 // All tests of an opening, in order.
@@ -220,13 +236,14 @@ pub fn check(
 ) -> Checked
     ensures { λ r. ⌜ (let i = inputOf (now (store .entry)) (now (graph .entry)) (now (tips .entry)) (now (hidden .entry)) (now (excluded .entry)) settings in r ≡ checkedBy (openWalk i (roomFor i (lengthsOf names marks levels times line parents)))) ⌝ }
 {
-    match check_input(store, graph, tips, hidden, excluded) {
+    let kind = settings.kind;
+    match check_input(kind, store, graph, tips, hidden, excluded) {
         Checked::Refused(r) => Checked::Refused(r),
         Checked::Fine => {
-            let cap = capacity(store, graph, tips, hidden);
-            if has_room(cap, names, marks, levels, times, line, parents) {
+            let cap = capacity(kind, store, graph, tips, hidden);
+            if has_room(kind, cap, names, marks, levels, times, line, parents) {
                 let sorting = settings.sorting;
-                check_tips(store, tips, excluded, sorting)
+                check_tips(kind, store, tips, excluded, sorting)
             } else {
                 Checked::Refused(Refusal::BufferTooSmall)
             }

@@ -5,13 +5,13 @@ use mathlib.Core.Logic.{_⊎_, inl, inr, ⊎-elim}
 use mathlib.Core.Bool.{Bool, true, false, cond}
 use mathlib.Core.Option.{Option, none, some}
 use mathlib.Core.List.{List, [], _∷_, map, List·Memᴰ·not-nil}
-use Prim.Native.Nat.{ℕ, suc, _<_}
+use Prim.Native.Nat.{ℕ, suc, _≤_, _<_}
 use native.Mathlib.Omega.{arith}
 use lib.ListN.{length, getD}
 use lib.IntN.{ℤ, pos}
 use borrow.Author.Tests.{lt-ltb}
-use Rattle.hash.specs.Bytes.{Id, idBytes, ifSome, pick}
-use Rattle.hash.specs.declared.Kind.the-variants.{Sha1}
+use Rattle.hash.specs.Bytes.{Id, ifSome, pick, widthOf}
+use Rattle.hash.specs.declared.Kind.{Kind}
 use Rattle.hash.proofs.Tests.{clash}
 use Rattle.hash.proofs.Widths.{width-least}
 use Rattle.idlist.specs.IdList.{idOf, findIn}
@@ -64,15 +64,12 @@ header-good h e = go (h .tree) (h .crowded) (h .author) (h .seconds) e
     go true false true none d = clash d refl
     go true false true (some s) d = (s, refl)
 
-module _ (b g : List ℕ) (v : ℕ) (W : Writable idBytes b (standingEntries idBytes b)) (S : Bytes b) (R : ReadBack v idBytes (rowsOf idBytes b) g) where
-  abbrev w : ℕ
-  w = idBytes
-
+module _ (w : ℕ) (least : 20 ≤ w) (b g : List ℕ) (v : ℕ) (W : Writable w b (standingEntries w b)) (S : Bytes b) (R : ReadBack v w (rowsOf w b) g) where
   abbrev n : ℕ
-  n = standingEntries idBytes b
+  n = standingEntries w b
 
   abbrev world : World
-  world = worldOf b g
+  world = worldOf w b g
 
   abbrev idsOf : ℕ → List Id
   idsOf k = linesIn w (entryBody w b k) .ids
@@ -90,7 +87,7 @@ module _ (b g : List ℕ) (v : ℕ) (W : Writable idBytes b (standingEntries idB
   row-id k h = row-read k h .id
 
   found : (k : ℕ) → k < n → graphFind w g (entryId w b k) ≡ some k
-  found k h = ap (graphFind w g) (sym (row-id k h)) ∙ row-found g (R .ok) k (omega (arith, R .count, length-rows w b))
+  found k h = ap (graphFind w g) (sym (row-id k h)) ∙ row-found w g (R .ok) k (omega (arith, R .count, length-rows w b))
 
   not-found : (x : Id) → ((k : ℕ) → k < n → entryId w b k ≡ x → ⊥) → graphFind w g x ≡ none
   unfolding graphFind graphId
@@ -105,10 +102,10 @@ module _ (b g : List ℕ) (v : ℕ) (W : Writable idBytes b (standingEntries idB
   entry-is k h = good-id w b k (W .ok) (in-store k h)
 
   -- an id is an entry's, or no entry's
-  held? : (x : Id) → Held b x ⊎ ((k : ℕ) → k < n → entryId w b k ≡ x → ⊥)
+  held? : (x : Id) → Held w b x ⊎ ((k : ℕ) → k < n → entryId w b k ≡ x → ⊥)
   held? x = go (findIn (entryIds w b) x n) refl
     where
-      go : (o : Option ℕ) → findIn (entryIds w b) x n ≡ o → Held b x ⊎ ((k : ℕ) → k < n → entryId w b k ≡ x → ⊥)
+      go : (o : Option ℕ) → findIn (entryIds w b) x n ≡ o → Held w b x ⊎ ((k : ℕ) → k < n → entryId w b k ≡ x → ⊥)
       go none e = inr (λ k h d. find-none (entryIds w b) x n k e h (sym (entry-is k h) ∙ d))
       go (some k) e = let f = find-hit (entryIds w b) x n k e in inl (record { entry = k; below = f .0; is = entry-is k (f .0) ∙ f .1 })
 
@@ -169,14 +166,14 @@ module _ (b g : List ℕ) (v : ℕ) (W : Writable idBytes b (standingEntries idB
   unfolding worldOf rowOfFile rowOf
   graph-at k h =
       let r = row-read k h in
-      ap (λ (o : Option ℕ). ifSome o no-row (λ p. rowOfFile g p)) (found k h)
+      ap (λ (o : Option ℕ). ifSome o no-row (λ p. rowOfFile w g p)) (found k h)
       ∙ ap (λ (o : Option (List ℕ)). ifSome o corrupt (λ ps. row (map (λ q. (graphId w g q, graphSeconds w g q)) ps) (generation w g k) (graphSeconds w g k))) (r .parents)
       ∙ ap (λ (l : ℕ). row (linked (idsOf k)) l (graphSeconds w g k)) (r .level)
       ∙ ap (λ (s : ℤ). row (linked (idsOf k)) (level k) s) (r .seconds)
 
   graph-none : (x : Id) → ((k : ℕ) → k < n → entryId w b k ≡ x → ⊥) → world .graph x ≡ no-row
   unfolding worldOf
-  graph-none x out = ap (λ (o : Option ℕ). ifSome o no-row (λ p. rowOfFile g p)) (not-found x out)
+  graph-none x out = ap (λ (o : Option ℕ). ifSome o no-row (λ p. rowOfFile w g p)) (not-found x out)
 
   -- ---- agreement
 
@@ -190,7 +187,7 @@ module _ (b g : List ℕ) (v : ℕ) (W : Writable idBytes b (standingEntries idB
       λ i. h i ∷ r i
 
   inside : (k j : ℕ) → k < n → j < length (idsOf k) → entryOf w b n (getD (idsOf k) j []) < n
-  inside k j h l = parent-inside w b n S W (width-least Sha1) k j h l
+  inside k j h l = parent-inside w b n S W least k j h l
 
   entry-agrees : (k : ℕ) → k < n → Agrees world (entryId w b k)
   entry-agrees k h =
@@ -253,9 +250,9 @@ module _ (b g : List ℕ) (v : ℕ) (W : Writable idBytes b (standingEntries idB
       (λ out. absurd (List·Memᴰ·not-nil (subst (λ (l : List Id). Mem p l) (no-links x out) m)))
       (held? x)
 
-  pub in-agreement : InAgreement b g
+  pub in-agreement : InAgreement w b g
   in-agreement = record { agrees = all-agree; levels = entry-level; falls = all-fall }
 
 -- "Our reader must accept each such file and find it in agreement"
-pub agrees : (b : List ℕ) (lent : ℕ) → Bytes b → refusalFor idBytes b lent ≡ none → InAgreement b (fileOf Sha1 b)
-agrees b lent S e = in-agreement b (fileOf Sha1 b) (hashVersion Sha1) (accepted idBytes b lent e) S (read-back Sha1 b lent S e)
+pub agrees : (kind : Kind) (b : List ℕ) (lent : ℕ) → Bytes b → refusalFor (widthOf kind) b lent ≡ none → InAgreement (widthOf kind) b (fileOf kind b)
+agrees kind b lent S e = in-agreement (widthOf kind) (width-least kind) b (fileOf kind b) (hashVersion kind) (accepted (widthOf kind) b lent e) S (read-back kind b lent S e)

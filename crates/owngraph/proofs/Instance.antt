@@ -9,8 +9,8 @@ use native.Mathlib.Omega.{arith}
 use lib.ListN.{getD}
 use lib.Dec.{ltb}
 use borrow.Author.Tests.{ltb-true}
-use Rattle.hash.specs.Bytes.{Id, idBytes, bytesAll}
-use Rattle.hash.specs.declared.Kind.the-variants.{Sha1}
+use Rattle.hash.specs.Bytes.{Id, bytesAll, widthOf}
+use Rattle.hash.specs.declared.Kind.the-variants.{Sha1, Sha256}
 use Rattle.hash.proofs.Tests.{guard-test, guarded}
 use Rattle.idlist.specs.IdList.{idListAll}
 use Rattle.object.specs.Header.{headerAll}
@@ -23,17 +23,19 @@ use Rattle.levels.specs.StoreGraph.{storeGraphAll}
 use Rattle.graphplan.specs.StoreRows.{rowsAll}
 use Rattle.graphplan.specs.Refusing.{refusalFor}
 use Rattle.graphwrite.specs.Writing.{Bytes, fileOf, writingAll}
-use Rattle.walk.specs.declared.Refusal.the-variants.{PairNotFalling, UnfitStore}
+use Rattle.walk.specs.declared.Refusal.the-variants.{PartialId, UnknownGraph, PairNotFalling, UnfitStore}
 use Rattle.walk.specs.Calls.{walkAll}
+use Rattle.walk.specs.Opening.{refusal}
+use Rattle.walk.specs.Openings.{headAlone}
 use Rattle.walk.specs.Reach.{Mem, links}
 use Rattle.walk.specs.Demand.{rowGeneration, pairAt}
 use Rattle.walk.specs.Universe.{parentsUpTo, storeParents}
-use Rattle.walk.specs.Runs.{idFor, all, lost, names}
+use Rattle.walk.specs.Runs.{idFor, idWide, all, lost, namesWide, sampleWide}
 use Rattle.walk.specs.Slips.{inputWith, twoTurns}
 use Rattle.reach.specs.Search.{noted, reachedFrom, reachList}
 use Rattle.reach.specs.Tested.{each, isGood, readableIn, sameIds, sameTime, sameSeconds, rowAgrees, agreesIn, fallsIn, judged, testedOver, testedRefusal}
 use Rattle.owngraph.specs.OwnGraph.{Held, OpeningOf}
-use Rattle.owngraph.specs.Instances.{alone, beside, circle, Instances}
+use Rattle.owngraph.specs.Instances.{alone, beside, circle, wideInput, Instances}
 use Rattle.owngraph.proofs.Passed.{own-file}
 
 -- ---- bytes, by a test
@@ -54,29 +56,30 @@ history-bytes = record { each = small-each twoTurns refl }
 
 -- ---- the opening
 
-history-many : standingEntries idBytes twoTurns ≡ 5
+history-many : standingEntries (widthOf Sha1) twoTurns ≡ 5
 unfolding twoTurns bytesAll storeAll
 history-many = refl
 
-first-held : Held twoTurns (idFor 1)
+first-held : Held (widthOf Sha1) twoTurns (idFor 1)
 unfolding twoTurns bytesAll idListAll storeAll lookupAll
 first-held = record { entry = 0; below = omega (arith, history-many); is = refl }
 
-second-held : Held twoTurns (idFor 2)
+second-held : Held (widthOf Sha1) twoTurns (idFor 2)
 unfolding twoTurns bytesAll idListAll storeAll lookupAll
 second-held = record { entry = 1; below = omega (arith, history-many); is = refl }
 
-one-held : (x y : Id) → Held twoTurns y → Mem x (y ∷ []) → Held twoTurns x
+one-held : (x y : Id) → Held (widthOf Sha1) twoTurns y → Mem x (y ∷ []) → Held (widthOf Sha1) twoTurns x
 one-held x y h m = ⊎-elim (λ e. record { entry = h .entry; below = h .below; is = h .is ∙ sym e }) (λ n. absurd (List·Memᴰ·not-nil n)) (List·Memᴰ·cases-cons m)
 
-writable′ : refusalFor idBytes twoTurns 5 ≡ none
+writable′ : refusalFor (widthOf Sha1) twoTurns 5 ≡ none
 unfolding twoTurns bytesAll idListAll headerAll readAll storeAll lookupAll levelsAll storeGraphAll rowsAll writingAll
 writable′ = refl
 
-opening-of : OpeningOf twoTurns (fileOf Sha1 twoTurns) beside
-unfolding beside inputWith names walkAll bytesAll
+opening-of : OpeningOf Sha1 twoTurns (fileOf Sha1 twoTurns) beside
+unfolding beside inputWith all namesWide walkAll bytesAll
 opening-of =
     record {
+      same-kind = refl;
       store = refl;
       graph = refl;
       tips = record { few = omega arith; whole = refl };
@@ -90,19 +93,34 @@ refused-alone′ : testedRefusal alone ≡ some PairNotFalling
 unfolding alone inputWith all twoTurns bytesAll idListAll headerAll storeAll graphAll walkAll links rowGeneration pairAt parentsUpTo storeParents noted reachedFrom reachList each isGood readableIn sameIds sameTime sameSeconds rowAgrees agreesIn fallsIn judged testedOver testedRefusal
 refused-alone′ = refl
 
-no-levels′ : refusalFor idBytes circle 2 ≡ some UnfitStore
+no-levels′ : refusalFor (widthOf Sha1) circle 2 ≡ some UnfitStore
 unfolding circle bytesAll idListAll headerAll readAll storeAll lookupAll levelsAll storeGraphAll rowsAll writingAll
 no-levels′ = refl
 
-parent-absent′ : refusalFor idBytes lost 9 ≡ some UnfitStore
+parent-absent′ : refusalFor (widthOf Sha1) lost 9 ≡ some UnfitStore
 unfolding lost bytesAll idListAll headerAll readAll storeAll lookupAll levelsAll storeGraphAll rowsAll writingAll
 parent-absent′ = refl
+
+wide-writable′ : refusalFor (widthOf Sha256) (sampleWide (widthOf Sha256)) 8 ≡ none
+unfolding sampleWide bytesAll idListAll headerAll readAll storeAll lookupAll levelsAll storeGraphAll rowsAll writingAll
+wide-writable′ = refl
+
+narrow-graph′ : refusal (wideInput headAlone []) ≡ some UnknownGraph
+unfolding wideInput headAlone sampleWide bytesAll idListAll headerAll storeAll graphAll walkAll
+narrow-graph′ = refl
+
+narrow-list′ : refusal (wideInput [] (idFor 8)) ≡ some PartialId
+unfolding wideInput idWide sampleWide bytesAll idListAll headerAll storeAll graphAll walkAll
+narrow-list′ = refl
 
 pub instances : Instances
 instances = record {
   writable = writable′;
   refused-alone = refused-alone′;
-  passes-beside = own-file twoTurns 5 history-bytes writable′ beside opening-of;
+  passes-beside = own-file Sha1 twoTurns 5 history-bytes writable′ beside opening-of;
   no-levels = no-levels′;
   parent-absent = parent-absent′;
+  wide-writable = wide-writable′;
+  narrow-graph = narrow-graph′;
+  narrow-list = narrow-list′;
 }

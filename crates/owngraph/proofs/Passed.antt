@@ -10,9 +10,10 @@ use native.Mathlib.Omega.{arith}
 use lib.ListN.{length, take}
 use lib.IntN.{ℤ}
 use borrow.Author.Tests.{le-leb, eq-eqb}
-use Rattle.hash.specs.Bytes.{Id, among, idBytes, ifSome}
-use Rattle.hash.specs.declared.Kind.the-variants.{Sha1}
+use Rattle.hash.specs.Bytes.{Id, among, ifSome, widthOf}
+use Rattle.hash.specs.declared.Kind.{Kind}
 use Rattle.hash.proofs.Tests.{byCases, and-of, no-some}
+use Rattle.hash.proofs.Widths.{width-least}
 use Rattle.object.specs.Header.{Header}
 use Rattle.odb.specs.Store.{standingEntries}
 use Rattle.commitgraph.specs.Graph.{hashVersion}
@@ -32,7 +33,7 @@ use Rattle.walk.specs.declared.OpenAnswer.{OpenAnswer}
 use Rattle.walk.specs.Settings.{timed}
 use Rattle.walk.specs.Lookup.{World, worldOf, storeSeconds}
 use Rattle.walk.specs.State.{State, isEmpty}
-use Rattle.walk.specs.Opening.{Input, walkOf, listIds, listLimit, sizesOk, wholeIds, refusal, opened, openTips, openWalk}
+use Rattle.walk.specs.Opening.{Input, walkOf, listIds, listLimit, sizesOk, wholeIds, refusal, opened, openTips, openWalk, widthIn}
 use Rattle.walk.specs.Given.{openGiven}
 use Rattle.walk.specs.Reach.{Mem, links, Reaches, itself, through}
 use Rattle.walk.specs.Demand.{Readable, Region, Premises}
@@ -70,8 +71,8 @@ no-faults w excluded (x ∷ xs) h =
 
 -- ---- a graph that reads back the store's rows
 
-module _ (i : Input) (W : Writable idBytes (i .store) (standingEntries idBytes (i .store))) (S : Bytes (i .store))
-    (R : ReadBack (hashVersion Sha1) idBytes (rowsOf idBytes (i .store)) (i .graph)) (small : length (i .graph) ≤ 16777216) (O : OpeningOf (i .store) (i .graph) i) where
+module _ (i : Input) (W : Writable (widthIn i) (i .store) (standingEntries (widthIn i) (i .store))) (S : Bytes (i .store))
+    (R : ReadBack (hashVersion (i .settings .kind)) (widthIn i) (rowsOf (widthIn i) (i .store)) (i .graph)) (small : length (i .graph) ≤ 16777216) (O : OpeningOf (i .settings .kind) (i .store) (i .graph) i) where
   abbrev store′ : List ℕ
   store′ = i .store
 
@@ -79,62 +80,62 @@ module _ (i : Input) (W : Writable idBytes (i .store) (standingEntries idBytes (
   graph′ = i .graph
 
   abbrev world : World
-  world = worldOf store′ graph′
+  world = worldOf (widthIn i) store′ graph′
 
-  agreement : InAgreement store′ graph′
-  agreement = in-agreement store′ graph′ (hashVersion Sha1) W S R
+  agreement : InAgreement (widthIn i) store′ graph′
+  agreement = in-agreement (widthIn i) (width-least (i .settings .kind)) store′ graph′ (hashVersion (i .settings .kind)) W S R
 
   -- ---- 2 to 6
 
   sizes : sizesOk i ≡ true
   unfolding sizesOk
   sizes =
-      and-of (and-of (and-of (and-of (le-leb (length store′) 16777216 (W .small)) (le-leb (length graph′) 16777216 small)) (le-leb (length (i .tips)) listLimit (O .tips .few)))
-      (le-leb (length (i .hidden)) listLimit (O .hidden .few))) (le-leb (length (i .excluded)) listLimit (O .excluded .few))
+      and-of (and-of (and-of (and-of (le-leb (length store′) 16777216 (W .small)) (le-leb (length graph′) 16777216 small)) (le-leb (length (i .tips)) (listLimit (widthIn i)) (O .tips .few)))
+      (le-leb (length (i .hidden)) (listLimit (widthIn i)) (O .hidden .few))) (le-leb (length (i .excluded)) (listLimit (widthIn i)) (O .excluded .few))
 
   wholes : wholeIds i ≡ true
   unfolding wholeIds
   wholes =
-      and-of (and-of (eq-eqb (length (i .tips) % idBytes) 0 (O .tips .whole)) (eq-eqb (length (i .hidden) % idBytes) 0 (O .hidden .whole)))
-      (eq-eqb (length (i .excluded) % idBytes) 0 (O .excluded .whole))
+      and-of (and-of (eq-eqb (length (i .tips) % widthIn i) 0 (O .tips .whole)) (eq-eqb (length (i .hidden) % widthIn i) 0 (O .hidden .whole)))
+      (eq-eqb (length (i .excluded) % widthIn i) 0 (O .excluded .whole))
 
   some-graph : isEmpty graph′ ≡ false
-  some-graph = empty-not graph′ (λ z. omega (arith, R .long, length-is idBytes (length (rowsOf idBytes store′)) (length (edgesIn (rowsOf idBytes store′)))))
+  some-graph = empty-not graph′ (λ z. omega (arith, R .long, length-is (widthIn i) (length (rowsOf (widthIn i) store′)) (length (edgesIn (rowsOf (widthIn i) store′)))))
 
   fine : refusal i ≡ none
   fine = all-good i sizes wholes (W .ok) some-graph (R .head) (R .ok)
 
   -- ---- what is reached
 
-  reached-held : {x y : Id} → Reaches world y x → Held store′ x → Held store′ y
+  reached-held : {x y : Id} → Reaches world y x → Held (widthIn i) store′ x → Held (widthIn i) store′ y
   reached-held (itself e) h = record { entry = h .entry; below = h .below; is = h .is ∙ e }
   reached-held (through {p = p} m r) h =
-      let q = parent-held store′ graph′ (hashVersion Sha1) W S R (h .entry) (h .below) p (subst (λ (y : Id). Mem p (links world y)) (sym (h .is)) m) in
+      let q = parent-held (widthIn i) (width-least (i .settings .kind)) store′ graph′ (hashVersion (i .settings .kind)) W S R (h .entry) (h .below) p (subst (λ (y : Id). Mem p (links world y)) (sym (h .is)) m) in
       reached-held r (record { entry = q .0; below = q .1; is = q .2 })
 
-  region-held : (x : Id) → Region (walkOf i) (listIds (i .tips)) x → Held store′ x
+  region-held : (x : Id) → Region (walkOf i) (listIds (widthIn i) (i .tips)) x → Held (widthIn i) store′ x
   unfolding Region walkOf
   region-held x r = reached-held (r .2) (⊎-elim (O .tips-held (r .0)) (O .hidden-held (r .0)) (r .1))
 
-  premises : Premises (walkOf i) (listIds (i .tips))
+  premises : Premises (walkOf i) (listIds (widthIn i) (i .tips))
   unfolding walkOf
   premises =
       record {
-        readable = λ x r. let h = region-held x r in subst (Readable world) (h .is) (entry-readable store′ graph′ (hashVersion Sha1) W S R (h .entry) (h .below));
+        readable = λ x r. let h = region-held x r in subst (Readable world) (h .is) (entry-readable (widthIn i) (width-least (i .settings .kind)) store′ graph′ (hashVersion (i .settings .kind)) W S R (h .entry) (h .below));
         agrees = λ x r. agreement .agrees x;
         falls = λ x p r m. agreement .falls x p m;
       }
 
-  tip-time : (x : Id) → Mem x (listIds (i .tips)) → (t : ℤ) × (storeSeconds world x ≡ some t)
+  tip-time : (x : Id) → Mem x (listIds (widthIn i) (i .tips)) → (t : ℤ) × (storeSeconds world x ≡ some t)
   tip-time x m =
       let h = O .tips-held x m in
-      let t = entry-time store′ graph′ (hashVersion Sha1) W S R (h .entry) (h .below) in
+      let t = entry-time (widthIn i) (width-least (i .settings .kind)) store′ graph′ (hashVersion (i .settings .kind)) W S R (h .entry) (h .below) in
       (t .0, subst (λ (y : Id). storeSeconds world y ≡ some (t .0)) (h .is) (t .1))
 
   tips-fine : checkedBy (openTips i true) ≡ Fine
   tips-fine =
       byCases (timed (i .settings .sorting))
-      (λ t. open-timed i t ∙ ap checkedOf (no-faults world (listIds (i .excluded)) (listIds (i .tips)) tip-time))
+      (λ t. open-timed i t ∙ ap checkedOf (no-faults world (listIds (widthIn i) (i .excluded)) (listIds (widthIn i) (i .tips)) tip-time))
       (λ t. open-untimed i t)
 
   pub passes : Passes i
@@ -145,49 +146,54 @@ module _ (i : Input) (W : Writable idBytes (i .store) (standingEntries idBytes (
 -- ---- the file that was written
 
 -- of a store that is not refused
-pub own-file : (b : List ℕ) (lent : ℕ) → Bytes b → refusalFor idBytes b lent ≡ none → (i : Input) → OpeningOf b (fileOf Sha1 b) i → Passes i
-own-file b lent S a i O =
-    let R : ReadBack (hashVersion Sha1) idBytes (rowsOf idBytes b) (fileOf Sha1 b) = read-back Sha1 b lent S a in
+own-here : (b : List ℕ) (lent : ℕ) → Bytes b → (i : Input) → refusalFor (widthIn i) b lent ≡ none → OpeningOf (i .settings .kind) b (fileOf (i .settings .kind) b) i → Passes i
+own-here b lent S i a O =
+    let R : ReadBack (hashVersion (i .settings .kind)) (widthIn i) (rowsOf (widthIn i) b) (fileOf (i .settings .kind) b) = read-back (i .settings .kind) b lent S a in
     passes i
-    (subst (λ (x : List ℕ). Writable idBytes x (standingEntries idBytes x)) (sym (O .store)) (accepted idBytes b lent a))
+    (subst (λ (x : List ℕ). Writable (widthIn i) x (standingEntries (widthIn i) x)) (sym (O .store)) (accepted (widthIn i) b lent a))
     (subst Bytes (sym (O .store)) S)
-    (subst (λ (x : List ℕ). ReadBack (hashVersion Sha1) idBytes (rowsOf idBytes x) (i .graph)) (sym (O .store))
-    (subst (λ (x : List ℕ). ReadBack (hashVersion Sha1) idBytes (rowsOf idBytes b) x) (sym (O .graph)) R))
-    (omega (arith, ap length (O .graph), file-small b lent a))
+    (subst (λ (x : List ℕ). ReadBack (hashVersion (i .settings .kind)) (widthIn i) (rowsOf (widthIn i) x) (i .graph)) (sym (O .store))
+    (subst (λ (x : List ℕ). ReadBack (hashVersion (i .settings .kind)) (widthIn i) (rowsOf (widthIn i) b) x) (sym (O .graph)) R))
+    (omega (arith, ap length (O .graph), file-small (i .settings .kind) b lent a))
     (record {
+      same-kind = refl;
       store = refl;
       graph = refl;
       tips = O .tips;
       hidden = O .hidden;
       excluded = O .excluded;
-      tips-held = λ x m. subst (λ (y : List ℕ). Held y x) (sym (O .store)) (O .tips-held x m);
-      hidden-held = λ x m. subst (λ (y : List ℕ). Held y x) (sym (O .store)) (O .hidden-held x m);
+      tips-held = λ x m. subst (λ (y : List ℕ). Held (widthIn i) y x) (sym (O .store)) (O .tips-held x m);
+      hidden-held = λ x m. subst (λ (y : List ℕ). Held (widthIn i) y x) (sym (O .store)) (O .hidden-held x m);
     })
 
+pub own-file : (kind : Kind) (b : List ℕ) (lent : ℕ) → Bytes b → refusalFor (widthOf kind) b lent ≡ none → (i : Input) → OpeningOf kind b (fileOf kind b) i → Passes i
+own-file kind b lent S a i O =
+    subst (λ (q : Kind). refusalFor (widthOf q) b lent ≡ none → OpeningOf q b (fileOf q b) i → Passes i) (O .same-kind) (own-here b lent S i) a O
+
 -- of a store that was written
-pub own-graph : (b s s′ out out′ : List ℕ) (n : ℕ) → Writes Sha1 b s s′ out out′ (File n) → (i : Input) → OpeningOf b (take n out′) i → Passes i
-own-graph b s s′ out out′ n W i O =
-    let f = file-there Sha1 b s s′ out out′ n W in
-    own-file b (length s) (W .lent) (f .accepted) i (subst (λ (g : List ℕ). OpeningOf b g i) (f .there) O)
+pub own-graph : (kind : Kind) (b s s′ out out′ : List ℕ) (n : ℕ) → Writes kind b s s′ out out′ (File n) → (i : Input) → OpeningOf kind b (take n out′) i → Passes i
+own-graph kind b s s′ out out′ n W i O =
+    let f = file-there kind b s s′ out out′ n W in
+    own-file kind b (length s) (W .lent) (f .accepted) i (subst (λ (g : List ℕ). OpeningOf kind b g i) (f .there) O)
 
 -- "and find it in agreement"
-pub own-graph-agrees : (b s s′ out out′ : List ℕ) (n : ℕ) → Writes Sha1 b s s′ out out′ (File n) → InAgreement b (take n out′)
-own-graph-agrees b s s′ out out′ n W =
-    let f = file-there Sha1 b s s′ out out′ n W in
-    subst (InAgreement b) (sym (f .there)) (agrees b (length s) (W .lent) (f .accepted))
+pub own-graph-agrees : (kind : Kind) (b s s′ out out′ : List ℕ) (n : ℕ) → Writes kind b s s′ out out′ (File n) → InAgreement (widthOf kind) b (take n out′)
+own-graph-agrees kind b s s′ out out′ n W =
+    let f = file-there kind b s s′ out out′ n W in
+    subst (InAgreement (widthOf kind) b) (sym (f .there)) (agrees kind b (length s) (W .lent) (f .accepted))
 
 opened-outcome : (st : State) (a : OpenAnswer) → a ≡ openGiven (opened st) → a .outcome ≡ Accepted
 unfolding openGiven
 opened-outcome st a e = ap (λ (c : OpenAnswer). c .outcome) e
 
-pub own-graph-passes : (b : List ℕ) → OwnGraphPasses b
+pub own-graph-passes : (kind : Kind) (b : List ℕ) → OwnGraphPasses kind b
 unfolding OwnGraphPasses
-own-graph-passes b s s′ out out′ n W i O m room o m′ T =
-    let p = own-graph b s s′ out out′ n W i O in
+own-graph-passes kind b s s′ out out′ n W i O m room o m′ T =
+    let p = own-graph kind b s s′ out out′ n W i O in
     opened-outcome (p .state) (o .answer)
     (T .answer ∙ ap openGiven (tested-by i (lengthsOf m) (opened (p .state)) none (ap (openWalk i) room ∙ p .seven-and-eight) (p .tests)))
 
-pub own-graph-listing : (b : List ℕ) → OwnGraphListing b
+pub own-graph-listing : (kind : Kind) (b : List ℕ) → OwnGraphListing kind b
 unfolding OwnGraphListing OwnGraphPasses TestedListing
-own-graph-listing b s s′ out out′ n W i O m room o m′ T =
-    tested-listing i m o m′ T (own-graph-passes b s s′ out out′ n W i O m room o m′ T)
+own-graph-listing kind b s s′ out out′ n W i O m room o m′ T =
+    tested-listing i m o m′ T (own-graph-passes kind b s s′ out out′ n W i O m room o m′ T)

@@ -6,8 +6,8 @@ use mathlib.Core.Bool.{true}
 use mathlib.Core.Option.{none}
 use mathlib.Core.List.{List}
 use lib.ListN.{length, take}
-use Rattle.hash.specs.Bytes.{Id, idBytes}
-use Rattle.hash.specs.declared.Kind.the-variants.{Sha1}
+use Rattle.hash.specs.Bytes.{Id, widthOf}
+use Rattle.hash.specs.declared.Kind.{Kind}
 use Rattle.odb.specs.Store.{standingEntries}
 use Rattle.odb.specs.Lookup.{entryId}
 use Rattle.levels.specs.Levels.{levelOf}
@@ -30,33 +30,35 @@ use Rattle.opentested.specs.Contract.{TestedOpenSays}
 
 -- of every id, in the store or not: the graph g agrees with the store b; the level in the pair of each commit is the one that the rule gives it; and along
 -- every parent link the pair falls, whatever the clocks
-pub record InAgreement (b g : List ℕ) : Type 0 where
-  pub agrees : (x : Id) → Agrees (worldOf b g) x
-  pub levels : (k : ℕ) → k < standingEntries idBytes b → pairAt (worldOf b g) (entryId idBytes b k) .generation ≡ levelOf (graphIn idBytes b) k
-  pub falls : (x p : Id) → Mem p (links (worldOf b g) x) → ltPair (pairAt (worldOf b g) p) (pairAt (worldOf b g) x) ≡ true
+pub record InAgreement (w : ℕ) (b g : List ℕ) : Type 0 where
+  pub agrees : (x : Id) → Agrees (worldOf w b g) x
+  pub levels : (k : ℕ) → k < standingEntries w b → pairAt (worldOf w b g) (entryId w b k) .generation ≡ levelOf (graphIn w b) k
+  pub falls : (x p : Id) → Mem p (links (worldOf w b g) x) → ltPair (pairAt (worldOf w b g) p) (pairAt (worldOf w b g) x) ≡ true
 
 -- ---- the opening
 
 -- the store has an entry under x
-pub record Held (b : List ℕ) (x : Id) : Type 0 where
+pub record Held (w : ℕ) (b : List ℕ) (x : Id) : Type 0 where
   pub entry : ℕ
-  pub below : entry < standingEntries idBytes b
-  pub is : entryId idBytes b entry ≡ x
+  pub below : entry < standingEntries w b
+  pub is : entryId w b entry ≡ x
 
 -- whole ids, at most 1,024
-pub record WholeList (l : List ℕ) : Type 0 where
-  pub few : length l ≤ listLimit
-  pub whole : length l % idBytes ≡ 0
+pub record WholeList (w : ℕ) (l : List ℕ) : Type 0 where
+  pub few : length l ≤ listLimit w
+  pub whole : length l % w ≡ 0
 
--- an opening of the store b beside the graph g, with any settings and excluded ids, and any tips and hidden tips that the store holds
-pub record OpeningOf (b g : List ℕ) (i : Input) : Type 0 where
+-- an opening of the store b beside the graph g, of this kind of ids, with any other settings and excluded ids, and any tips and hidden tips that the
+-- store holds
+pub record OpeningOf (kind : Kind) (b g : List ℕ) (i : Input) : Type 0 where
+  pub same-kind : i .settings .kind ≡ kind
   pub store : i .store ≡ b
   pub graph : i .graph ≡ g
-  pub tips : WholeList (i .tips)
-  pub hidden : WholeList (i .hidden)
-  pub excluded : WholeList (i .excluded)
-  pub tips-held : (x : Id) → Mem x (listIds (i .tips)) → Held b x
-  pub hidden-held : (x : Id) → Mem x (listIds (i .hidden)) → Held b x
+  pub tips : WholeList (widthOf kind) (i .tips)
+  pub hidden : WholeList (widthOf kind) (i .hidden)
+  pub excluded : WholeList (widthOf kind) (i .excluded)
+  pub tips-held : (x : Id) → Mem x (listIds (widthOf kind) (i .tips)) → Held (widthOf kind) b x
+  pub hidden-held : (x : Id) → Mem x (listIds (widthOf kind) (i .hidden)) → Held (widthOf kind) b x
 
 -- none of 2 to 8 and none of 13 to 15 applies
 pub record Passes (i : Input) : Type 0 where
@@ -68,13 +70,13 @@ pub record Passes (i : Input) : Type 0 where
 -- ---- the claims, of any call that wrote n bytes from the store b into an output
 
 -- "a store with its own written graph always passes the tested opening", with the lent memory of its size
-unfoldable pub OwnGraphPasses : List ℕ → Type 0
-OwnGraphPasses b =
-    (s s′ out out′ : List ℕ) (n : ℕ) → Writes Sha1 b s s′ out out′ (File n) → (i : Input) → OpeningOf b (take n out′) i
+unfoldable pub OwnGraphPasses : Kind → List ℕ → Type 0
+OwnGraphPasses kind b =
+    (s s′ out out′ : List ℕ) (n : ℕ) → Writes kind b s s′ out out′ (File n) → (i : Input) → OpeningOf kind b (take n out′) i
     → (m : Lent) → roomFor i (lengthsOf m) ≡ true → (o : Opened) (m′ : Lent) → TestedOpenSays i m o m′ → o .answer .outcome ≡ Accepted
 
 -- and so every list of next calls after it is the listing of the third demand, whatever the clocks
-unfoldable pub OwnGraphListing : List ℕ → Type 0
-OwnGraphListing b =
-    (s s′ out out′ : List ℕ) (n : ℕ) → Writes Sha1 b s s′ out out′ (File n) → (i : Input) → OpeningOf b (take n out′) i
+unfoldable pub OwnGraphListing : Kind → List ℕ → Type 0
+OwnGraphListing kind b =
+    (s s′ out out′ : List ℕ) (n : ℕ) → Writes kind b s s′ out out′ (File n) → (i : Input) → OpeningOf kind b (take n out′) i
     → (m : Lent) → roomFor i (lengthsOf m) ≡ true → (o : Opened) (m′ : Lent) → TestedOpenSays i m o m′ → Delivered i o m′

@@ -19,7 +19,7 @@ use Rattle.pending.specs.declared.Pending.{Pending}
 use Rattle.walk.specs.declared.Refusal.{Refusal}
 use Rattle.walk.specs.Lookup.{World}
 use Rattle.walk.specs.State.{Walk, State, nobody, ids, isEmpty}
-use Rattle.walk.specs.Opening.{Input, P, walkOf, listIds, Opening}
+use Rattle.walk.specs.Opening.{Input, P, walkOf, listIds, Opening, widthIn}
 use Rattle.walk.specs.Painting.{Painting, stop, paint, bothMarks}
 use Rattle.walk.specs.Next.{refused, Step, step, takeNext, outside, paintedWith, afterPaint, firstCall}
 use Rattle.walk.specs.Calls.{stateOf, stateAfter, answerOn, answerAt}
@@ -51,7 +51,8 @@ use Rattle.painting.specs.Inner.{RefusesCall, Finished, Finishes}
 use Rattle.painting.proofs.FirstState.{opened-timed}
 use Rattle.painting.proofs.Ready.{lentOf, kept, waiting-ids, files, same-world, taken-plain, may-paint, due}
 use Rattle.painting.proofs.Kept.{spared}
-use Rattle.hash.specs.Bytes.{idBytes}
+use Rattle.hash.specs.Bytes.{widthOf}
+use Rattle.hash.specs.declared.Kind.{Kind}
 
 -- ---- whether painting is due
 
@@ -65,10 +66,6 @@ unfolding isEmpty
 some-there [] n = absurd (n refl)
 some-there (x ∷ l) n = refl
 
--- a list of hidden tips that holds one id at least
-pub whole-id : {n k : ℕ} → k ≡ n / idBytes → (k ≡ 0 → ⊥) → 20 ≤ n
-whole-id {n} {k} e h = byCases (ltb n 20) (λ t. let l : n < 20 = ltb-true n 20 t in absurd (h (omega (arith, e)))) (λ f. ltb-false n 20 f)
-
 -- ---- after painting
 
 -- the call that painting ends
@@ -81,23 +78,27 @@ first-stop v st n e k =
 
 -- the files as painting reads them, and the painting in lent memory
 abbrev world : Input → World
-world i = worldUnder (cacheOf (i .graph) true) (i .graph) (i .store)
+world i = worldUnder (widthIn i) (cacheOf (widthIn i) (i .graph) true) (i .graph) (i .store)
 
 abbrev whole : Input → Record → Memory → List ℕ → Painting
-whole i r m levels = paint (world i) (4 * P i) (all.waitingIds (r .queue) (lentOf m levels)) (listIds (i .hidden))
+whole i r m levels = paint (world i) (4 * P i) (all.waitingIds (widthIn i) (r .queue) (lentOf m levels)) (listIds (widthIn i) (i .hidden))
 
 -- what holds where painting was due: it ran, and was finished
 pub record Made (r : Record) (m : Memory) (levels names′ marks′ levels′ : List ℕ) (times′ times″ : List ℤ) (line′ line″ : List ℕ) (c : Cache) (x : Marked) (y : Painted)
     (store graph hidden : List ℕ) : Type 0 where
-  pub some-hidden : 20 ≤ length hidden
+  pub some-hidden : length hidden / widthOf (r .fixed .kind) ≡ 0 → ⊥
   pub some-wait : r .queue .count ≡ 0 → ⊥
   pub cache-is : c ≡ cacheWith graph (r .fixed .layout) (r .kept)
-  pub paints : all.Paints c graph store (r .queue .cap) (lentOf m levels) (lent names′ marks′ levels′ times′ line′) (r .queue) (listIds hidden) x
+  pub paints : all.Paints (widthOf (r .fixed .kind)) c graph store (r .queue .cap) (lentOf m levels) (lent names′ marks′ levels′ times′ line′) (r .queue) (listIds (widthOf (r .fixed .kind)) hidden) x
   pub long-times : length times′ ≡ length (m .times)
   pub long-line : length line′ ≡ length (m .line)
   pub finishes : Finishes x r store names′ marks′ times′ times″ line′ line″ y
 
 module _ {i : Input} {r : Record} {m : Memory} {levels : List ℕ} {st : State} (a : AtFirst i r m levels st) where
+  -- the kind of ids is the opening's
+  pub same-kind : r .fixed .kind ≡ i .settings .kind
+  same-kind = ap (λ (f : Fixed). f .kind) (a .reads .fixed)
+
   -- the ids after painting
   inside : (l : List (Id × ℤ)) (f : Id → Bool) → ((x : Id) → f x ≡ true → Mem x (universe i)) → Universe (shapeOf i) (paintedWith st l f) (universe i)
   unfolding paintedWith
@@ -109,9 +110,9 @@ module _ {i : Input} {r : Record} {m : Memory} {levels : List ℕ} {st : State} 
 
   -- ---- painting is not due
 
-  no-hidden : length (i .hidden) < 20 → isEmpty (walkOf i .hidden) ≡ true
+  no-hidden : length (i .hidden) / widthIn i ≡ 0 → isEmpty (walkOf i .hidden) ≡ true
   unfolding walkOf
-  no-hidden h = none-there (listIds (i .hidden)) (omega (arith, length-list (i .hidden)))
+  no-hidden h = none-there (listIds (widthIn i) (i .hidden)) (length-list (widthIn i) (i .hidden) ∙ h)
 
   none-wait : r .queue .count ≡ 0 → isEmpty (st .queue) ≡ true
   none-wait h = none-there (st .queue) (queue-length (a .reads) ∙ h)
@@ -125,7 +126,7 @@ module _ {i : Input} {r : Record} {m : Memory} {levels : List ℕ} {st : State} 
     same-admitted = admitted-same (st .queue) nobody;
   }
 
-  pub not-due : {r′ : Record} → (length (i .hidden) < 20) ⊎ (r .queue .count ≡ 0) → Skips r r′ → GoesOn i st r′ m
+  pub not-due : {r′ : Record} → (length (i .hidden) / widthIn i ≡ 0) ⊎ (r .queue .count ≡ 0) → Skips r r′ → GoesOn i st r′ m
   not-due h s =
       goes-plain
       (⊎-elim
@@ -135,27 +136,27 @@ module _ {i : Input} {r : Record} {m : Memory} {levels : List ℕ} {st : State} 
 
   -- ---- painting is due
 
-  some-to-hide : 20 ≤ length (i .hidden) → isEmpty (walkOf i .hidden) ≡ false
+  some-to-hide : (length (i .hidden) / widthIn i ≡ 0 → ⊥) → isEmpty (walkOf i .hidden) ≡ false
   unfolding walkOf
-  some-to-hide n = some-there (listIds (i .hidden)) (λ e. omega (arith, length-list (i .hidden)))
+  some-to-hide n = some-there (listIds (widthIn i) (i .hidden)) (λ e. n (sym (length-list (widthIn i) (i .hidden)) ∙ e))
 
-  is-due : 20 ≤ length (i .hidden) → (r .queue .count ≡ 0 → ⊥) → (isEmpty (walkOf i .hidden) || isEmpty (st .queue)) ≡ false
+  is-due : (length (i .hidden) / widthIn i ≡ 0 → ⊥) → (r .queue .count ≡ 0 → ⊥) → (isEmpty (walkOf i .hidden) || isEmpty (st .queue)) ≡ false
   is-due n q = ap₂ (λ (b c : Bool). b || c) (some-to-hide n) (some-there (st .queue) (λ e. q (sym (queue-length (a .reads)) ∙ e)))
 
   -- the painting in lent memory is the walk's
   walks : {p : Painting} → whole i r m levels ≡ p → paint (walkOf i .world) (walkOf i .fuel) (ids (st .queue)) (walkOf i .hidden) ≡ p
   unfolding walkOf
-  walks e = sym (ap₂ (λ (w : World) (l : List Id). paint w (4 * P i) l (listIds (i .hidden))) (same-world a) (waiting-ids a)) ∙ e
+  walks e = sym (ap₂ (λ (w : World) (l : List Id). paint w (4 * P i) l (listIds (widthIn i) (i .hidden))) (same-world a) (waiting-ids a)) ∙ e
 
   module _ (h : (isEmpty (walkOf i .hidden) || isEmpty (st .queue)) ≡ false) (m′ : Memory) (levels′ : List ℕ) (lt : length (m′ .times) ≡ length (m .times))
       (ll : length (m′ .line) ≡ length (m .line)) where
-    frontier-is : {q : Pending} (g : Goes (world i) (P i) (universe i) (all.startOf (P i)) (lentOf m levels) (lentOf m′ levels′) q (whole i r m levels)) (x : Id)
-        → bothMarks (g .state) x ≡ frontier (markFor idBytes false (m′ .names) (m′ .marks) (P i) x)
+    frontier-is : {q : Pending} (g : Goes (widthIn i) (world i) (P i) (universe i) (all.startOf (P i)) (lentOf m levels) (lentOf m′ levels′) q (whole i r m levels)) (x : Id)
+        → bothMarks (g .state) x ≡ frontier (markFor (widthIn i) false (m′ .names) (m′ .marks) (P i) x)
     unfolding frontier
     frontier-is g x = ap₂ (λ (b c : Bool). b && c) (g .reads .vis x) (g .reads .hid x)
 
     goes-on : {q : Pending} {times″ : List ℤ} {line″ : List ℕ} {r′ : Record}
-        → Goes (world i) (P i) (universe i) (all.startOf (P i)) (lentOf m levels) (lentOf m′ levels′) q (whole i r m levels)
+        → Goes (widthIn i) (world i) (P i) (universe i) (all.startOf (P i)) (lentOf m levels) (lentOf m′ levels′) q (whole i r m levels)
         → Leaves r (i .store) (m′ .names) (m′ .marks) (m′ .times) times″ (m′ .line) line″ r′ → GoesOn i st r′ (mem (m′ .names) (m′ .marks) times″ line″)
     goes-on g l =
         let f : Id → Bool = bothMarks (g .state) in
@@ -177,7 +178,7 @@ module _ {i : Input} {r : Record} {m : Memory} {levels : List ℕ} {st : State} 
         (ap (λ (o : Opening). answerOn (walkOf i) (stateOf o) o .kind) (a .accepted)
         ∙ ap (λ (s : Step). s .answer .kind) (next-first (walkOf i) st (open-fresh i st (a .accepted) .not-painted) ∙ first-stop (walkOf i) st n h (walks e)))
 
-    gives-up : {n why : Refusal} {r′ : Record} → Stops (P i) (all.startOf (P i)) (lentOf m levels) (lentOf m′ levels′) n (whole i r m levels) → RefusesCall n why → Fails r r′
+    gives-up : {n why : Refusal} {r′ : Record} → Stops (widthIn i) (P i) (all.startOf (P i)) (lentOf m levels) (lentOf m′ levels′) n (whole i r m levels) → RefusesCall n why → Fails r r′
         → GivesUp i st why r′ m′
     gives-up {n} {why} s w f = record {
       after = paintedWith st [] nobody;
@@ -186,7 +187,7 @@ module _ {i : Input} {r : Record} {m : Memory} {levels : List ℕ} {st : State} 
     }
 
     ends : (times″ : List ℤ) (line″ : List ℕ) (x : Marked) (y : Painted)
-        → Ends (world i) (P i) (universe i) (all.startOf (P i)) (lentOf m levels) (lentOf m′ levels′) x (whole i r m levels)
+        → Ends (widthIn i) (world i) (P i) (universe i) (all.startOf (P i)) (lentOf m levels) (lentOf m′ levels′) x (whole i r m levels)
         → Finished r (i .store) (m′ .names) (m′ .marks) (m′ .times) times″ (m′ .line) line″ x y → Told i st (mem (m′ .names) (m′ .marks) times″ line″) y
     ends times″ line″ (Going q) y g f = subst (Told i st (mem (m′ .names) (m′ .marks) times″ line″)) (sym (f .1)) (goes-on g (f .2))
     ends times″ line″ (Stop n) y s f =
@@ -197,17 +198,19 @@ module _ {i : Input} {r : Record} {m : Memory} {levels : List ℕ} {st : State} 
   pub is-made : {names′ marks′ levels′ : List ℕ} {times′ times″ : List ℤ} {line′ line″ : List ℕ} {c : Cache} {x : Marked} {y : Painted}
       → Made r m levels names′ marks′ levels′ times′ times″ line′ line″ c x y (i .store) (i .graph) (i .hidden) → Told i st (mem names′ marks′ times″ line″) y
   is-made {names′} {marks′} {levels′} {times′} {times″} {line′} {line″} {c} {x} {y} d =
-      let p : all.Paints (cacheOf (i .graph) true) (i .graph) (i .store) (P i) (lentOf m levels) (lent names′ marks′ levels′ times′ line′) (r .queue) (listIds (i .hidden)) x =
-      subst₂ (λ (k : Cache) (n : ℕ). all.Paints k (i .graph) (i .store) n (lentOf m levels) (lent names′ marks′ levels′ times′ line′) (r .queue) (listIds (i .hidden)) x)
-      (d .cache-is ∙ ap₂ (cacheWith (i .graph)) (ap (λ (f : Fixed). f .layout) (a .reads .fixed)) (kept a)) (a .reads .cap) (d .paints) in
-      ends (is-due (d .some-hidden) (d .some-wait)) (mem names′ marks′ times′ line′) levels′ (d .long-times) (d .long-line) times″ line″ x y (p .right (files a) (universe i) (may-paint a)) (d .finishes .does)
+      let p : all.Paints (widthIn i) (cacheOf (widthIn i) (i .graph) true) (i .graph) (i .store) (P i) (lentOf m levels) (lent names′ marks′ levels′ times′ line′) (r .queue) (listIds (widthIn i) (i .hidden)) x =
+      subst₂ (λ (k : Cache) (n : ℕ). all.Paints (widthIn i) k (i .graph) (i .store) n (lentOf m levels) (lent names′ marks′ levels′ times′ line′) (r .queue) (listIds (widthIn i) (i .hidden)) x)
+      (d .cache-is ∙ ap₂ (cacheWith (i .graph)) (ap (λ (f : Fixed). f .layout) (a .reads .fixed)) (kept a)) (a .reads .cap)
+      (subst (λ (k : Kind). all.Paints (widthOf k) c (i .graph) (i .store) (r .queue .cap) (lentOf m levels) (lent names′ marks′ levels′ times′ line′) (r .queue) (listIds (widthOf k) (i .hidden)) x)
+      same-kind (d .paints)) in
+      ends (is-due (λ e. d .some-hidden (ap (λ (k : Kind). length (i .hidden) / widthOf k) same-kind ∙ e)) (d .some-wait)) (mem names′ marks′ times′ line′) levels′ (d .long-times) (d .long-line) times″ line″ x y (p .right (files a) (universe i) (may-paint a)) (d .finishes .does)
 
 -- ---- as a contract
 
-pub skipped : {store graph hidden : List ℕ} {r r′ : Record} {m : Memory} {levels : List ℕ} → (length hidden < 20) ⊎ (r .queue .count ≡ 0) → Skips r r′
+pub skipped : {store graph hidden : List ℕ} {r r′ : Record} {m : Memory} {levels : List ℕ} → (length hidden / widthOf (r .fixed .kind) ≡ 0) ⊎ (r .queue .count ≡ 0) → Skips r r′
     → Paints store graph hidden r m levels m (Done r′)
 skipped {r = r} h s = record {
-  right = λ i es eg eh st a. not-due a (subst (λ (l : List ℕ). (length l < 20) ⊎ (r .queue .count ≡ 0)) (sym eh) h) s;
+  right = λ i es eg eh st a. not-due a (subst₂ (λ (k : Kind) (l : List ℕ). (length l / widthOf k ≡ 0) ⊎ (r .queue .count ≡ 0)) (same-kind a) (sym eh) h) s;
   of-call = tt;
 }
 

@@ -16,7 +16,7 @@ use Rattle.walk.specs.declared.Refusal.the-variants.{TipNotFound, TipUnreadable
 use Rattle.walk.specs.Settings.{timed, onlyFirst, byTime, goesBefore, cutoffOf, notBefore}
 use Rattle.walk.specs.Lookup.{World, worldOf, storeSeconds, secondsFor}
 use Rattle.walk.specs.State.{Walk, State, emptyState, queued, enter, sees, waits}
-use Rattle.walk.specs.Opening.{Input, P, walkOf, listIds, distinct, Opening, closed, opened, tipsIn, openWalk}
+use Rattle.walk.specs.Opening.{Input, P, walkOf, listIds, distinct, Opening, closed, opened, tipsIn, openWalk, widthIn}
 use Rattle.walk.specs.Reach.{Mem}
 use Rattle.walk.proofs.Tips.{opened-test, open-keep, open-tips}
 use Rattle.state.specs.Shapes.{shapeOf}
@@ -76,7 +76,7 @@ module _ (v : Walk) (b : byTime (v .settings) ≡ true) where
       (λ k. tips-right xs (waits v st x (t .0)) st′ (waits-right st x (t .0) (read-seconds (v .world) x (h .0) (t .0) (h .1) (t .1)) q) k)
       (λ k. tips-right xs (sees st x) st′ (sees-right st x q) k)
 
-pub opened-timed : (i : Input) (st : State) → openWalk i true ≡ opened st → Timed (worldOf (i .store) (i .graph)) (shapeOf i) st
+pub opened-timed : (i : Input) (st : State) → openWalk i true ≡ opened st → Timed (worldOf (widthIn i) (i .store) (i .graph)) (shapeOf i) st
 unfolding walkOf
 opened-timed i st e b =
-    tips-right (walkOf i) b (distinct [] (walkOf i .excluded) (listIds (i .tips))) emptyState st (λ x t m. absurd (List·Memᴰ·not-nil m)) (open-tips i st e)
+    tips-right (walkOf i) b (distinct [] (walkOf i .excluded) (listIds (widthIn i) (i .tips))) emptyState st (λ x t m. absurd (List·Memᴰ·not-nil m)) (open-tips i st e)

@@ -12,14 +12,13 @@ use Rattle.state.specs.Reads.{Memory}
 use Rattle.frontier.specs.Paint.{Spares}
 use Rattle.refill.specs.Painted.{Painted}
 use Rattle.painting.proofs.Ready.{lentOf}
-use Rattle.hash.specs.Bytes.{idBytes}
 
 below-same : (a b : List ℕ) (n k : ℕ) → take n b ≡ take n a → k < n → getD a k 0 ≡ getD b k 0
 below-same a b n k e h = sym (getD-take n a k 0 h) ∙ ap (λ (l : List ℕ). getD l k 0) (sym e) ∙ getD-take n b k 0 h
 
-pub spared : {cap : ℕ} {m m′ : Memory} {levels levels′ : List ℕ} → Spares cap (2 * cap) (lentOf m levels) (lentOf m′ levels′) → Table idBytes false (m′ .names) (m′ .marks) cap
-    → length (m′ .times) ≡ length (m .times) → length (m′ .line) ≡ length (m .line) → Painted m m′ cap
-spared {cap} {m} {m′} s t lt ll = record {
+pub spared : {width : ℕ} {cap : ℕ} {m m′ : Memory} {levels levels′ : List ℕ} → Spares width cap (2 * cap) (lentOf m levels) (lentOf m′ levels′) → Table width false (m′ .names) (m′ .marks) cap
+    → length (m′ .times) ≡ length (m .times) → length (m′ .line) ≡ length (m .line) → Painted width m m′ cap
+spared {width} {cap} {m} {m′} s t lt ll = record {
   table = t;
   seen-same = s .seen-same;
   still = λ x k h. let n = s .taken k (h .low) (h .alive) in record { low = h .low; alive = n .0; is = n .1 ∙ h .is };

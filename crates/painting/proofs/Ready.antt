@@ -11,6 +11,7 @@ use lib.ListN.{length, length-append, getD}
 use lib.IntN.{ℤ}
 use Rattle.hash.specs.Bytes.{Id}
 use Rattle.hash.proofs.Tests.{or-left, or-right}
+use Rattle.hash.proofs.Widths.{width-most}
 use Rattle.hashtable.specs.Marks.{seen, frontier}
 use Rattle.hashtable.specs.Table.{idOf, liveAt, Table, markFor}
 use Rattle.hashtable.proofs.TableView.{look}
@@ -18,7 +19,7 @@ use Rattle.commitgraph.specs.Graph.{graphOk}
 use Rattle.walk.specs.Settings.{byTime}
 use Rattle.walk.specs.Lookup.{World}
 use Rattle.walk.specs.State.{State, ids, isEmpty}
-use Rattle.walk.specs.Opening.{Input, P, walkOf, listIds, refusal}
+use Rattle.walk.specs.Opening.{Input, P, walkOf, listIds, refusal, widthIn}
 use Rattle.walk.proofs.Tips.{open-accepted}
 use Rattle.walk.proofs.Whole.{open-fresh, accepted}
 use Rattle.walk.proofs.Enough.{kids-named}
@@ -37,16 +38,15 @@ use Rattle.frontier.specs.Painted.{Ample, waitingIds, MayPaint}
 use Rattle.refill.specs.Painted.{Due}
 use Rattle.painting.specs.First.{AtFirst}
 use Rattle.painting.proofs.FirstState.{opened-kept}
-use Rattle.hash.specs.Bytes.{idBytes}
 
 -- the memory with the levels beside it
 abbrev pub lentOf : Memory → List ℕ → Lent
 lentOf m levels = lent (m .names) (m .marks) levels (m .times) (m .line)
 
-ids-entries : (timed : Bool) (names : List ℕ) (times : List ℤ) (l : List ℕ) → ids (map (entryOf timed names times) l) ≡ map (idOf idBytes names) l
+ids-entries : (width : ℕ) (timed : Bool) (names : List ℕ) (times : List ℤ) (l : List ℕ) → ids (map (entryOf width timed names times) l) ≡ map (idOf width names) l
 unfolding ids
-ids-entries timed names times [] = refl
-ids-entries timed names times (s ∷ l) = ap (λ (r : List Id). idOf idBytes names s ∷ r) (ids-entries timed names times l)
+ids-entries width timed names times [] = refl
+ids-entries width timed names times (s ∷ l) = ap (λ (r : List Id). idOf width names s ∷ r) (ids-entries width timed names times l)
 
 module _ {i : Input} {r : Record} {m : Memory} {levels : List ℕ} {st : State} (a : AtFirst i r m levels st) where
   none-refused : refusal i ≡ none
@@ -58,27 +58,28 @@ module _ {i : Input} {r : Record} {m : Memory} {levels : List ℕ} {st : State} 
   pub kept : r .kept ≡ true
   kept = sym (a .reads .kept) ∙ opened-kept i st (a .accepted)
 
-  pub waiting-ids : waitingIds (r .queue) (lentOf m levels) ≡ ids (st .queue)
-  waiting-ids = sym (ap ids (a .reads .queue) ∙ ids-entries (byTime (i .settings)) (m .names) (m .times) (waiting r m))
+  pub waiting-ids : waitingIds (widthIn i) (r .queue) (lentOf m levels) ≡ ids (st .queue)
+  waiting-ids = sym (ap ids (a .reads .queue) ∙ ids-entries (widthIn i) (byTime (i .settings)) (m .names) (m .times) (waiting r m))
 
   -- ---- the files
 
-  pub files : Files (cacheOf (i .graph) true) (i .graph) (i .store)
+  pub files : Files (widthIn i) (cacheOf (widthIn i) (i .graph) true) (i .graph) (i .store)
   files =
       let g = accepted i none-refused in
       record {
         store-ok = g .store-ok;
-        graph-ok = good-cache (i .graph) true (⊎-elim (or-left (isEmpty (i .graph)) (graphOk idBytes (i .graph))) (or-right (isEmpty (i .graph)) (graphOk idBytes (i .graph))) (g .graph-ok));
+        graph-ok = good-cache (widthIn i) (i .graph) true (⊎-elim (or-left (isEmpty (i .graph)) (graphOk (widthIn i) (i .graph))) (or-right (isEmpty (i .graph)) (graphOk (widthIn i) (i .graph))) (g .graph-ok));
+        small = width-most (i .settings .kind);
       }
 
-  pub same-world : worldUnder (cacheOf (i .graph) true) (i .graph) (i .store) ≡ walkOf i .world
+  pub same-world : worldUnder (widthIn i) (cacheOf (widthIn i) (i .graph) true) (i .graph) (i .store) ≡ walkOf i .world
   unfolding walkOf
-  same-world = kept-world (i .graph) (i .store)
+  same-world = kept-world (widthIn i) (i .graph) (i .store)
 
   -- ---- marks before painting
 
-  table : Table idBytes false (m .names) (m .marks) (P i)
-  table = subst (λ (b : Bool). Table idBytes b (m .names) (m .marks) (P i)) unpainted (a .reads .table)
+  table : Table (widthIn i) false (m .names) (m .marks) (P i)
+  table = subst (λ (b : Bool). Table (widthIn i) b (m .names) (m .marks) (P i)) unpainted (a .reads .table)
 
   taken-seen : (k : ℕ) → k < P i → liveAt false (m .marks) k ≡ true → seen (getD (m .marks) k 0) ≡ true
   taken-seen k l h = a .reads .only-seen unpainted k l h .0
@@ -86,25 +87,25 @@ module _ {i : Input} {r : Record} {m : Memory} {levels : List ℕ} {st : State} 
   pub taken-plain : (k : ℕ) → k < P i → liveAt false (m .marks) k ≡ true → frontier (getD (m .marks) k 0) ≡ false
   taken-plain k l h = a .reads .only-seen unpainted k l h .1
 
-  held-seen : (y : Id) → (markFor idBytes false (m .names) (m .marks) (P i) y ≡ 0 → ⊥) → st .seen y ≡ true
+  held-seen : (y : Id) → (markFor (widthIn i) false (m .names) (m .marks) (P i) y ≡ 0 → ⊥) → st .seen y ≡ true
   held-seen y n =
       ⊎-elim
       (λ u.
-      a .reads .seen-is y ∙ ap (λ (b : Bool). seen (markFor idBytes b (m .names) (m .marks) (P i) y)) unpainted ∙ ap seen (u .mark)
+      a .reads .seen-is y ∙ ap (λ (b : Bool). seen (markFor (widthIn i) b (m .names) (m .marks) (P i) y)) unpainted ∙ ap seen (u .mark)
       ∙ taken-seen (u .slot) (u .holds .low) (u .holds .alive))
       (λ u. absurd (n (u .1)))
-      (look idBytes false (m .names) (m .marks) (P i) y)
+      (look (widthIn i) false (m .names) (m .marks) (P i) y)
 
   -- ---- room
 
-  named : Named (P i) (universe i) (lentOf m levels)
+  named : Named (widthIn i) (P i) (universe i) (lentOf m levels)
   named = record {
     few = universe-length i none-refused;
     small = omega (arith, places-few i none-refused);
     inside = λ y n. open-named i st (a .accepted) .seen-in y (held-seen y n);
   }
 
-  lists-short : length (ids (st .queue)) + length (listIds (i .hidden)) + length (names i) ≤ P i
+  lists-short : length (ids (st .queue)) + length (listIds (widthIn i) (i .hidden)) + length (names i) ≤ P i
   unfolding universe
   lists-short =
       omega (
@@ -112,11 +113,11 @@ module _ {i : Input} {r : Record} {m : Memory} {levels : List ℕ} {st : State} 
         open-fresh i st (a .accepted) .short,
         length-ids (st .queue),
         universe-length i none-refused,
-        length-append (listIds (i .tips)) (listIds (i .hidden) ++ names i),
-        length-append (listIds (i .hidden)) (names i),
+        length-append (listIds (widthIn i) (i .tips)) (listIds (widthIn i) (i .hidden) ++ names i),
+        length-append (listIds (widthIn i) (i .hidden)) (names i),
       )
 
-  ample : Ample (walkOf i .world) (P i) (universe i) (ids (st .queue)) (listIds (i .hidden))
+  ample : Ample (walkOf i .world) (P i) (universe i) (ids (st .queue)) (listIds (widthIn i) (i .hidden))
   unfolding walkOf
   ample = record {
     parents = names i;
@@ -127,7 +128,7 @@ module _ {i : Input} {r : Record} {m : Memory} {levels : List ℕ} {st : State} 
     parents-in = kid-in i;
   }
 
-  may-walk : MayPaint (walkOf i .world) (P i) (universe i) (lentOf m levels) (r .queue) (listIds (i .hidden))
+  may-walk : MayPaint (widthIn i) (walkOf i .world) (P i) (universe i) (lentOf m levels) (r .queue) (listIds (widthIn i) (i .hidden))
   may-walk = record {
     table = table;
     for-levels = a .for-levels;
@@ -138,11 +139,11 @@ module _ {i : Input} {r : Record} {m : Memory} {levels : List ℕ} {st : State} 
     only-seen = taken-seen;
     waits-seen = a .reads .waits-seen;
     named = named;
-    ample = subst (λ (l : List Id). Ample (walkOf i .world) (P i) (universe i) l (listIds (i .hidden))) (sym waiting-ids) ample;
+    ample = subst (λ (l : List Id). Ample (walkOf i .world) (P i) (universe i) l (listIds (widthIn i) (i .hidden))) (sym waiting-ids) ample;
   }
 
-  pub may-paint : MayPaint (worldUnder (cacheOf (i .graph) true) (i .graph) (i .store)) (P i) (universe i) (lentOf m levels) (r .queue) (listIds (i .hidden))
-  may-paint = subst (λ (w : World). MayPaint w (P i) (universe i) (lentOf m levels) (r .queue) (listIds (i .hidden))) (sym same-world) may-walk
+  pub may-paint : MayPaint (widthIn i) (worldUnder (widthIn i) (cacheOf (widthIn i) (i .graph) true) (i .graph) (i .store)) (P i) (universe i) (lentOf m levels) (r .queue) (listIds (widthIn i) (i .hidden))
+  may-paint = subst (λ (w : World). MayPaint (widthIn i) w (P i) (universe i) (lentOf m levels) (r .queue) (listIds (widthIn i) (i .hidden))) (sym same-world) may-walk
 
   -- ---- what ends painting
 

@@ -1,7 +1,6 @@
 // Painting as the first call of a walk does it (compute_hidden_frontier of gix_traverse::commit::simple): which of the waiting commits the
 // hidden tips reach too. Every function is total and safe on any bytes and numbers.
 use frontier::Marked;
-use hash::Kind;
 use state::Record;
 use walk::Refusal;
 ghost use Rattle.state.specs.Steps.{mem};
@@ -73,15 +72,17 @@ pub fn compute_hidden_frontier(
     ensures { λ a. ⌜ Paints (now (store .entry)) (now (graph .entry)) (now (hidden .entry)) r (mem (now (names .entry)) (now (marks .entry)) (now (times .entry)) (now (line .entry))) (now (levels .entry)) (mem (now (names .exit)) (now (marks .exit)) (now (times .exit)) (now (line .exit))) a ⌝ }
 {
     let q = r.queue;
-    if hash::ids_in(Kind::Sha1, hidden.len()) == 0 {
+    let fixed = r.fixed;
+    let kind = fixed.kind;
+    if hash::ids_in(kind, hidden.len()) == 0 {
         return Painted::Done(refill::skip_painting(r));
     }
     if q.count == 0 {
         return Painted::Done(refill::skip_painting(r));
     }
-    let fixed = r.fixed;
     let cache = reading::cache_of(graph, fixed.layout, r.kept);
     let a = frontier::compute_hidden_frontier(
+        kind,
         names,
         marks,
         levels,

@@ -4,7 +4,7 @@ use mathlib.Core.Path.{_≡_}
 use mathlib.Core.Bool.{Bool, true, false}
 use mathlib.Core.List.{List}
 use lib.ListN.{getD}
-use Rattle.hash.specs.Bytes.{Id, idBytes, pick}
+use Rattle.hash.specs.Bytes.{Id, pick}
 use Rattle.odb.specs.Store.{storeOk}
 use Rattle.hashtable.specs.Marks.{frontier}
 use Rattle.hashtable.specs.Table.{idOf}
@@ -28,30 +28,30 @@ metOf Tangled = Tangled
 metOf (Commit slot) = Commit slot
 
 -- what `goes_first` answers of the commits in two slots
-pub record GoesFirst (s names : List ℕ) (x y : ℕ) (r : Bool) : Type 0 where
-  pub right : storeOk idBytes s ≡ true → (g : List ℕ) → r ≡ goesFirst (worldOf s g) (idOf idBytes names x) (idOf idBytes names y)
+pub record GoesFirst (width : ℕ) (s names : List ℕ) (x y : ℕ) (r : Bool) : Type 0 where
+  pub right : storeOk width s ≡ true → (g : List ℕ) → r ≡ goesFirst (worldOf width s g) (idOf width names x) (idOf width names y)
 
 -- of two slots the one whose commit goes first
-pub record FirstOfTwo (s names : List ℕ) (x y : ℕ) (r : Choice) : Type 0 where
+pub record FirstOfTwo (width : ℕ) (s names : List ℕ) (x y : ℕ) (r : Choice) : Type 0 where
   pub by : Bool
-  pub goes : GoesFirst s names x y by
+  pub goes : GoesFirst width s names x y by
   pub is : r ≡ Commit (pick by x y)
 
 -- a best commit is met: it is chosen where it is the first so far
-abbrev pub Sooner : List ℕ → List ℕ → Choice → ℕ → Choice → Type 0
-Sooner s names Nothing slot r = r ≡ Commit slot
-Sooner s names Tangled slot r = r ≡ Commit slot
-Sooner s names (Commit other) slot r = FirstOfTwo s names slot other r
+abbrev pub Sooner : ℕ → List ℕ → List ℕ → Choice → ℕ → Choice → Type 0
+Sooner width s names Nothing slot r = r ≡ Commit slot
+Sooner width s names Tangled slot r = r ≡ Commit slot
+Sooner width s names (Commit other) slot r = FirstOfTwo width s names slot other r
 
 -- what `sooner` does
-pub record TakesSooner (s names : List ℕ) (past : Choice) (slot : ℕ) (r : Choice) : Type 0 where
-  pub told : Sooner s names past slot r
+pub record TakesSooner (width : ℕ) (s names : List ℕ) (past : Choice) (slot : ℕ) (r : Choice) : Type 0 where
+  pub told : Sooner width s names past slot r
 
 -- what `choose_next` does
-pub record ChoosesNext (s names marks levels : List ℕ) (past : Choice) (slot : ℕ) (r : Choice) : Type 0 where
+pub record ChoosesNext (width : ℕ) (s names marks levels : List ℕ) (past : Choice) (slot : ℕ) (r : Choice) : Type 0 where
   pub passed : frontier (getD marks slot 0) ≡ false → r ≡ past
   pub met : frontier (getD marks slot 0) ≡ true → isStained levels slot ≡ true → r ≡ metOf past
-  pub taken : frontier (getD marks slot 0) ≡ true → isStained levels slot ≡ false → Sooner s names past slot r
+  pub taken : frontier (getD marks slot 0) ≡ true → isStained levels slot ≡ false → Sooner width s names past slot r
 
 -- among the first k places some have both marks, and each of these is stained
 pub record Knotted (marks levels line : List ℕ) (k : ℕ) : Type 0 where
@@ -61,25 +61,25 @@ pub record Knotted (marks levels line : List ℕ) (k : ℕ) : Type 0 where
   pub stained : (i : ℕ) → i < k → bothAt marks line i ≡ true → stainAt levels line i ≡ true
 
 -- the id at place i of the line
-abbrev pub idAt : List ℕ → List ℕ → ℕ → Id
-idAt names line i = idOf idBytes names (getD line i 0)
+abbrev pub idAt : ℕ → List ℕ → List ℕ → ℕ → Id
+idAt width names line i = idOf width names (getD line i 0)
 
 -- the slot stands at one of the first k places, has both marks and is not stained; in a good store it goes before every other such
-pub record Picked (s names marks levels line : List ℕ) (k slot : ℕ) : Type 0 where
+pub record Picked (width : ℕ) (s names marks levels line : List ℕ) (k slot : ℕ) : Type 0 where
   pub place : ℕ
   pub low : place < k
   pub is : getD line place 0 ≡ slot
   pub both : bothAt marks line place ≡ true
   pub clean : stainAt levels line place ≡ false
-  pub first : storeOk idBytes s ≡ true → (g : List ℕ) (i : ℕ) → i < k → bothAt marks line i ≡ true → stainAt levels line i ≡ false
-      → (idAt names line i ≡ idAt names line place → ⊥) → goesFirst (worldOf s g) (idAt names line place) (idAt names line i) ≡ true
+  pub first : storeOk width s ≡ true → (g : List ℕ) (i : ℕ) → i < k → bothAt marks line i ≡ true → stainAt levels line i ≡ false
+      → (idAt width names line i ≡ idAt width names line place → ⊥) → goesFirst (worldOf width s g) (idAt width names line place) (idAt width names line i) ≡ true
 
 -- by the answer
-abbrev pub ToldChoice : List ℕ → List ℕ → List ℕ → List ℕ → List ℕ → ℕ → Choice → Type 0
-ToldChoice s names marks levels line k Nothing = (i : ℕ) → i < k → bothAt marks line i ≡ false
-ToldChoice s names marks levels line k Tangled = Knotted marks levels line k
-ToldChoice s names marks levels line k (Commit slot) = Picked s names marks levels line k slot
+abbrev pub ToldChoice : ℕ → List ℕ → List ℕ → List ℕ → List ℕ → List ℕ → ℕ → Choice → Type 0
+ToldChoice width s names marks levels line k Nothing = (i : ℕ) → i < k → bothAt marks line i ≡ false
+ToldChoice width s names marks levels line k Tangled = Knotted marks levels line k
+ToldChoice width s names marks levels line k (Commit slot) = Picked width s names marks levels line k slot
 
 -- what `choose` does
-pub record Chooses (s names marks levels line : List ℕ) (n : ℕ) (r : Choice) : Type 0 where
-  pub told : ToldChoice s names marks levels line n r
+pub record Chooses (width : ℕ) (s names marks levels line : List ℕ) (n : ℕ) (r : Choice) : Type 0 where
+  pub told : ToldChoice width s names marks levels line n r

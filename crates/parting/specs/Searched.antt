@@ -8,11 +8,11 @@ use Rattle.reach.specs.Search.{Reached}
 use Rattle.reach.specs.Memory.{Lent, Lists}
 
 -- both searches stand in one memory, the first in the line's first n places
-pub record Searched (w : World) (a b : Id) (cap : ℕ) (m : Lent) (n : ℕ) (l : List Id) : Type 0 where
-  pub one : Lists false cap 0 m n l
+pub record Searched (width : ℕ) (w : World) (a b : Id) (cap : ℕ) (m : Lent) (n : ℕ) (l : List Id) : Type 0 where
+  pub one : Lists width false cap 0 m n l
   pub one-reached : Reached w (a ∷ []) l
   pub other-list : List Id
   pub other-from : ℕ
   pub other-count : ℕ
-  pub other : Lists true cap other-from m other-count other-list
+  pub other : Lists width true cap other-from m other-count other-list
   pub other-reached : Reached w (b ∷ []) other-list

@@ -7,7 +7,7 @@ use stain::has_both;
 use stain::is_stained;
 use stain::slot_at;
 ghost use mathlib.Core.Path.{_≡_};
-ghost use Rattle.hash.specs.Bytes.{ltId};
+ghost use Rattle.hash.specs.Bytes.{ltId, widthOf};
 ghost use Rattle.parting.specs.Choice.{metOf, GoesFirst, TakesSooner, ChoosesNext, Chooses};
 
 // What the commits of the line come to: none is common; some are, and none of these is best; or a best one stands in a slot.
@@ -40,13 +40,13 @@ fn is_smaller(x: &[u8], y: &[u8]) -> bool
 }
 
 // Whether the commit in slot x goes before that in slot y: by greater seconds in the store, then by the smaller id.
-fn goes_first(names: &[u8], store: &[u8], x: u32, y: u32) -> bool
-    ensures { λ r. ⌜ GoesFirst (now (store .entry)) (now (names .entry)) x y r ⌝ }
+fn goes_first(kind: Kind, names: &[u8], store: &[u8], x: u32, y: u32) -> bool
+    ensures { λ r. ⌜ GoesFirst (widthOf kind) (now (store .entry)) (now (names .entry)) x y r ⌝ }
 {
-    let a = table::id_of(Kind::Sha1, names, x as usize);
-    let b = table::id_of(Kind::Sha1, names, y as usize);
-    let s = reading::seconds_for(store, a);
-    let t = reading::seconds_for(store, b);
+    let a = table::id_of(kind, names, x as usize);
+    let b = table::id_of(kind, names, y as usize);
+    let s = reading::seconds_for(kind, store, a);
+    let t = reading::seconds_for(kind, store, b);
     if date::before(t, s) {
         return true;
     }
@@ -57,14 +57,14 @@ fn goes_first(names: &[u8], store: &[u8], x: u32, y: u32) -> bool
 }
 
 // A best commit is met: it is chosen where it is the first so far.
-fn sooner(names: &[u8], store: &[u8], past: Choice, slot: u32) -> Choice
-    ensures { λ r. ⌜ TakesSooner (now (store .entry)) (now (names .entry)) past slot r ⌝ }
+fn sooner(kind: Kind, names: &[u8], store: &[u8], past: Choice, slot: u32) -> Choice
+    ensures { λ r. ⌜ TakesSooner (widthOf kind) (now (store .entry)) (now (names .entry)) past slot r ⌝ }
 {
     match past {
         Choice::Nothing => Choice::Commit(slot),
         Choice::Tangled => Choice::Commit(slot),
         Choice::Commit(other) => {
-            if goes_first(names, store, slot, other) {
+            if goes_first(kind, names, store, slot, other) {
                 return Choice::Commit(slot);
             }
             Choice::Commit(other)
@@ -74,6 +74,7 @@ fn sooner(names: &[u8], store: &[u8], past: Choice, slot: u32) -> Choice
 
 // The choice with the commit in one slot more.
 fn choose_next(
+    kind: Kind,
     names: &[u8],
     marks: &[u8],
     levels: &[u32],
@@ -81,7 +82,7 @@ fn choose_next(
     past: Choice,
     slot: u32,
 ) -> Choice
-    ensures { λ r. ⌜ ChoosesNext (now (store .entry)) (now (names .entry)) (now (marks .entry)) (now (levels .entry)) past slot r ⌝ }
+    ensures { λ r. ⌜ ChoosesNext (widthOf kind) (now (store .entry)) (now (names .entry)) (now (marks .entry)) (now (levels .entry)) past slot r ⌝ }
 {
     let m = table::mark_of(marks, slot as usize);
     if !has_both(m) {
@@ -90,11 +91,12 @@ fn choose_next(
     if is_stained(levels, slot as usize) {
         return met(past);
     }
-    sooner(names, store, past, slot)
+    sooner(kind, names, store, past, slot)
 }
 
 // The choice among the commits of the line's first n.
 pub fn choose(
+    kind: Kind,
     names: &[u8],
     marks: &[u8],
     levels: &[u32],
@@ -102,13 +104,13 @@ pub fn choose(
     store: &[u8],
     n: usize,
 ) -> Choice
-    ensures { λ r. ⌜ Chooses (now (store .entry)) (now (names .entry)) (now (marks .entry)) (now (levels .entry)) (now (line .entry)) n r ⌝ }
+    ensures { λ r. ⌜ Chooses (widthOf kind) (now (store .entry)) (now (names .entry)) (now (marks .entry)) (now (levels .entry)) (now (line .entry)) n r ⌝ }
 {
     let mut r = Choice::Nothing;
     let mut i = 0;
     while i < n {
         let slot = slot_at(line, i);
-        r = choose_next(names, marks, levels, store, r, slot);
+        r = choose_next(kind, names, marks, levels, store, r, slot);
         i += 1;
     }
     r

@@ -1,6 +1,6 @@
 // Finds where two tips part, for each case of standard input, and prints it: the commit's id, `none`, or the refusal's number.
-// A case is two ids of 20 bytes, the lengths of the six buffers to lend (big-endian u32s: names, marks, levels, times, line, parents) and the
-// commit store, and before it stands its own length, at most 65,536. tools/make_partings.py makes them.
+// A case is the kind of ids (1 SHA-1, 2 SHA-256), two ids, the lengths of the six buffers to lend (big-endian u32s: names, marks, levels, times, line,
+// parents) and the commit store, and before it stands its own length, at most 65,536. tools/make_partings.py makes them.
 use hash::Kind;
 use libc::STDOUT_FILENO;
 use mergebase::MergeBase;
@@ -12,11 +12,19 @@ fn text(s: &[u8]) {
     io::write_all(STDOUT_FILENO, s);
 }
 
-// An id in 40 hexadecimal digits.
-fn id(s: &[u8]) {
+// An id in hexadecimal digits, two for each byte of its width.
+fn id(kind: Kind, s: &[u8]) {
     io::print_hex(STDOUT_FILENO, hash::be64(s, 0), 16);
     io::print_hex(STDOUT_FILENO, hash::be64(s, 8), 16);
-    io::print_hex(STDOUT_FILENO, hash::be32(s, 16) as u64, 8);
+    match kind {
+        Kind::Sha1 => {
+            io::print_hex(STDOUT_FILENO, hash::be32(s, 16) as u64, 8);
+        }
+        Kind::Sha256 => {
+            io::print_hex(STDOUT_FILENO, hash::be64(s, 16), 16);
+            io::print_hex(STDOUT_FILENO, hash::be64(s, 24), 16);
+        }
+    }
 }
 
 // A refusal by its number.
@@ -26,12 +34,12 @@ fn refusal(r: Refusal) {
 }
 
 // An answer on a line.
-fn print_base(r: MergeBase) {
+fn print_base(kind: Kind, r: MergeBase) {
     let o = r.outcome;
     let c = r.commit;
     match o {
         Parted::Nothing => text(b"none"),
-        Parted::Commit => id(&c.bytes),
+        Parted::Commit => id(kind, &c.bytes),
         Parted::Refused(n) => refusal(n),
     }
     text(b"\n");
@@ -49,8 +57,18 @@ fn lent(lengths: &[u8], k: usize, most: usize) -> usize
     if most < n { most } else { n }
 }
 
+fn kind_of(b: u8) -> Kind {
+    if b == 2 { Kind::Sha256 } else { Kind::Sha1 }
+}
+
+// What follows an id.
+fn after_id(kind: Kind, s: &[u8]) -> &[u8] {
+    hash::part(s, hash::width(kind), s.len())
+}
+
 // Lends the buffers, each as long as the list says, to the call.
 fn lend(
+    kind: Kind,
     tips: &[u8],
     lengths: &[u8],
     store: &[u8],
@@ -67,31 +85,37 @@ fn lend(
     let d = lent(lengths, 12, times.len());
     let e = lent(lengths, 16, line.len());
     let f = lent(lengths, 20, parents.len());
-    print_base(mergebase::merge_base(
+    let base = mergebase::merge_base(
+        kind,
         store,
-        object::id_of(hash::nth(Kind::Sha1, tips, 0)),
-        object::id_of(hash::nth(Kind::Sha1, tips, 1)),
+        object::id_of(hash::nth(kind, tips, 0)),
+        object::id_of(hash::nth(kind, tips, 1)),
         &mut names[..a],
         &mut marks[..b],
         &mut levels[..c],
         &times[..d],
         &mut line[..e],
         &parents[..f],
-    ));
+    );
+    print_base(kind, base);
 }
 
-// A case, in memory for 512 places.
+// A case, in memory for 512 places of either kind.
 fn run_case(input: &[u8]) {
-    let mut names = [0u8; 10240];
+    let mut names = [0u8; 16384];
     let mut marks = [0u8; 512];
     let mut levels = [0u32; 512];
     let times = [0i64; 512];
     let mut line = [0u32; 2560];
-    let parents = [0u8; 5120];
+    let parents = [0u8; 8192];
+    let kind = kind_of(hash::byte_at(input, 0));
+    let tips = hash::part(input, 1, input.len());
+    let rest = after_id(kind, after_id(kind, tips));
     lend(
-        hash::part(input, 0, 40),
-        hash::part(input, 40, 24),
-        hash::part(input, 64, input.len()),
+        kind,
+        tips,
+        hash::part(rest, 0, 24),
+        hash::part(rest, 24, rest.len()),
         &mut names,
         &mut marks,
         &mut levels,

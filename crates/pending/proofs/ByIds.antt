@@ -14,23 +14,22 @@ use Rattle.hash.proofs.Ids.{ltId-asym, ltId-irrefl, compare-less, compare-equal
 use Rattle.hashtable.specs.Table.{idOf}
 use Rattle.pending.specs.Pending.{notAbove, Placed, putIn, Sorts}
 use Rattle.pending.proofs.Inserts.{slice-first}
-use Rattle.hash.specs.Bytes.{idBytes}
 
 -- ---- the three ways in which two ids compare
 
-module _ (names : List ℕ) (a b : ℕ) where
-  pub above-less : compareId (idOf idBytes names a) (idOf idBytes names b) ≡ Less → true ≡ notAbove names a b
+module _ (w : ℕ) (names : List ℕ) (a b : ℕ) where
+  pub above-less : compareId (idOf w names a) (idOf w names b) ≡ Less → true ≡ notAbove w names a b
   unfolding notAbove
   above-less e = rw (ltId-asym _ _ (compare-less _ _ e))
 
-  pub above-equal : compareId (idOf idBytes names a) (idOf idBytes names b) ≡ Equal → true ≡ notAbove names a b
+  pub above-equal : compareId (idOf w names a) (idOf w names b) ≡ Equal → true ≡ notAbove w names a b
   unfolding notAbove
   above-equal e =
       let s = compare-equal _ _ e in
-      let n : ltId (idOf idBytes names b) (idOf idBytes names a) ≡ false = not-yes (λ h. ltId-irrefl _ (rw s at h)) in
+      let n : ltId (idOf w names b) (idOf w names a) ≡ false = not-yes (λ h. ltId-irrefl _ (rw s at h)) in
       rw n
 
-  pub above-greater : compareId (idOf idBytes names a) (idOf idBytes names b) ≡ Greater → false ≡ notAbove names a b
+  pub above-greater : compareId (idOf w names a) (idOf w names b) ≡ Greater → false ≡ notAbove w names a b
   unfolding notAbove
   above-greater e = rw (compare-greater _ _ e)
 
@@ -106,7 +105,7 @@ module _ (old : List ℕ) (k to x : ℕ) (hk : k ≤ to) (inside : to < length o
 
 -- ---- from the memory to the run
 
-module _ (names : List ℕ) (x from n : ℕ) (line : List ℕ) (room : from + n < length line) (k : ℕ) (q : Placed (notAbove names) line from (from + n) x k) where
+module _ (w : ℕ) (names : List ℕ) (x from n : ℕ) (line : List ℕ) (room : from + n < length line) (k : ℕ) (q : Placed (notAbove w names) line from (from + n) x k) where
   run : List ℕ
   run = slice from k line ++ (x ∷ slice k (from + n) line)
 
@@ -125,7 +124,7 @@ module _ (names : List ℕ) (x from n : ℕ) (line : List ℕ) (room : from + n 
       let a : take k line ≡ take from line ++ slice from k line = sym (take-append-drop from (take k line)) ∙ ap (λ (t : List ℕ). t ++ slice from k line) (take-take from k line (q .low)) in
       ap (λ (t : List ℕ). t ++ (x ∷ (slice k (from + n) line ++ drop (from + n + 1) line))) a ∙ simp append-assoc
 
-  pub sorts-room : (line′ : List ℕ) → line′ ≡ putIn line k (from + n) x → Sorts names x from n line true line′
+  pub sorts-room : (line′ : List ℕ) → line′ ≡ putIn line k (from + n) x → Sorts w names x from n line true line′
   unfolding run
   sorts-room line′ e =
       let f : line′ ≡ (take from line ++ run) ++ drop (from + n + 1) line = e ∙ is-run in
@@ -138,8 +137,8 @@ module _ (names : List ℕ) (x from n : ℕ) (line : List ℕ) (room : from + n 
         refused = λ h. absurd (omega arith);
       }
 
-pub sorts-refused : (names : List ℕ) (x from n : ℕ) (line : List ℕ) → length line ≤ from + n → Sorts names x from n line false line
-sorts-refused names x from n line h =
+pub sorts-refused : (w : ℕ) (names : List ℕ) (x from n : ℕ) (line : List ℕ) → length line ≤ from + n → Sorts w names x from n line false line
+sorts-refused w names x from n line h =
     record {
       long = refl;
       below = refl;

@@ -20,7 +20,6 @@ use Rattle.revwalk.proofs.QueueSorts.{in-insert, insert-in, length-insert}
 use Rattle.pending.proofs.Ahead.{ahead-agree}
 use Rattle.pending.proofs.Inserts.{slice-none, slice-first}
 use Rattle.pending.proofs.Merges.{merge-none, length-merge, merge-in, merge-agree, fresh-merge}
-use Rattle.hash.specs.Bytes.{idBytes}
 
 -- ---- length, the empty queue, and where it may stand
 
@@ -135,12 +134,12 @@ module _ {B : Type 0} (f : ℕ → B) where
       ∙ sym (cons (f y) (map f ys))
 
 -- the slots of a run, put in by their ids, beside an insertion of ids by the same order
-pub insert-ids : (names : List ℕ) (ins : Id → List Id → List Id) → ((x : Id) → ins x [] ≡ x ∷ [])
+pub insert-ids : (w : ℕ) (names : List ℕ) (ins : Id → List Id → List Id) → ((x : Id) → ins x [] ≡ x ∷ [])
     → ((x y : Id) (l : List Id) → ins x (y ∷ l) ≡ cond (ltId y x) (y ∷ ins x l) (x ∷ (y ∷ l)))
-    → (x : ℕ) (l : List ℕ) → map (idOf idBytes names) (insertBy (notAbove names) x l) ≡ ins (idOf idBytes names x) (map (idOf idBytes names) l)
+    → (x : ℕ) (l : List ℕ) → map (idOf w names) (insertBy (notAbove w names) x l) ≡ ins (idOf w names x) (map (idOf w names) l)
 unfolding notAbove
-insert-ids names ins nil cons x l =
-    insert-map (idOf idBytes names) (notAbove names) (λ a b. not (ltId b a)) ins nil (λ a b m. cons a b m ∙ turn (ltId b a) (b ∷ ins a m) (a ∷ (b ∷ m))) x l (λ y h. refl)
+insert-ids w names ins nil cons x l =
+    insert-map (idOf w names) (notAbove w names) (λ a b. not (ltId b a)) ins nil (λ a b m. cons a b m ∙ turn (ltId b a) (b ∷ ins a m) (a ∷ (b ∷ m))) x l (λ y h. refl)
   where
     turn : (t : Bool) (a b : List Id) → cond t a b ≡ cond (not t) b a
     turn true a b = refl

@@ -17,7 +17,6 @@ use Rattle.walk.specs.Lookup.{Pair, ltPair}
 use Rattle.pending.specs.declared.Pending.{Pending}
 use Rattle.pending.specs.declared.Pushed.{Pushed}
 use Rattle.pending.specs.declared.Taken.{Taken}
-use Rattle.hash.specs.Bytes.{idBytes}
 
 -- ---- the order
 
@@ -34,8 +33,8 @@ unfoldable pub ahead : List ℕ → List ℤ → ℕ → ℕ → Bool
 ahead levels times a b = ltPair (pairAt levels times b) (pairAt levels times a)
 
 -- the id of slot a is not above that of slot b
-unfoldable pub notAbove : List ℕ → ℕ → ℕ → Bool
-notAbove names a b = not (ltId (idOf idBytes names b) (idOf idBytes names a))
+unfoldable pub notAbove : ℕ → List ℕ → ℕ → ℕ → Bool
+notAbove w names a b = not (ltId (idOf w names b) (idOf w names a))
 
 -- ---- the queue: two runs, each in the order in which its slots leave
 
@@ -124,11 +123,11 @@ fresh done (x ∷ xs) = let r = fresh done xs in cond (done x) r true
 -- ---- the waiting ids by rising id
 
 -- what putting a slot into the run line[from .. from + n) makes of the memory
-pub record Sorts (names : List ℕ) (x from n : ℕ) (line : List ℕ) (r : Bool) (line′ : List ℕ) : Type 0 where
+pub record Sorts (w : ℕ) (names : List ℕ) (x from n : ℕ) (line : List ℕ) (r : Bool) (line′ : List ℕ) : Type 0 where
   pub long : length line′ ≡ length line
   pub below : take from line′ ≡ take from line
   pub above : drop (from + n + 1) line′ ≡ drop (from + n + 1) line
-  pub entered : from + n < length line → (r ≡ true) × (slice from (from + n + 1) line′ ≡ insertBy (notAbove names) x (slice from (from + n) line))
+  pub entered : from + n < length line → (r ≡ true) × (slice from (from + n + 1) line′ ≡ insertBy (notAbove w names) x (slice from (from + n) line))
   pub refused : length line ≤ from + n → (r ≡ false) × (line′ ≡ line)
 
 -- ---- the inner functions

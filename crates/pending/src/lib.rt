@@ -17,6 +17,7 @@ ghost use lib.Seq.{slice};
 ghost use Rattle.hash.specs.Decides.{Decides};
 ghost use Rattle.walk.specs.Lookup.{pairOf};
 ghost use Rattle.pending.specs.Pending.{levelOf, pairAt, ahead, notAbove, staleAt, youngerIn, olderIn, fresh, shiftedIn, Right, Room, Waits, Runs, Leaves, mergedIn, Settles, Widens, OlderOnly, Enters, Pushes, Pops, Placed, putIn, Sorts};
+ghost use Rattle.hash.specs.Bytes.{widthOf};
 
 // Where the queue stands in `line`: line[base..end) is its own, with free places below the younger run and between the two.
 pub struct Pending {
@@ -379,11 +380,11 @@ pub fn any_lacking(p: Pending, line: &[u32], marks: &[u8]) -> bool
 }
 
 // Whether the id of slot a is not above that of slot b.
-fn not_above(names: &[u8], a: u32, b: u32) -> bool
-    ensures { λ r. ⌜ r ≡ notAbove (now (names .entry)) a b ⌝ }
+fn not_above(kind: Kind, names: &[u8], a: u32, b: u32) -> bool
+    ensures { λ r. ⌜ r ≡ notAbove (widthOf kind) (now (names .entry)) a b ⌝ }
 {
-    let x = table::id_of(Kind::Sha1, names, a as usize);
-    let y = table::id_of(Kind::Sha1, names, b as usize);
+    let x = table::id_of(kind, names, a as usize);
+    let y = table::id_of(kind, names, b as usize);
     match hash::compare(x, y) {
         Order::Less => true,
         Order::Equal => true,
@@ -392,13 +393,13 @@ fn not_above(names: &[u8], a: u32, b: u32) -> bool
 }
 
 // The first place of line[from..to) before which a slot goes by its id.
-fn place_by_id(line: &[u32], names: &[u8], from: usize, to: usize, slot: u32) -> usize
+fn place_by_id(kind: Kind, line: &[u32], names: &[u8], from: usize, to: usize, slot: u32) -> usize
     requires { ⌜ (from ≤ to) × (to ≤ length (now line)) ⌝ }
-    ensures { λ r. ⌜ Placed (notAbove (now (names .entry))) (now (line .entry)) from to slot r ⌝ }
+    ensures { λ r. ⌜ Placed (notAbove (widthOf kind) (now (names .entry))) (now (line .entry)) from to slot r ⌝ }
 {
     let mut i = from;
     while i < to {
-        if not_above(names, slot, line[i]) {
+        if not_above(kind, names, slot, line[i]) {
             return i;
         }
         i += 1;
@@ -424,8 +425,15 @@ fn put_in(line: &mut [u32], k: usize, to: usize, slot: u32)
 
 // Puts a slot into line[from..from + n), which rises by the slots' ids; the run is then one longer. Without room nothing is
 // changed. All of the run may move, which is little: at most 1,024 ids, the tips of a walk, are ever sorted so.
-pub fn insert_by_id(line: &mut [u32], names: &[u8], from: usize, n: usize, slot: u32) -> bool
-    ensures { λ r. ⌜ Sorts (now (names .entry)) slot from n (now (line .entry)) r (now (line .exit)) ⌝ }
+pub fn insert_by_id(
+    kind: Kind,
+    line: &mut [u32],
+    names: &[u8],
+    from: usize,
+    n: usize,
+    slot: u32,
+) -> bool
+    ensures { λ r. ⌜ Sorts (widthOf kind) (now (names .entry)) slot from n (now (line .entry)) r (now (line .exit)) ⌝ }
 {
     if line.len() <= from {
         return false;
@@ -434,7 +442,7 @@ pub fn insert_by_id(line: &mut [u32], names: &[u8], from: usize, n: usize, slot:
         return false;
     }
     let to = from + n;
-    let k = place_by_id(line, names, from, to, slot);
+    let k = place_by_id(kind, line, names, from, to, slot);
     put_in(line, k, to, slot);
     true
 }

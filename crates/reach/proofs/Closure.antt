@@ -10,9 +10,9 @@ use native.Mathlib.Omega.{arith}
 use lib.ListN.{length, getD, length-append}
 use lib.Dec.{ltb}
 use borrow.Author.Tests.{ltb-true, ltb-false}
-use Rattle.hash.specs.Bytes.{Id, among, ifSome, idBytes}
+use Rattle.hash.specs.Bytes.{Id, among, ifSome}
 use Rattle.hash.proofs.Tests.{clash, some-of, some-in}
-use Rattle.object.specs.Header.{Header, header}
+use Rattle.object.specs.Header.{Header, header, parentSize}
 use Rattle.odb.specs.Store.{storeOk, storeFind}
 use Rattle.walk.specs.Lookup.{World, worldOf, Read, fail, good, Pair, fromStore, parentsOf}
 use Rattle.walk.specs.Reach.{Mem, NoDup, empty, links, Reaches, itself, through}
@@ -83,36 +83,36 @@ ids-of (some h) p m = go (fromStore (some h)) refl m
     go (good ps q) e k = (h, refl, subst (λ (l : List Id). Mem p l) (sym (from-body h ps q e .1)) k)
 
 -- a parent stands in a parent line of the store
-pub links-named : (store graph : List ℕ) (x p : Id) → Mem p (links (worldOf store graph) x) → Mem p (storeParents store)
+pub links-named : (width : ℕ) (store graph : List ℕ) (x p : Id) → Mem p (links (worldOf width store graph) x) → Mem p (storeParents width store)
 unfolding links worldOf
-links-named store graph x p m =
-    let a = ids-of (ifSome (storeFind idBytes store x) none (λ body. some (header idBytes body))) p m in
-    let o = some-of (storeFind idBytes store x) (λ body. some (header idBytes body)) (a .0) (a .1) in
-    let k : header idBytes (o .0) ≡ a .0 = some-in (o .2) in
-    find-parents store x (o .0) (o .1) p (subst (λ (q : Header). Mem p (q .ids)) (sym k) (a .2))
+links-named width store graph x p m =
+    let a = ids-of (ifSome (storeFind width store x) none (λ body. some (header width body))) p m in
+    let o = some-of (storeFind width store x) (λ body. some (header width body)) (a .0) (a .1) in
+    let k : header width (o .0) ≡ a .0 = some-in (o .2) in
+    find-parents width store x (o .0) (o .1) p (subst (λ (q : Header). Mem p (q .ids)) (sym k) (a .2))
 
-module _ (store graph : List ℕ) (roots : List Id) where
-  met-from : (x t : Id) → Mem t (reachNames store roots) → Reaches (worldOf store graph) x t → Mem x (reachNames store roots)
-  met-from x t m (itself e) = subst (λ (a : Id). Mem a (reachNames store roots)) e m
-  met-from x t m (through {p = p} k r) = met-from x p (Memᴰ·append-right roots (links-named store graph t p k)) r
+module _ (width : ℕ) (store graph : List ℕ) (roots : List Id) where
+  met-from : (x t : Id) → Mem t (reachNames width store roots) → Reaches (worldOf width store graph) x t → Mem x (reachNames width store roots)
+  met-from x t m (itself e) = subst (λ (a : Id). Mem a (reachNames width store roots)) e m
+  met-from x t m (through {p = p} k r) = met-from x p (Memᴰ·append-right roots (links-named width store graph t p k)) r
 
-  pub reach-named : (x : Id) → ReachedBy (worldOf store graph) roots x → Mem x (reachNames store roots)
-  reach-named x r = met-from x (r .root) (Memᴰ·append-left (storeParents store) (r .lent)) (r .reaches)
+  pub reach-named : (x : Id) → ReachedBy (worldOf width store graph) roots x → Mem x (reachNames width store roots)
+  reach-named x r = met-from x (r .root) (Memᴰ·append-left (storeParents width store) (r .lent)) (r .reaches)
 
   -- the list that is computed has what they reach, on any store
-  pub list-reached : Reached (worldOf store graph) roots (reachList store graph roots)
+  pub list-reached : Reached (worldOf width store graph) roots (reachList width store graph roots)
   unfolding reachList
-  list-reached = closure (reachNames store roots) reach-named
+  list-reached = closure (reachNames width store roots) reach-named
 
-  pub reach-list : (l : List Id) × Reached (worldOf store graph) roots l
-  reach-list = (reachList store graph roots, list-reached)
+  pub reach-list : (l : List Id) × Reached (worldOf width store graph) roots l
+  reach-list = (reachList width store graph roots, list-reached)
 
   -- and a search never has more than P ids: roots and ⌊book bytes/48⌋
-  pub reach-short : storeOk idBytes store ≡ true → (l : List Id) → NoDup l → ((x : Id) → Mem x l → ReachedBy (worldOf store graph) roots x) → length l ≤ length roots + length store / 48
+  pub reach-short : storeOk width store ≡ true → (l : List Id) → NoDup l → ((x : Id) → Mem x l → ReachedBy (worldOf width store graph) roots x) → length l ≤ length roots + length store / parentSize width
   reach-short ok l d s =
-      omega (arith, fits l (reachNames store roots) d (λ x m. reach-named x (s x m)), length-append roots (storeParents store), storeParents-length store ok)
+      omega (arith, fits l (reachNames width store roots) d (λ x m. reach-named x (s x m)), length-append roots (storeParents width store), storeParents-length width store ok)
 
-  pub reached? : (x : Id) → ReachedBy (worldOf store graph) roots x ⊎ (ReachedBy (worldOf store graph) roots x → ⊥)
+  pub reached? : (x : Id) → ReachedBy (worldOf width store graph) roots x ⊎ (ReachedBy (worldOf width store graph) roots x → ⊥)
   reached? x =
       let c = reach-list in
       ⊎-elim (λ m. inl (c .1 .sound x m)) (λ n. inr (λ r. n (c .1 .complete x r))) (mem? x (c .0))
@@ -128,11 +128,11 @@ unfolding Readable
 readable? w x = good? (fromStore (w .store x))
 
 -- a search ends
-pub ends : (store graph : List ℕ) (roots : List Id) → Ends (worldOf store graph) roots
+pub ends : (width : ℕ) (store graph : List ℕ) (roots : List Id) → Ends (worldOf width store graph) roots
 unfolding AllReadable
-ends store graph roots =
-    let c = reach-list store graph roots in
+ends width store graph roots =
+    let c = reach-list width store graph roots in
     ⊎-elim
     (λ a. whole (c .0) (c .1) (λ x r. a x (c .1 .complete x r)))
     (λ b. stuck (record { commit = b .0; reached = c .1 .sound (b .0) (b .1); unreadable = b .2 }))
-    (each? (Readable (worldOf store graph)) (readable? (worldOf store graph)) (c .0))
+    (each? (Readable (worldOf width store graph)) (readable? (worldOf width store graph)) (c .0))

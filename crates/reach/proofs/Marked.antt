@@ -6,7 +6,7 @@ use mathlib.Core.Bool.{Bool, true, false}
 use mathlib.Core.List.{List}
 use native.Mathlib.Omega.{arith}
 use lib.ListN.{getD, set}
-use Rattle.hash.specs.Bytes.{Id, idBytes}
+use Rattle.hash.specs.Bytes.{Id}
 use Rattle.hash.proofs.Tests.{byCases, clash}
 use Rattle.hashtable.specs.Marks.{live}
 use Rattle.hashtable.specs.Table.{Holds, Table, markFor, Finds, Inserts}
@@ -19,9 +19,9 @@ use Rattle.reach.specs.declared.notes.Marking.the-variants.{Known, Full}
 use Rattle.reach.specs.Memory.{mostSlots, hasBit, withBit, freshAt, Raises, Gained, ToldMark, MarksId}
 use Rattle.reach.proofs.MarkBits.{with-live, bit-0}
 
-module _ {names marks : List ℕ} {cap : ℕ} {x : Id} (second : Bool) (t : Table idBytes false names marks cap) where
+module _ {width : ℕ} {names marks : List ℕ} {cap : ℕ} {x : Id} (second : Bool) (t : Table width false names marks cap) where
   -- the slot had the id
-  raised : (k : ℕ) → Holds idBytes false names marks cap x k → hasBit second (getD marks k 0) ≡ false → Gained second names marks names (set marks k (withBit second (getD marks k 0))) cap x k
+  raised : (k : ℕ) → Holds width false names marks cap x k → hasBit second (getD marks k 0) ≡ false → Gained width second names marks names (set marks k (withBit second (getD marks k 0))) cap x k
   raised k h e =
       let l : live false (withBit second (getD marks k 0)) ≡ true = with-live second (getD marks k 0) in
       record {
@@ -34,10 +34,10 @@ module _ {names marks : List ℕ} {cap : ℕ} {x : Id} (second : Bool) (t : Tabl
       }
 
   -- the slot was free
-  entered : {names′ marks′ : List ℕ} {r : Slot} → Inserts idBytes false names marks names′ marks′ cap x (withBit second 0) r → (k : ℕ) → r ≡ Vacant k → Gained second names marks names′ marks′ cap x k
+  entered : {names′ marks′ : List ℕ} {r : Slot} → Inserts width false names marks names′ marks′ cap x (withBit second 0) r → (k : ℕ) → r ≡ Vacant k → Gained width second names marks names′ marks′ cap x k
   entered i k e =
       let l : live false (withBit second 0) ≡ true = with-live second 0 in
-      let z : markFor idBytes false names marks cap x ≡ 0 = vacant-mark t (i .finds) k e in
+      let z : markFor width false names marks cap x ≡ 0 = vacant-mark t (i .finds) k e in
       record {
         lacked = ap (hasBit second) z ∙ bit-0 second;
         table = i .right t l;
@@ -49,34 +49,34 @@ module _ {names marks : List ℕ} {cap : ℕ} {x : Id} (second : Bool) (t : Tabl
 
 -- ---- the three answers of the table
 
-module _ {names marks names₁ marks₁ : List ℕ} {cap : ℕ} {x : Id} (second : Bool) (first : ℕ) {s : Slot} (z : first ≡ withBit second 0) (i : Inserts idBytes false names marks names₁ marks₁ cap x first s) where
-  inserts : Inserts idBytes false names marks names₁ marks₁ cap x (withBit second 0) s
-  inserts = subst (λ (n : ℕ). Inserts idBytes false names marks names₁ marks₁ cap x n s) z i
+module _ {width : ℕ} {names marks names₁ marks₁ : List ℕ} {cap : ℕ} {x : Id} (second : Bool) (first : ℕ) {s : Slot} (z : first ≡ withBit second 0) (i : Inserts width false names marks names₁ marks₁ cap x first s) where
+  inserts : Inserts width false names marks names₁ marks₁ cap x (withBit second 0) s
+  inserts = subst (λ (n : ℕ). Inserts width false names marks names₁ marks₁ cap x n s) z i
 
-  pub as-found : {marks′ : List ℕ} {r : Marking} (k : ℕ) → s ≡ Found k → Raises second marks₁ marks′ k r → MarksId second names marks names₁ marks′ cap x r
+  pub as-found : {marks′ : List ℕ} {r : Marking} (k : ℕ) → s ≡ Found k → Raises second marks₁ marks′ k r → MarksId width second names marks names₁ marks′ cap x r
   as-found {marks′} {r} k e o = record {
     right = λ t c.
-        let h : Holds idBytes false names marks cap x k = i .finds .hit k e in
+        let h : Holds width false names marks cap x k = i .finds .hit k e in
         let n : names₁ ≡ names = i .found k e .0 in
         let m : marks₁ ≡ marks = i .found k e .1 in
         byCases (hasBit second (getD marks k 0))
         (λ b.
         let a = o .known (ap (λ (l : List ℕ). hasBit second (getD l k 0)) m ∙ b) in
-        subst (λ (q : Marking). ToldMark second names marks names₁ marks′ cap x q) (sym (a .0)) (ap (hasBit second) (mark-held t k h) ∙ b, n, a .1 ∙ m))
+        subst (λ (q : Marking). ToldMark width second names marks names₁ marks′ cap x q) (sym (a .0)) (ap (hasBit second) (mark-held t k h) ∙ b, n, a .1 ∙ m))
         (λ b.
         let a = o .given (ap (λ (l : List ℕ). hasBit second (getD l k 0)) m ∙ b) in
         let q : marks′ ≡ set marks k (withBit second (getD marks k 0)) = a .1 ∙ ap (λ (l : List ℕ). set l k (withBit second (getD l k 0))) m in
-        subst (λ (q : Marking). ToldMark second names marks names₁ marks′ cap x q) (sym (a .0 (omega (arith, h .low))))
-        (subst (λ (l : List ℕ). Gained second names marks l marks′ cap x k) (sym n) (subst (λ (l : List ℕ). Gained second names marks names l cap x k) (sym q) (raised second t k h b))));
+        subst (λ (q : Marking). ToldMark width second names marks names₁ marks′ cap x q) (sym (a .0 (omega (arith, h .low))))
+        (subst (λ (l : List ℕ). Gained width second names marks l marks′ cap x k) (sym n) (subst (λ (l : List ℕ). Gained width second names marks names l cap x k) (sym q) (raised second t k h b))));
   }
 
-  pub as-vacant : {r : Marking} (k : ℕ) → s ≡ Vacant k → (k < mostSlots → r ≡ freshAt k) → MarksId second names marks names₁ marks₁ cap x r
+  pub as-vacant : {r : Marking} (k : ℕ) → s ≡ Vacant k → (k < mostSlots → r ≡ freshAt k) → MarksId width second names marks names₁ marks₁ cap x r
   as-vacant {r} k e f = record {
-    right = λ t c. subst (λ (q : Marking). ToldMark second names marks names₁ marks₁ cap x q) (sym (f (omega (arith, i .finds .free k e .low)))) (entered second t inserts k e);
+    right = λ t c. subst (λ (q : Marking). ToldMark width second names marks names₁ marks₁ cap x q) (sym (f (omega (arith, i .finds .free k e .low)))) (entered second t inserts k e);
   }
 
-  pub as-full : s ≡ TableFull → MarksId second names marks names₁ marks₁ cap x Full
-  as-full e = record { right = λ t c. subst (λ (a : Slot). Finds idBytes false names marks cap x a) e (i .finds) }
+  pub as-full : s ≡ TableFull → MarksId width second names marks names₁ marks₁ cap x Full
+  as-full e = record { right = λ t c. subst (λ (a : Slot). Finds width false names marks cap x a) e (i .finds) }
 
 -- ---- a slot
 

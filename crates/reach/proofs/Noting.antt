@@ -7,14 +7,14 @@ use mathlib.Core.List.{List, [], _∷_, _++_, List·Memᴰ·eq-of-singleton, Mem
 use native.Mathlib.Omega.{arith}
 use lib.ListN.{length, take, getD, set, length-append, length-set, List·getD-append}
 use lib.Seq.{take-all, getD-append-add, getD-set-same, getD-set-other}
-use Rattle.hash.specs.Bytes.{Id, idBytes}
+use Rattle.hash.specs.Bytes.{Id}
 use Rattle.hash.proofs.Tests.{clash}
 use Rattle.hashtable.specs.Table.{Holds, markFor}
 use Rattle.hashtable.proofs.TableRoom.{within, room}
 use Rattle.walk.specs.Reach.{Mem}
 use Rattle.walk.proofs.Named.{fits}
 use Rattle.object.specs.Header.{Header, header}
-use Rattle.object.specs.Ids.{idIn}
+use Rattle.object.specs.Ids.{idIn, idRoom}
 use Rattle.object.specs.declared.ObjectId.{ObjectId}
 use Rattle.reading.specs.Body.{parentIdAt}
 use Rattle.reading.proofs.IdLists.{one-more}
@@ -30,10 +30,10 @@ use Rattle.reach.proofs.MarkBits.{bit-with, other-with, bit-not-0}
 
 -- ---- what is left as it was
 
-pub spares-none : (second : Bool) (cap from : ℕ) (m : Lent) → Spares second cap from m m
-spares-none second cap from m = record { other-bit = λ y. refl; stays = λ y k h. h; below = λ j h. refl }
+pub spares-none : (width : ℕ) (second : Bool) (cap from : ℕ) (m : Lent) → Spares width second cap from m m
+spares-none width second cap from m = record { other-bit = λ y. refl; stays = λ y k h. h; below = λ j h. refl }
 
-pub spares-then : {second : Bool} {cap from : ℕ} {a b c : Lent} → Spares second cap from a b → Spares second cap from b c → Spares second cap from a c
+pub spares-then : {width : ℕ} {second : Bool} {cap from : ℕ} {a b c : Lent} → Spares width second cap from a b → Spares width second cap from b c → Spares width second cap from a c
 spares-then p q = record {
   other-bit = λ y. q .other-bit y ∙ p .other-bit y;
   stays = λ y k h. q .stays y k (p .stays y k h);
@@ -42,19 +42,19 @@ spares-then p q = record {
 
 -- ---- the list stays within u
 
-pub listed-in : {second : Bool} {cap from : ℕ} {u : List Id} {m : Lent} {n : ℕ} {l : List Id} → Lists second cap from m n l → Named cap u m → (x : Id) → Mem x l → Mem x u
-listed-in {second} {cap} {from} {u} {m} h n x k = n .inside x (bit-not-0 second (markIn cap m x) (h .marked x k))
+pub listed-in : {width : ℕ} {second : Bool} {cap from : ℕ} {u : List Id} {m : Lent} {n : ℕ} {l : List Id} → Lists width second cap from m n l → Named width cap u m → (x : Id) → Mem x l → Mem x u
+listed-in {width} {second} {cap} {from} {u} {m} h n x k = n .inside x (bit-not-0 second (markIn width cap m x) (h .marked x k))
 
-pub listed-few : {second : Bool} {cap from : ℕ} {u : List Id} {m : Lent} {n : ℕ} {l : List Id} → Lists second cap from m n l → Named cap u m → n ≤ cap
+pub listed-few : {width : ℕ} {second : Bool} {cap from : ℕ} {u : List Id} {m : Lent} {n : ℕ} {l : List Id} → Lists width second cap from m n l → Named width cap u m → n ≤ cap
 listed-few {u = u} {l = l} h n = omega (arith, fits l u (h .once) (λ x k. listed-in h n x k), h .count, n .few)
 
 -- ---- one id
 
-module _ {second : Bool} {cap from : ℕ} {names marks names′ marks′ line : List ℕ} {n : ℕ} {x : Id} where
+module _ {width : ℕ} {second : Bool} {cap from : ℕ} {names marks names′ marks′ line : List ℕ} {n : ℕ} {x : Id} where
   -- it was new to the search
-  module _ {slot : ℕ} (o : MarksId second names marks names′ marks′ cap x (Fresh slot)) where
-    module _ {u l : List Id} (h : Lists second cap from (lent names marks line) n l) (d : Named cap u (lent names marks line)) (mem : Mem x u) where
-      gained : Gained second names marks names′ marks′ cap x slot
+  module _ {slot : ℕ} (o : MarksId width second names marks names′ marks′ cap x (Fresh slot)) where
+    module _ {u l : List Id} (h : Lists width second cap from (lent names marks line) n l) (d : Named width cap u (lent names marks line)) (mem : Mem x u) where
+      gained : Gained width second names marks names′ marks′ cap x slot
       gained = o .right (h .table) (d .small)
 
       absent : Mem x l → ⊥
@@ -68,13 +68,13 @@ module _ {second : Bool} {cap from : ℕ} {names marks names′ marks′ line : 
       roomy : from + n < length line
       roomy = omega (arith, longer, h .room)
 
-      this-bit : hasBit second (markFor idBytes false names′ marks′ cap x) ≡ true
-      this-bit = ap (hasBit second) (gained .this) ∙ bit-with second (markFor idBytes false names marks cap x)
+      this-bit : hasBit second (markFor width false names′ marks′ cap x) ≡ true
+      this-bit = ap (hasBit second) (gained .this) ∙ bit-with second (markFor width false names marks cap x)
 
       at-new : getD (l ++ (x ∷ [])) n [] ≡ x
       at-new = let e : n ≡ length l + 0 = omega (arith, h .count) in ap (λ (i : ℕ). getD (l ++ (x ∷ [])) i []) e ∙ getD-append-add l (x ∷ []) 0 []
 
-      went : {line′ : List ℕ} → line′ ≡ set line (from + n) slot → Went second cap from u (lent names marks line) (lent names′ marks′ line′) l (x ∷ []) (n + 1)
+      went : {line′ : List ℕ} → line′ ≡ set line (from + n) slot → Went width second cap from u (lent names marks line) (lent names′ marks′ line′) l (x ∷ []) (n + 1)
       went {line′} e = record {
         list = l ++ (x ∷ []);
         grows = grows-new l x;
@@ -84,15 +84,15 @@ module _ {second : Bool} {cap from : ℕ} {names marks names′ marks′ line : 
           count = omega (arith, length-append l (x ∷ []), h .count);
           once = nodup-end (h .once) absent;
           slots = λ i k. ⊎-elim
-              (λ p. subst (λ (z : ℕ). Holds idBytes false names′ marks′ cap (getD (l ++ (x ∷ [])) i []) z) (sym (ap (λ (b : List ℕ). getD b (from + i) 0) e ∙ getD-set-other line (from + n) (from + i) slot 0 (λ q. omega arith)))
-              (subst (λ (z : Id). Holds idBytes false names′ marks′ cap z (getD line (from + i) 0)) (sym (List·getD-append l (x ∷ []) [] i (omega (arith, h .count))))
+              (λ p. subst (λ (z : ℕ). Holds width false names′ marks′ cap (getD (l ++ (x ∷ [])) i []) z) (sym (ap (λ (b : List ℕ). getD b (from + i) 0) e ∙ getD-set-other line (from + n) (from + i) slot 0 (λ q. omega arith)))
+              (subst (λ (z : Id). Holds width false names′ marks′ cap z (getD line (from + i) 0)) (sym (List·getD-append l (x ∷ []) [] i (omega (arith, h .count))))
               (gained .stays (getD l i []) (getD line (from + i) 0) (h .slots i p))))
-              (λ q. subst (λ (z : ℕ). Holds idBytes false names′ marks′ cap (getD (l ++ (x ∷ [])) z []) (getD line′ (from + z) 0)) (sym q)
-              (subst (λ (z : ℕ). Holds idBytes false names′ marks′ cap (getD (l ++ (x ∷ [])) n []) z) (sym (ap (λ (b : List ℕ). getD b (from + n) 0) e ∙ getD-set-same line (from + n) slot 0 roomy))
-              (subst (λ (z : Id). Holds idBytes false names′ marks′ cap z slot) (sym at-new) (gained .holds))))
+              (λ q. subst (λ (z : ℕ). Holds width false names′ marks′ cap (getD (l ++ (x ∷ [])) z []) (getD line′ (from + z) 0)) (sym q)
+              (subst (λ (z : ℕ). Holds width false names′ marks′ cap (getD (l ++ (x ∷ [])) n []) z) (sym (ap (λ (b : List ℕ). getD b (from + n) 0) e ∙ getD-set-same line (from + n) slot 0 roomy))
+              (subst (λ (z : Id). Holds width false names′ marks′ cap z slot) (sym at-new) (gained .holds))))
               (last-place i n (omega arith));
           marked = λ y k. ⊎-elim
-              (λ q. subst (λ (z : Id). hasBit second (markFor idBytes false names′ marks′ cap z) ≡ true) (sym q) this-bit)
+              (λ q. subst (λ (z : Id). hasBit second (markFor width false names′ marks′ cap z) ≡ true) (sym q) this-bit)
               (λ q. ap (hasBit second) (gained .other y q) ∙ ⊎-elim (h .marked y) (λ j. absurd (q (List·Memᴰ·eq-of-singleton j))) (List·Memᴰ·append-cases l k))
               (same-id? y x);
           all = λ y k. ⊎-elim
@@ -107,8 +107,8 @@ module _ {second : Bool} {cap from : ℕ} {names marks names′ marks′ line : 
         };
         spares = record {
           other-bit = λ y. ⊎-elim
-              (λ q. ap (λ (z : Id). hasBit (not second) (markFor idBytes false names′ marks′ cap z)) q ∙ ap (hasBit (not second)) (gained .this) ∙ other-with second (markFor idBytes false names marks cap x)
-              ∙ ap (λ (z : Id). hasBit (not second) (markFor idBytes false names marks cap z)) (sym q))
+              (λ q. ap (λ (z : Id). hasBit (not second) (markFor width false names′ marks′ cap z)) q ∙ ap (hasBit (not second)) (gained .this) ∙ other-with second (markFor width false names marks cap x)
+              ∙ ap (λ (z : Id). hasBit (not second) (markFor width false names marks cap z)) (sym q))
               (λ q. ap (hasBit (not second)) (gained .other y q))
               (same-id? y x);
           stays = λ y k g. gained .stays y k g;
@@ -116,75 +116,75 @@ module _ {second : Bool} {cap from : ℕ} {names marks names′ marks′ line : 
         };
       }
 
-    pub note-fresh : {line′ : List ℕ} {r : Grown} → Puts line line′ from n slot r → Notes second cap from (lent names marks line) (lent names′ marks′ line′) n x r
+    pub note-fresh : {line′ : List ℕ} {r : Grown} → Puts line line′ from n slot r → Notes width second cap from (lent names marks line) (lent names′ marks′ line′) n x r
     note-fresh {line′} {r} p = record {
       right = λ u l h d w mem.
           let q = p .right (roomy h d mem) in
-          subst (λ (a : Grown). Told second cap from u (lent names marks line) (lent names′ marks′ line′) l (x ∷ []) a) (sym (q .0)) (went h d mem (q .1));
+          subst (λ (a : Grown). Told width second cap from u (lent names marks line) (lent names′ marks′ line′) l (x ∷ []) a) (sym (q .0)) (went h d mem (q .1));
     }
 
-  pub note-known : MarksId second names marks names′ marks′ cap x Known → Notes second cap from (lent names marks line) (lent names′ marks′ line) n x (Count n)
+  pub note-known : MarksId width second names marks names′ marks′ cap x Known → Notes width second cap from (lent names marks line) (lent names′ marks′ line) n x (Count n)
   note-known o = record {
     right = λ u l h d w mem.
         let a = o .right (h .table) (d .small) in
-        subst (λ (b : List ℕ). Went second cap from u (lent names marks line) (lent b marks′ line) l (x ∷ []) n) (sym (a .1))
-        (subst (λ (b : List ℕ). Went second cap from u (lent names marks line) (lent names b line) l (x ∷ []) n) (sym (a .2))
-        (record { list = l; grows = grows-known (h .all x (a .0)); lists = h; named = d; spares = spares-none second cap from (lent names marks line) }));
+        subst (λ (b : List ℕ). Went width second cap from u (lent names marks line) (lent b marks′ line) l (x ∷ []) n) (sym (a .1))
+        (subst (λ (b : List ℕ). Went width second cap from u (lent names marks line) (lent names b line) l (x ∷ []) n) (sym (a .2))
+        (record { list = l; grows = grows-known (h .all x (a .0)); lists = h; named = d; spares = spares-none width second cap from (lent names marks line) }));
   }
 
-  pub note-full : MarksId second names marks names′ marks′ cap x Full → Notes second cap from (lent names marks line) (lent names′ marks′ line) n x NoRoom
+  pub note-full : MarksId width second names marks names′ marks′ cap x Full → Notes width second cap from (lent names marks line) (lent names′ marks′ line) n x NoRoom
   note-full o = record {
     right = λ u l h d w mem. room u (h .table) (o .right (h .table) (d .small)) w (d .few) (within (d .inside)) mem refl;
   }
 
-module _ {second : Bool} {cap : ℕ} {names marks names′ marks′ : List ℕ} {x : Id} {q : Marking} (o : MarksId second names marks names′ marks′ cap x q) where
-  pub on-fresh : {from n : ℕ} {line line′ : List ℕ} {slot : ℕ} {r : Grown} → q ≡ Fresh slot → Puts line line′ from n slot r → Notes second cap from (lent names marks line) (lent names′ marks′ line′) n x r
-  on-fresh e p = note-fresh (subst (λ (a : Marking). MarksId second names marks names′ marks′ cap x a) e o) p
+module _ {width : ℕ} {second : Bool} {cap : ℕ} {names marks names′ marks′ : List ℕ} {x : Id} {q : Marking} (o : MarksId width second names marks names′ marks′ cap x q) where
+  pub on-fresh : {from n : ℕ} {line line′ : List ℕ} {slot : ℕ} {r : Grown} → q ≡ Fresh slot → Puts line line′ from n slot r → Notes width second cap from (lent names marks line) (lent names′ marks′ line′) n x r
+  on-fresh e p = note-fresh (subst (λ (a : Marking). MarksId width second names marks names′ marks′ cap x a) e o) p
 
-module _ (second : Bool) (cap from : ℕ) {names marks names′ marks′ : List ℕ} (line : List ℕ) (n : ℕ) {x : Id} {q : Marking} (o : MarksId second names marks names′ marks′ cap x q) where
-  pub on-known : q ≡ Known → Notes second cap from (lent names marks line) (lent names′ marks′ line) n x (Count n)
-  on-known e = note-known (subst (λ (a : Marking). MarksId second names marks names′ marks′ cap x a) e o)
+module _ (width : ℕ) (second : Bool) (cap from : ℕ) {names marks names′ marks′ : List ℕ} (line : List ℕ) (n : ℕ) {x : Id} {q : Marking} (o : MarksId width second names marks names′ marks′ cap x q) where
+  pub on-known : q ≡ Known → Notes width second cap from (lent names marks line) (lent names′ marks′ line) n x (Count n)
+  on-known e = note-known (subst (λ (a : Marking). MarksId width second names marks names′ marks′ cap x a) e o)
 
-  pub on-full : q ≡ Full → Notes second cap from (lent names marks line) (lent names′ marks′ line) n x NoRoom
-  on-full e = note-full (subst (λ (a : Marking). MarksId second names marks names′ marks′ cap x a) e o)
+  pub on-full : q ≡ Full → Notes width second cap from (lent names marks line) (lent names′ marks′ line) n x NoRoom
+  on-full e = note-full (subst (λ (a : Marking). MarksId width second names marks names′ marks′ cap x a) e o)
 
 -- ---- after an answer
 
-pub next-count : {second : Bool} {cap from : ℕ} {m m′ : Lent} {past : Grown} {n : ℕ} {x : Id} {r : Grown} → past ≡ Count n → Notes second cap from m m′ n x r → NotesNext second cap from m m′ past x r
-next-count {second} {cap} {from} {m} {m′} {past} {n} {x} {r} e o = subst (λ (a : Grown). NotesNext second cap from m m′ a x r) (sym e) (record { does = o })
+pub next-count : {width : ℕ} {second : Bool} {cap from : ℕ} {m m′ : Lent} {past : Grown} {n : ℕ} {x : Id} {r : Grown} → past ≡ Count n → Notes width second cap from m m′ n x r → NotesNext width second cap from m m′ past x r
+next-count {width} {second} {cap} {from} {m} {m′} {past} {n} {x} {r} e o = subst (λ (a : Grown). NotesNext width second cap from m m′ a x r) (sym e) (record { does = o })
 
-pub next-none : (second : Bool) (cap from : ℕ) (m : Lent) {past : Grown} (x : Id) → past ≡ NoRoom → NotesNext second cap from m m past x NoRoom
-next-none second cap from m x e = subst (λ (a : Grown). NotesNext second cap from m m a x NoRoom) (sym e) (record { does = (refl, refl) })
+pub next-none : (width : ℕ) (second : Bool) (cap from : ℕ) (m : Lent) {past : Grown} (x : Id) → past ≡ NoRoom → NotesNext width second cap from m m past x NoRoom
+next-none width second cap from m x e = subst (λ (a : Grown). NotesNext width second cap from m m a x NoRoom) (sym e) (record { does = (refl, refl) })
 
 -- ---- one after another
 
-pub told-then : {second : Bool} {cap from : ℕ} {u : List Id} {m₀ m : Lent} (m′ : Lent) {l xs : List Id} (ys : List Id) {n : ℕ} (r : Grown) (g : Went second cap from u m₀ m l xs n)
-    → Told second cap from u m m′ (g .list) ys r → Told second cap from u m₀ m′ l (xs ++ ys) r
+pub told-then : {width : ℕ} {second : Bool} {cap from : ℕ} {u : List Id} {m₀ m : Lent} (m′ : Lent) {l xs : List Id} (ys : List Id) {n : ℕ} (r : Grown) (g : Went width second cap from u m₀ m l xs n)
+    → Told width second cap from u m m′ (g .list) ys r → Told width second cap from u m₀ m′ l (xs ++ ys) r
 told-then m′ ys (Count n′) g t = record { list = t .list; grows = grows-then (g .grows) (t .grows); lists = t .lists; named = t .named; spares = spares-then (g .spares) (t .spares) }
 told-then m′ ys NoRoom g t = t
 
-pub all-first : (second : Bool) (cap from : ℕ) (m : Lent) (past : Grown) → AllNoted second cap from m m past [] past
-all-first second cap from m (Count n) = λ u l h d i. record { list = l; grows = grows-none l; lists = h; named = d; spares = spares-none second cap from m }
-all-first second cap from m NoRoom = (refl, refl)
+pub all-first : (width : ℕ) (second : Bool) (cap from : ℕ) (m : Lent) (past : Grown) → AllNoted width second cap from m m past [] past
+all-first width second cap from m (Count n) = λ u l h d i. record { list = l; grows = grows-none l; lists = h; named = d; spares = spares-none width second cap from m }
+all-first width second cap from m NoRoom = (refl, refl)
 
-pub all-next : (second : Bool) (cap from : ℕ) (m₀ m m′ : Lent) (xs : List Id) (x : Id) (past r r′ : Grown) → AllNoted second cap from m₀ m past xs r → NotedAfter second cap from m m′ r x r′ → length x ≡ idBytes
-    → AllNoted second cap from m₀ m′ past (xs ++ (x ∷ [])) r′
-all-next second cap from m₀ m m′ xs x (Count n₀) (Count n) r′ a b w = λ u l h d i.
+pub all-next : (width : ℕ) (second : Bool) (cap from : ℕ) (m₀ m m′ : Lent) (xs : List Id) (x : Id) (past r r′ : Grown) → AllNoted width second cap from m₀ m past xs r → NotedAfter width second cap from m m′ r x r′ → length x ≡ width
+    → AllNoted width second cap from m₀ m′ past (xs ++ (x ∷ [])) r′
+all-next width second cap from m₀ m m′ xs x (Count n₀) (Count n) r′ a b w = λ u l h d i.
     let g = a u l h d (λ y k. i y (Memᴰ·append-left (x ∷ []) k)) in
     told-then m′ (x ∷ []) r′ g (b .right u (g .list) (g .lists) (g .named) w (i x (mem-end x xs)))
-all-next second cap from m₀ m m′ xs x (Count n₀) NoRoom r′ a b w = λ u l h d i. absurd (a u l h d (λ y k. i y (Memᴰ·append-left (x ∷ []) k)))
-all-next second cap from m₀ m m′ xs x NoRoom (Count n) r′ a b w = let e = a .1 in let z : _≡_ {A = ℕ} 0 1 = cc in absurd (omega arith)
-all-next second cap from m₀ m m′ xs x NoRoom NoRoom r′ a b w = (b .0 ∙ a .0, b .1)
+all-next width second cap from m₀ m m′ xs x (Count n₀) NoRoom r′ a b w = λ u l h d i. absurd (a u l h d (λ y k. i y (Memᴰ·append-left (x ∷ []) k)))
+all-next width second cap from m₀ m m′ xs x NoRoom (Count n) r′ a b w = let e = a .1 in let z : _≡_ {A = ℕ} 0 1 = cc in absurd (omega arith)
+all-next width second cap from m₀ m m′ xs x NoRoom NoRoom r′ a b w = (b .0 ∙ a .0, b .1)
 
 -- two lists, one after the other
-both-noted : (second : Bool) (cap from : ℕ) (m₀ m m′ : Lent) (n : ℕ) (xs ys : List Id) (q r : Grown) → AllNoted second cap from m₀ m (Count n) xs q → AllNoted second cap from m m′ q ys r → AllNoted second cap from m₀ m′ (Count n) (xs ++ ys) r
-both-noted second cap from m₀ m m′ n xs ys (Count k) r a b = λ u l h d i.
+both-noted : (width : ℕ) (second : Bool) (cap from : ℕ) (m₀ m m′ : Lent) (n : ℕ) (xs ys : List Id) (q r : Grown) → AllNoted width second cap from m₀ m (Count n) xs q → AllNoted width second cap from m m′ q ys r → AllNoted width second cap from m₀ m′ (Count n) (xs ++ ys) r
+both-noted width second cap from m₀ m m′ n xs ys (Count k) r a b = λ u l h d i.
     let g = a u l h d (λ y j. i y (Memᴰ·append-left ys j)) in
     told-then m′ ys r g (b u (g .list) (g .lists) (g .named) (λ y j. i y (Memᴰ·append-right xs j)))
-both-noted second cap from m₀ m m′ n xs ys NoRoom r a b = λ u l h d i. absurd (a u l h d (λ y j. i y (Memᴰ·append-left ys j)))
+both-noted width second cap from m₀ m m′ n xs ys NoRoom r a b = λ u l h d i. absurd (a u l h d (λ y j. i y (Memᴰ·append-left ys j)))
 
-pub notes-then : {second : Bool} {cap from : ℕ} {m₀ m m′ : Lent} {n : ℕ} {xs ys : List Id} {q r : Grown} → NotesAll second cap from m₀ m (Count n) xs q → NotesAll second cap from m m′ q ys r → NotesAll second cap from m₀ m′ (Count n) (xs ++ ys) r
-notes-then {second} {cap} {from} {m₀} {m} {m′} {n} {xs} {ys} {q} {r} a b = record { does = both-noted second cap from m₀ m m′ n xs ys q r (a .does) (b .does) }
+pub notes-then : {width : ℕ} {second : Bool} {cap from : ℕ} {m₀ m m′ : Lent} {n : ℕ} {xs ys : List Id} {q r : Grown} → NotesAll width second cap from m₀ m (Count n) xs q → NotesAll width second cap from m m′ q ys r → NotesAll width second cap from m₀ m′ (Count n) (xs ++ ys) r
+notes-then {width} {second} {cap} {from} {m₀} {m} {m′} {n} {xs} {ys} {q} {r} a b = record { does = both-noted width second cap from m₀ m m′ n xs ys q r (a .does) (b .does) }
 
 -- ---- the first i ids of a list
 
@@ -201,55 +201,55 @@ pub long-then : {a b d : Lent} → Long a b → Long b d → Long a d
 long-then p q = record { names = q .names ∙ p .names; marks = q .marks ∙ p .marks; line = q .line ∙ p .line }
 
 -- a loop over the list xs, after i turns
-pub record Upto (second : Bool) (cap from : ℕ) (m₀ m : Lent) (past : Grown) (xs : List Id) (i : ℕ) (r : Grown) : Type 0 where
-  pub so-far : AllNoted second cap from m₀ m past (take i xs) r
+pub record Upto (width : ℕ) (second : Bool) (cap from : ℕ) (m₀ m : Lent) (past : Grown) (xs : List Id) (i : ℕ) (r : Grown) : Type 0 where
+  pub so-far : AllNoted width second cap from m₀ m past (take i xs) r
 
-pub record Listing (second : Bool) (cap from : ℕ) (m₀ m : Lent) (past : Grown) (xs : List Id) (i : ℕ) (r : Grown) : Type 0 where
+pub record Listing (width : ℕ) (second : Bool) (cap from : ℕ) (m₀ m : Lent) (past : Grown) (xs : List Id) (i : ℕ) (r : Grown) : Type 0 where
   pub upto : i ≤ length xs
   pub long : Long m₀ m
-  pub begun : Upto second cap from m₀ m past xs i r
+  pub begun : Upto width second cap from m₀ m past xs i r
 
-pub upto-first : (second : Bool) (cap from : ℕ) (m : Lent) (past : Grown) (xs : List Id) → Upto second cap from m m past xs 0 past
-upto-first second cap from m past xs = record { so-far = all-first second cap from m past }
+pub upto-first : (width : ℕ) (second : Bool) (cap from : ℕ) (m : Lent) (past : Grown) (xs : List Id) → Upto width second cap from m m past xs 0 past
+upto-first width second cap from m past xs = record { so-far = all-first width second cap from m past }
 
-pub upto-next : {second : Bool} {cap from : ℕ} {m₀ m m′ : Lent} {past : Grown} {xs : List Id} {i : ℕ} {r : Grown} {x : Id} {r′ : Grown} → Upto second cap from m₀ m past xs i r → i < length xs
-    → x ≡ getD xs i [] → length x ≡ idBytes → NotesNext second cap from m m′ r x r′ → Upto second cap from m₀ m′ past xs (i + 1) r′
-upto-next {second} {cap} {from} {m₀} {m} {m′} {past} {xs} {i} {r} {x} {r′} a h e w b = record {
-  so-far = subst (λ (ys : List Id). AllNoted second cap from m₀ m′ past ys r′) (sym (one-more xs i h ∙ ap (λ (y : Id). take i xs ++ (y ∷ [])) (sym e)))
-      (all-next second cap from m₀ m m′ (take i xs) x past r r′ (a .so-far) (b .does) w);
+pub upto-next : {width : ℕ} {second : Bool} {cap from : ℕ} {m₀ m m′ : Lent} {past : Grown} {xs : List Id} {i : ℕ} {r : Grown} {x : Id} {r′ : Grown} → Upto width second cap from m₀ m past xs i r → i < length xs
+    → x ≡ getD xs i [] → length x ≡ width → NotesNext width second cap from m m′ r x r′ → Upto width second cap from m₀ m′ past xs (i + 1) r′
+upto-next {width} {second} {cap} {from} {m₀} {m} {m′} {past} {xs} {i} {r} {x} {r′} a h e w b = record {
+  so-far = subst (λ (ys : List Id). AllNoted width second cap from m₀ m′ past ys r′) (sym (one-more xs i h ∙ ap (λ (y : Id). take i xs ++ (y ∷ [])) (sym e)))
+      (all-next width second cap from m₀ m m′ (take i xs) x past r r′ (a .so-far) (b .does) w);
 }
 
-pub upto-last : {second : Bool} {cap from : ℕ} {m₀ m : Lent} {past : Grown} {xs : List Id} {i : ℕ} {r : Grown} → Upto second cap from m₀ m past xs i r → length xs ≤ i → AllNoted second cap from m₀ m past xs r
-upto-last {second} {cap} {from} {m₀} {m} {past} {xs} {i} {r} a h = subst (λ (ys : List Id). AllNoted second cap from m₀ m past ys r) (take-all i xs h) (a .so-far)
+pub upto-last : {width : ℕ} {second : Bool} {cap from : ℕ} {m₀ m : Lent} {past : Grown} {xs : List Id} {i : ℕ} {r : Grown} → Upto width second cap from m₀ m past xs i r → length xs ≤ i → AllNoted width second cap from m₀ m past xs r
+upto-last {width} {second} {cap} {from} {m₀} {m} {past} {xs} {i} {r} a h = subst (λ (ys : List Id). AllNoted width second cap from m₀ m past ys r) (take-all i xs h) (a .so-far)
 
-pub listing-first : (second : Bool) (cap from : ℕ) (m : Lent) (past : Grown) (xs : List Id) → Listing second cap from m m past xs 0 past
-listing-first second cap from m past xs = record { upto = omega arith; long = long-none m; begun = upto-first second cap from m past xs }
+pub listing-first : (width : ℕ) (second : Bool) (cap from : ℕ) (m : Lent) (past : Grown) (xs : List Id) → Listing width second cap from m m past xs 0 past
+listing-first width second cap from m past xs = record { upto = omega arith; long = long-none m; begun = upto-first width second cap from m past xs }
 
-pub listing-next : {second : Bool} {cap from : ℕ} {m₀ m m′ : Lent} {past : Grown} {xs : List Id} {i : ℕ} {r : Grown} {x : Id} {r′ : Grown} → Listing second cap from m₀ m past xs i r → i < length xs
-    → x ≡ getD xs i [] → length x ≡ idBytes → Long m m′ → NotesNext second cap from m m′ r x r′ → Listing second cap from m₀ m′ past xs (i + 1) r′
+pub listing-next : {width : ℕ} {second : Bool} {cap from : ℕ} {m₀ m m′ : Lent} {past : Grown} {xs : List Id} {i : ℕ} {r : Grown} {x : Id} {r′ : Grown} → Listing width second cap from m₀ m past xs i r → i < length xs
+    → x ≡ getD xs i [] → length x ≡ width → Long m m′ → NotesNext width second cap from m m′ r x r′ → Listing width second cap from m₀ m′ past xs (i + 1) r′
 listing-next a h e w g b = record { upto = omega arith; long = long-then (a .long) g; begun = upto-next (a .begun) h e w b }
 
-pub listing-last : {second : Bool} {cap from : ℕ} {m₀ m : Lent} {past : Grown} {xs : List Id} {i : ℕ} {r : Grown} → Listing second cap from m₀ m past xs i r → length xs ≤ i → NotesAll second cap from m₀ m past xs r
+pub listing-last : {width : ℕ} {second : Bool} {cap from : ℕ} {m₀ m : Lent} {past : Grown} {xs : List Id} {i : ℕ} {r : Grown} → Listing width second cap from m₀ m past xs i r → length xs ≤ i → NotesAll width second cap from m₀ m past xs r
 listing-last a h = record { does = upto-last (a .begun) h }
 
 -- ---- the parents of a header
 
 -- a loop over the n parents of h, after i of them
-pub record Passing (second : Bool) (cap from : ℕ) (h : Header) (m₀ m : Lent) (past : Grown) (n i : ℕ) (r : Grown) : Type 0 where
+pub record Passing (width : ℕ) (second : Bool) (cap from : ℕ) (h : Header) (m₀ m : Lent) (past : Grown) (n i : ℕ) (r : Grown) : Type 0 where
   pub upto : i ≤ n
   pub long : Long m₀ m
-  pub begun : h .tree ≡ true → n ≡ length (h .ids) → Upto second cap from m₀ m past (h .ids) i r
+  pub begun : h .tree ≡ true → n ≡ length (h .ids) → Upto width second cap from m₀ m past (h .ids) i r
 
-pub passing-first : (second : Bool) (cap from : ℕ) (h : Header) (m : Lent) (past : Grown) (n : ℕ) → Passing second cap from h m m past n 0 past
-passing-first second cap from h m past n = record { upto = omega arith; long = long-none m; begun = λ t e. upto-first second cap from m past (h .ids) }
+pub passing-first : (width : ℕ) (second : Bool) (cap from : ℕ) (h : Header) (m : Lent) (past : Grown) (n : ℕ) → Passing width second cap from h m m past n 0 past
+passing-first width second cap from h m past n = record { upto = omega arith; long = long-none m; begun = λ t e. upto-first width second cap from m past (h .ids) }
 
-pub passing-next : {second : Bool} {cap from : ℕ} {m₀ m m′ : Lent} {past : Grown} {n i : ℕ} {r r′ : Grown} {x : Id} (b : List ℕ) (z : ObjectId) → Passing second cap from (header idBytes b) m₀ m past n i r → i < n
-    → z .bytes ≡ parentIdAt b i → x ≡ idIn idBytes (z .bytes) → Long m m′ → NotesNext second cap from m m′ r x r′ → Passing second cap from (header idBytes b) m₀ m′ past n (i + 1) r′
-passing-next {i = i} b z v l give e k o = record {
+pub passing-next : {width : ℕ} → width ≤ idRoom → {second : Bool} {cap from : ℕ} {m₀ m m′ : Lent} {past : Grown} {n i : ℕ} {r r′ : Grown} {x : Id} (b : List ℕ) (z : ObjectId) → Passing width second cap from (header width b) m₀ m past n i r → i < n
+    → z .bytes ≡ parentIdAt width b i → x ≡ idIn width (z .bytes) → Long m m′ → NotesNext width second cap from m m′ r x r′ → Passing width second cap from (header width b) m₀ m′ past n (i + 1) r′
+passing-next {width} small {i = i} b z v l give e k o = record {
   upto = omega arith;
   long = long-then (v .long) k;
-  begun = λ t q. upto-next (v .begun t q) (omega arith) (e ∙ ap (idIn idBytes) give ∙ parent-right b i t (omega arith)) (ap length e ∙ id-in-width (z .bytes) (ap length give ∙ parent-length b i)) o;
+  begun = λ t q. upto-next (v .begun t q) (omega arith) (e ∙ ap (idIn width) give ∙ parent-right width small b i t (omega arith)) (ap length e ∙ id-in-width width small (z .bytes) (ap length give ∙ parent-length width b i)) o;
 }
 
-pub passing-last : {second : Bool} {cap from : ℕ} {h : Header} {m₀ m : Lent} {past : Grown} {n i : ℕ} {r : Grown} → Passing second cap from h m₀ m past n i r → n ≤ i → NotesParents second cap from h m₀ m past n r
+pub passing-last : {width : ℕ} {second : Bool} {cap from : ℕ} {h : Header} {m₀ m : Lent} {past : Grown} {n i : ℕ} {r : Grown} → Passing width second cap from h m₀ m past n i r → n ≤ i → NotesParents width second cap from h m₀ m past n r
 passing-last v l = record { right = λ t e. upto-last (v .begun t e) (omega arith) }

@@ -18,7 +18,7 @@ use Rattle.hash.proofs.Ids.{eqId-eq, eqId-same}
 use Rattle.walk.specs.declared.Refusal.the-variants.{UnreadableReach, GraphAtOdds, PairNotFalling}
 use Rattle.walk.specs.Lookup.{World, Row, no-row, corrupt, row, Pair, ltPair, Read, fail, good, fromStore, storeSeconds}
 use Rattle.walk.specs.State.{Walk}
-use Rattle.walk.specs.Opening.{Input, walkOf, listIds, refusal}
+use Rattle.walk.specs.Opening.{Input, walkOf, listIds, refusal, widthIn}
 use Rattle.walk.specs.Reach.{Mem, links}
 use Rattle.walk.specs.Demand.{Readable, Agrees, Region, pairAt, Premises, Delivers, Third}
 use Rattle.walk.proofs.Whole.{third}
@@ -61,7 +61,7 @@ unfolding RegionReadable RegionAgrees RegionFalls
 premises-passed p r = one-verdict r (passes (p .readable) (p .agrees) (p .falls))
 
 -- "After a tested opening the listing holds with only one premise left"
-pub tested-delivers : (i : Input) → refusal i ≡ none → (r : Verdict (walkOf i) (listIds (i .tips))) → verdictNumber r ≡ 0 → Delivers i
+pub tested-delivers : (i : Input) → refusal i ≡ none → (r : Verdict (walkOf i) (listIds (widthIn i) (i .tips))) → verdictNumber r ≡ 0 → Delivers i
 unfolding Third
 tested-delivers i e r p = third i e (passed-premises r p)
 
@@ -265,16 +265,16 @@ module _ (v : Walk) (tips l : List Id) (c : Reached (v .world) (tips ++ v .hidde
   verdict-computed (at-odds a b) = rw (yes (each (readableIn w) l) (λ e. not-readable e a), not-yes (λ e. b (all-agree e)))
   verdict-computed (not-falling a b f) = rw (yes (each (readableIn w) l) (λ e. not-readable e a), yes (each (agreesIn w) l) (λ e. not-agreeing e b), not-yes (λ e. f (all-fall e)))
 
-pub verdict : (i : Input) → Verdict (walkOf i) (listIds (i .tips))
+pub verdict : (i : Input) → Verdict (walkOf i) (listIds (widthIn i) (i .tips))
 unfolding walkOf
-verdict i = verdict-of (walkOf i) (listIds (i .tips)) (reachList (i .store) (i .graph) (listIds (i .tips) ++ listIds (i .hidden))) (list-reached (i .store) (i .graph) (listIds (i .tips) ++ listIds (i .hidden)))
+verdict i = verdict-of (walkOf i) (listIds (widthIn i) (i .tips)) (reachList (widthIn i) (i .store) (i .graph) (listIds (widthIn i) (i .tips) ++ listIds (widthIn i) (i .hidden))) (list-reached (widthIn i) (i .store) (i .graph) (listIds (widthIn i) (i .tips) ++ listIds (widthIn i) (i .hidden)))
 
 -- ---- an equation with the definition
 
-pub tested-is : (i : Input) (r : Verdict (walkOf i) (listIds (i .tips))) → testedRefusal i ≡ verdictRefusal r
+pub tested-is : (i : Input) (r : Verdict (walkOf i) (listIds (widthIn i) (i .tips))) → testedRefusal i ≡ verdictRefusal r
 unfolding testedRefusal walkOf
 tested-is i r =
-    verdict-computed (walkOf i) (listIds (i .tips)) (reachList (i .store) (i .graph) (listIds (i .tips) ++ listIds (i .hidden))) (list-reached (i .store) (i .graph) (listIds (i .tips) ++ listIds (i .hidden))) r
+    verdict-computed (walkOf i) (listIds (widthIn i) (i .tips)) (reachList (widthIn i) (i .store) (i .graph) (listIds (widthIn i) (i .tips) ++ listIds (widthIn i) (i .hidden))) (list-reached (widthIn i) (i .store) (i .graph) (listIds (widthIn i) (i .tips) ++ listIds (widthIn i) (i .hidden))) r
 
 module _ (v : Walk) (tips : List Id) where
   -- what a verdict's refusal says
@@ -307,7 +307,7 @@ pub tests-decide : (i : Input) → TestsDecide i
 unfolding RegionReadable RegionAgrees RegionFalls
 tests-decide i =
     let v = walkOf i in
-    let tips = listIds (i .tips) in
+    let tips = listIds (widthIn i) (i .tips) in
     let r = verdict i in
     let is : testedRefusal i ≡ verdictRefusal r = tested-is i r in
     record {

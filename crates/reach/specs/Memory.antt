@@ -4,7 +4,7 @@ use mathlib.Core.Path.{_≡_}
 use mathlib.Core.Bool.{Bool, true, false, not}
 use mathlib.Core.List.{List, [], _∷_}
 use lib.ListN.{length, getD, set}
-use Rattle.hash.specs.Bytes.{Id, idBytes}
+use Rattle.hash.specs.Bytes.{Id}
 use Rattle.object.specs.Header.{Header}
 use Rattle.hashtable.specs.Marks.{visible, hidden, withVisible, withHidden}
 use Rattle.hashtable.specs.Table.{Holds, Table, markFor, Finds}
@@ -43,33 +43,33 @@ abbrev pub lent : List ℕ → List ℕ → List ℕ → Lent
 lent names marks line = record { names = names; marks = marks; line = line }
 
 -- the mark of an id
-abbrev pub markIn : ℕ → Lent → Id → ℕ
-markIn cap m x = markFor idBytes false (m .names) (m .marks) cap x
+abbrev pub markIn : ℕ → ℕ → Lent → Id → ℕ
+markIn width cap m x = markFor width false (m .names) (m .marks) cap x
 
 -- slot k holds x
-abbrev pub In : ℕ → Lent → Id → ℕ → Type 0
-In cap m x k = Holds idBytes false (m .names) (m .marks) cap x k
+abbrev pub In : ℕ → ℕ → Lent → Id → ℕ → Type 0
+In width cap m x k = Holds width false (m .names) (m .marks) cap x k
 
 -- the n slots of line[from .. from + n) hold the ids of l in order, and the search has marked these ids and no others
-pub record Lists (second : Bool) (cap from : ℕ) (m : Lent) (n : ℕ) (l : List Id) : Type 0 where
-  pub table : Table idBytes false (m .names) (m .marks) cap
+pub record Lists (width : ℕ) (second : Bool) (cap from : ℕ) (m : Lent) (n : ℕ) (l : List Id) : Type 0 where
+  pub table : Table width false (m .names) (m .marks) cap
   pub room : from + cap ≤ length (m .line)
   pub count : length l ≡ n
   pub once : NoDup l
-  pub slots : (i : ℕ) → i < n → In cap m (getD l i []) (getD (m .line) (from + i) 0)
-  pub marked : (x : Id) → Mem x l → hasBit second (markIn cap m x) ≡ true
-  pub all : (x : Id) → hasBit second (markIn cap m x) ≡ true → Mem x l
+  pub slots : (i : ℕ) → i < n → In width cap m (getD l i []) (getD (m .line) (from + i) 0)
+  pub marked : (x : Id) → Mem x l → hasBit second (markIn width cap m x) ≡ true
+  pub all : (x : Id) → hasBit second (markIn width cap m x) ≡ true → Mem x l
 
 -- room for ids: u has every id of the table, and there is a slot for each id of u
-pub record Named (cap : ℕ) (u : List Id) (m : Lent) : Type 0 where
+pub record Named (width : ℕ) (cap : ℕ) (u : List Id) (m : Lent) : Type 0 where
   pub few : length u ≤ cap
   pub small : cap ≤ mostSlots
-  pub inside : (y : Id) → (markIn cap m y ≡ 0 → ⊥) → Mem y u
+  pub inside : (y : Id) → (markIn width cap m y ≡ 0 → ⊥) → Mem y u
 
 -- what a search leaves as it was: the other search's marks, the slots that hold ids, and the line below
-pub record Spares (second : Bool) (cap from : ℕ) (m m′ : Lent) : Type 0 where
-  pub other-bit : (y : Id) → hasBit (not second) (markIn cap m′ y) ≡ hasBit (not second) (markIn cap m y)
-  pub stays : (y : Id) (k : ℕ) → In cap m y k → In cap m′ y k
+pub record Spares (width : ℕ) (second : Bool) (cap from : ℕ) (m m′ : Lent) : Type 0 where
+  pub other-bit : (y : Id) → hasBit (not second) (markIn width cap m′ y) ≡ hasBit (not second) (markIn width cap m y)
+  pub stays : (y : Id) (k : ℕ) → In width cap m y k → In width cap m′ y k
   pub below : (j : ℕ) → j < from → getD (m′ .line) j 0 ≡ getD (m .line) j 0
 
 -- ---- one id in the table
@@ -83,22 +83,22 @@ pub record Raises (second : Bool) (marks marks′ : List ℕ) (slot : ℕ) (r : 
   pub given : hasBit second (getD marks slot 0) ≡ false → (slot < mostSlots → r ≡ Fresh slot) × (marks′ ≡ set marks slot (withBit second (getD marks slot 0)))
 
 -- the id x has gained the mark and stands in slot k; all other ids are as they were
-pub record Gained (second : Bool) (names marks names′ marks′ : List ℕ) (cap : ℕ) (x : Id) (k : ℕ) : Type 0 where
-  pub lacked : hasBit second (markFor idBytes false names marks cap x) ≡ false
-  pub table : Table idBytes false names′ marks′ cap
-  pub holds : Holds idBytes false names′ marks′ cap x k
-  pub this : markFor idBytes false names′ marks′ cap x ≡ withBit second (markFor idBytes false names marks cap x)
-  pub other : (y : Id) → (y ≡ x → ⊥) → markFor idBytes false names′ marks′ cap y ≡ markFor idBytes false names marks cap y
-  pub stays : (y : Id) (j : ℕ) → Holds idBytes false names marks cap y j → Holds idBytes false names′ marks′ cap y j
+pub record Gained (width : ℕ) (second : Bool) (names marks names′ marks′ : List ℕ) (cap : ℕ) (x : Id) (k : ℕ) : Type 0 where
+  pub lacked : hasBit second (markFor width false names marks cap x) ≡ false
+  pub table : Table width false names′ marks′ cap
+  pub holds : Holds width false names′ marks′ cap x k
+  pub this : markFor width false names′ marks′ cap x ≡ withBit second (markFor width false names marks cap x)
+  pub other : (y : Id) → (y ≡ x → ⊥) → markFor width false names′ marks′ cap y ≡ markFor width false names marks cap y
+  pub stays : (y : Id) (j : ℕ) → Holds width false names marks cap y j → Holds width false names′ marks′ cap y j
 
-abbrev pub ToldMark : Bool → List ℕ → List ℕ → List ℕ → List ℕ → ℕ → Id → Marking → Type 0
-ToldMark second names marks names′ marks′ cap x (Fresh k) = Gained second names marks names′ marks′ cap x k
-ToldMark second names marks names′ marks′ cap x Known = (hasBit second (markFor idBytes false names marks cap x) ≡ true) × (names′ ≡ names) × (marks′ ≡ marks)
-ToldMark second names marks names′ marks′ cap x Full = Finds idBytes false names marks cap x TableFull
+abbrev pub ToldMark : ℕ → Bool → List ℕ → List ℕ → List ℕ → List ℕ → ℕ → Id → Marking → Type 0
+ToldMark width second names marks names′ marks′ cap x (Fresh k) = Gained width second names marks names′ marks′ cap x k
+ToldMark width second names marks names′ marks′ cap x Known = (hasBit second (markFor width false names marks cap x) ≡ true) × (names′ ≡ names) × (marks′ ≡ marks)
+ToldMark width second names marks names′ marks′ cap x Full = Finds width false names marks cap x TableFull
 
 -- what `mark_id` makes of a right table
-pub record MarksId (second : Bool) (names marks names′ marks′ : List ℕ) (cap : ℕ) (x : Id) (r : Marking) : Type 0 where
-  pub right : Table idBytes false names marks cap → cap ≤ mostSlots → ToldMark second names marks names′ marks′ cap x r
+pub record MarksId (width : ℕ) (second : Bool) (names marks names′ marks′ : List ℕ) (cap : ℕ) (x : Id) (r : Marking) : Type 0 where
+  pub right : Table width false names marks cap → cap ≤ mostSlots → ToldMark width second names marks names′ marks′ cap x r
 
 -- what `put` does
 pub record Puts (line line′ : List ℕ) (from n slot : ℕ) (r : Grown) : Type 0 where
@@ -107,38 +107,38 @@ pub record Puts (line line′ : List ℕ) (from n slot : ℕ) (r : Grown) : Type
 -- ---- ids are noted
 
 -- the ids xs were noted, and the line has n′ slots
-pub record Went (second : Bool) (cap from : ℕ) (u : List Id) (m m′ : Lent) (l xs : List Id) (n′ : ℕ) : Type 0 where
+pub record Went (width : ℕ) (second : Bool) (cap from : ℕ) (u : List Id) (m m′ : Lent) (l xs : List Id) (n′ : ℕ) : Type 0 where
   pub list : List Id
   pub grows : Grows l xs list
-  pub lists : Lists second cap from m′ n′ list
-  pub named : Named cap u m′
-  pub spares : Spares second cap from m m′
+  pub lists : Lists width second cap from m′ n′ list
+  pub named : Named width cap u m′
+  pub spares : Spares width second cap from m m′
 
 -- by the answer; where there is room, no answer says that there is none
-abbrev pub Told : Bool → ℕ → ℕ → List Id → Lent → Lent → List Id → List Id → Grown → Type 0
-Told second cap from u m m′ l xs (Count n′) = Went second cap from u m m′ l xs n′
-Told second cap from u m m′ l xs NoRoom = ⊥
+abbrev pub Told : ℕ → Bool → ℕ → ℕ → List Id → Lent → Lent → List Id → List Id → Grown → Type 0
+Told width second cap from u m m′ l xs (Count n′) = Went width second cap from u m m′ l xs n′
+Told width second cap from u m m′ l xs NoRoom = ⊥
 
 -- what `note` does, where u has the id
-pub record Notes (second : Bool) (cap from : ℕ) (m m′ : Lent) (n : ℕ) (x : Id) (r : Grown) : Type 0 where
-  pub right : (u l : List Id) → Lists second cap from m n l → Named cap u m → length x ≡ idBytes → Mem x u → Told second cap from u m m′ l (x ∷ []) r
+pub record Notes (width : ℕ) (second : Bool) (cap from : ℕ) (m m′ : Lent) (n : ℕ) (x : Id) (r : Grown) : Type 0 where
+  pub right : (u l : List Id) → Lists width second cap from m n l → Named width cap u m → length x ≡ width → Mem x u → Told width second cap from u m m′ l (x ∷ []) r
 
 -- the same after an answer: where there is no room, nothing is done
-abbrev pub NotedAfter : Bool → ℕ → ℕ → Lent → Lent → Grown → Id → Grown → Type 0
-NotedAfter second cap from m m′ (Count n) x r = Notes second cap from m m′ n x r
-NotedAfter second cap from m m′ NoRoom x r = (m′ ≡ m) × (r ≡ NoRoom)
+abbrev pub NotedAfter : ℕ → Bool → ℕ → ℕ → Lent → Lent → Grown → Id → Grown → Type 0
+NotedAfter width second cap from m m′ (Count n) x r = Notes width second cap from m m′ n x r
+NotedAfter width second cap from m m′ NoRoom x r = (m′ ≡ m) × (r ≡ NoRoom)
 
-pub record NotesNext (second : Bool) (cap from : ℕ) (m m′ : Lent) (past : Grown) (x : Id) (r : Grown) : Type 0 where
-  pub does : NotedAfter second cap from m m′ past x r
+pub record NotesNext (width : ℕ) (second : Bool) (cap from : ℕ) (m m′ : Lent) (past : Grown) (x : Id) (r : Grown) : Type 0 where
+  pub does : NotedAfter width second cap from m m′ past x r
 
 -- a list of ids, one after another
-abbrev pub AllNoted : Bool → ℕ → ℕ → Lent → Lent → Grown → List Id → Grown → Type 0
-AllNoted second cap from m m′ (Count n) xs r = (u l : List Id) → Lists second cap from m n l → Named cap u m → ((x : Id) → Mem x xs → Mem x u) → Told second cap from u m m′ l xs r
-AllNoted second cap from m m′ NoRoom xs r = (m′ ≡ m) × (r ≡ NoRoom)
+abbrev pub AllNoted : ℕ → Bool → ℕ → ℕ → Lent → Lent → Grown → List Id → Grown → Type 0
+AllNoted width second cap from m m′ (Count n) xs r = (u l : List Id) → Lists width second cap from m n l → Named width cap u m → ((x : Id) → Mem x xs → Mem x u) → Told width second cap from u m m′ l xs r
+AllNoted width second cap from m m′ NoRoom xs r = (m′ ≡ m) × (r ≡ NoRoom)
 
-pub record NotesAll (second : Bool) (cap from : ℕ) (m m′ : Lent) (past : Grown) (xs : List Id) (r : Grown) : Type 0 where
-  pub does : AllNoted second cap from m m′ past xs r
+pub record NotesAll (width : ℕ) (second : Bool) (cap from : ℕ) (m m′ : Lent) (past : Grown) (xs : List Id) (r : Grown) : Type 0 where
+  pub does : AllNoted width second cap from m m′ past xs r
 
 -- the parents of a header with a good tree line, of which there are n
-pub record NotesParents (second : Bool) (cap from : ℕ) (h : Header) (m m′ : Lent) (past : Grown) (n : ℕ) (r : Grown) : Type 0 where
-  pub right : h .tree ≡ true → n ≡ length (h .ids) → AllNoted second cap from m m′ past (h .ids) r
+pub record NotesParents (width : ℕ) (second : Bool) (cap from : ℕ) (h : Header) (m m′ : Lent) (past : Grown) (n : ℕ) (r : Grown) : Type 0 where
+  pub right : h .tree ≡ true → n ≡ length (h .ids) → AllNoted width second cap from m m′ past (h .ids) r

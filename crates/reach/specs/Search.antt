@@ -48,12 +48,12 @@ reachedFrom w (suc n) k l =
     cond (ltb k (length l)) on l
 
 -- all that can be met: the roots, and what the store names as a parent
-abbrev pub reachNames : List ℕ → List Id → List Id
-reachNames store roots = roots ++ storeParents store
+abbrev pub reachNames : ℕ → List ℕ → List Id → List Id
+reachNames width store roots = roots ++ storeParents width store
 
 -- what the roots reach: no more ids can be met than these, so all are read
-unfoldable pub reachList : List ℕ → List ℕ → List Id → List Id
-reachList store graph roots = reachedFrom (worldOf store graph) (length (reachNames store roots)) 0 (noted [] roots)
+unfoldable pub reachList : ℕ → List ℕ → List ℕ → List Id → List Id
+reachList width store graph roots = reachedFrom (worldOf width store graph) (length (reachNames width store roots)) 0 (noted [] roots)
 
 -- ---- the search
 

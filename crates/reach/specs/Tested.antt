@@ -12,7 +12,7 @@ use Rattle.walk.specs.declared.Refusal.{Refusal}
 use Rattle.walk.specs.declared.Refusal.the-variants.{UnreadableReach, GraphAtOdds, PairNotFalling}
 use Rattle.walk.specs.Lookup.{World, worldOf, Row, no-row, corrupt, row, Read, fail, good, fromStore, storeSeconds, ltPair}
 use Rattle.walk.specs.State.{Walk}
-use Rattle.walk.specs.Opening.{Input, walkOf, listIds, Opening, closed, opened, openWalk}
+use Rattle.walk.specs.Opening.{Input, walkOf, listIds, Opening, closed, opened, openWalk, widthIn}
 use Rattle.walk.specs.Reach.{Mem, links}
 use Rattle.walk.specs.Demand.{Readable, Agrees, Region, pairAt, Premises}
 use Rattle.reach.specs.Search.{reachList}
@@ -72,7 +72,7 @@ testedOver w l = judged (each (readableIn w) l) (each (agreesIn w) l) (each (fal
 
 -- "everything reachable from all given tips and hidden tips, over all the book's parents"
 unfoldable pub testedRefusal : Input → Option Refusal
-testedRefusal i = testedOver (worldOf (i .store) (i .graph)) (reachList (i .store) (i .graph) (listIds (i .tips) ++ listIds (i .hidden)))
+testedRefusal i = testedOver (worldOf (widthIn i) (i .store) (i .graph)) (reachList (widthIn i) (i .store) (i .graph) (listIds (widthIn i) (i .tips) ++ listIds (widthIn i) (i .hidden)))
 
 -- "where 1 to 8 do not apply"
 abbrev pub afterTests : Opening → Option Refusal → Opening
@@ -121,7 +121,7 @@ verdictRefusal (not-falling a b c) = some PairNotFalling
 -- "accepts exactly when every commit is readable in the book, the graph agrees, and each pair falls": the third demand's premises; and each
 -- number exactly where its test is the first to fail
 pub record TestsDecide (i : Input) : Type 0 where
-  pub accepted : (testedRefusal i ≡ none) ↔ Premises (walkOf i) (listIds (i .tips))
-  pub thirteen : (testedRefusal i ≡ some UnreadableReach) ↔ (RegionReadable (walkOf i) (listIds (i .tips)) → ⊥)
-  pub fourteen : (testedRefusal i ≡ some GraphAtOdds) ↔ (RegionReadable (walkOf i) (listIds (i .tips)) × (RegionAgrees (walkOf i) (listIds (i .tips)) → ⊥))
-  pub fifteen : (testedRefusal i ≡ some PairNotFalling) ↔ (RegionReadable (walkOf i) (listIds (i .tips)) × RegionAgrees (walkOf i) (listIds (i .tips)) × (RegionFalls (walkOf i) (listIds (i .tips)) → ⊥))
+  pub accepted : (testedRefusal i ≡ none) ↔ Premises (walkOf i) (listIds (widthIn i) (i .tips))
+  pub thirteen : (testedRefusal i ≡ some UnreadableReach) ↔ (RegionReadable (walkOf i) (listIds (widthIn i) (i .tips)) → ⊥)
+  pub fourteen : (testedRefusal i ≡ some GraphAtOdds) ↔ (RegionReadable (walkOf i) (listIds (widthIn i) (i .tips)) × (RegionAgrees (walkOf i) (listIds (widthIn i) (i .tips)) → ⊥))
+  pub fifteen : (testedRefusal i ≡ some PairNotFalling) ↔ (RegionReadable (walkOf i) (listIds (widthIn i) (i .tips)) × RegionAgrees (walkOf i) (listIds (widthIn i) (i .tips)) × (RegionFalls (walkOf i) (listIds (widthIn i) (i .tips)) → ⊥))

@@ -6,9 +6,9 @@ use hashtable::table::Slot;
 ghost use mathlib.Core.Path.{_≡_};
 ghost use Prim.Native.Nat.{_+_, _<_};
 ghost use Rattle.object.specs.Header.{header};
-ghost use Rattle.hash.specs.Bytes.{idBytes};
 ghost use Rattle.walk.specs.Opening.{listIds};
 ghost use Rattle.reach.specs.Memory.{mostSlots, freshAt, Raises, MarksId, Puts, lent, Notes, NotesNext, NotesAll, NotesParents};
+ghost use Rattle.hash.specs.Bytes.{widthOf};
 
 // What came of an id: it was new to this search and stands in a slot; it was known; or there is no slot for it.
 pub enum Marking {
@@ -46,11 +46,18 @@ fn raise(marks: &mut [u8], slot: usize, second: bool) -> Marking
 }
 
 // Gives the mark to an id, which enters the table where it is not there.
-fn mark_id(names: &mut [u8], marks: &mut [u8], cap: usize, second: bool, id: &[u8]) -> Marking
-    ensures { λ r. ⌜ MarksId second (now (names .entry)) (now (marks .entry)) (now (names .exit)) (now (marks .exit)) cap (now (id .entry)) r ⌝ }
+fn mark_id(
+    kind: Kind,
+    names: &mut [u8],
+    marks: &mut [u8],
+    cap: usize,
+    second: bool,
+    id: &[u8],
+) -> Marking
+    ensures { λ r. ⌜ MarksId (widthOf kind) second (now (names .entry)) (now (marks .entry)) (now (names .exit)) (now (marks .exit)) cap (now (id .entry)) r ⌝ }
 {
     let first = bits::with_bit(second, 0);
-    let s = table::insert(Kind::Sha1, names, marks, cap, false, id, first);
+    let s = table::insert(kind, names, marks, cap, false, id, first);
     match s {
         Slot::Found(k) => raise(marks, k, second),
         Slot::Vacant(k) => fresh(k),
@@ -74,6 +81,7 @@ fn put(line: &mut [u32], from: usize, n: usize, slot: u32) -> Grown
 
 // Notes one id.
 pub fn note(
+    kind: Kind,
     names: &mut [u8],
     marks: &mut [u8],
     line: &mut [u32],
@@ -83,9 +91,9 @@ pub fn note(
     n: usize,
     id: &[u8],
 ) -> Grown
-    ensures { λ r. ⌜ Notes second cap from (lent (now (names .entry)) (now (marks .entry)) (now (line .entry))) (lent (now (names .exit)) (now (marks .exit)) (now (line .exit))) n (now (id .entry)) r ⌝ }
+    ensures { λ r. ⌜ Notes (widthOf kind) second cap from (lent (now (names .entry)) (now (marks .entry)) (now (line .entry))) (lent (now (names .exit)) (now (marks .exit)) (now (line .exit))) n (now (id .entry)) r ⌝ }
 {
-    let marked = mark_id(names, marks, cap, second, id);
+    let marked = mark_id(kind, names, marks, cap, second, id);
     match marked {
         Marking::Fresh(slot) => put(line, from, n, slot),
         Marking::Known => Grown::Count(n),
@@ -95,6 +103,7 @@ pub fn note(
 
 // The same after an answer: where there is no room, nothing is done.
 pub fn note_next(
+    kind: Kind,
     names: &mut [u8],
     marks: &mut [u8],
     line: &mut [u32],
@@ -104,16 +113,17 @@ pub fn note_next(
     past: Grown,
     id: &[u8],
 ) -> Grown
-    ensures { λ r. ⌜ NotesNext second cap from (lent (now (names .entry)) (now (marks .entry)) (now (line .entry))) (lent (now (names .exit)) (now (marks .exit)) (now (line .exit))) past (now (id .entry)) r ⌝ }
+    ensures { λ r. ⌜ NotesNext (widthOf kind) second cap from (lent (now (names .entry)) (now (marks .entry)) (now (line .entry))) (lent (now (names .exit)) (now (marks .exit)) (now (line .exit))) past (now (id .entry)) r ⌝ }
 {
     match past {
-        Grown::Count(n) => note(names, marks, line, cap, second, from, n, id),
+        Grown::Count(n) => note(kind, names, marks, line, cap, second, from, n, id),
         Grown::NoRoom => Grown::NoRoom,
     }
 }
 
 // Notes each id of a list, in order.
 pub fn note_list(
+    kind: Kind,
     names: &mut [u8],
     marks: &mut [u8],
     line: &mut [u32],
@@ -123,14 +133,14 @@ pub fn note_list(
     past: Grown,
     list: &[u8],
 ) -> Grown
-    ensures { λ r. ⌜ NotesAll second cap from (lent (now (names .entry)) (now (marks .entry)) (now (line .entry))) (lent (now (names .exit)) (now (marks .exit)) (now (line .exit))) past (listIds (now (list .entry))) r ⌝ }
+    ensures { λ r. ⌜ NotesAll (widthOf kind) second cap from (lent (now (names .entry)) (now (marks .entry)) (now (line .entry))) (lent (now (names .exit)) (now (marks .exit)) (now (line .exit))) past (listIds (widthOf kind) (now (list .entry))) r ⌝ }
 {
-    let count = hash::ids_in(Kind::Sha1, list.len());
+    let count = hash::ids_in(kind, list.len());
     let mut r = past;
     let mut i = 0;
     while i < count {
-        let id = hash::nth(Kind::Sha1, list, i);
-        r = note_next(names, marks, line, cap, second, from, r, id);
+        let id = hash::nth(kind, list, i);
+        r = note_next(kind, names, marks, line, cap, second, from, r, id);
         i += 1;
     }
     r
@@ -138,6 +148,7 @@ pub fn note_list(
 
 // Notes the parents of a commit, in order: the ids of the first `count` parent lines of its body, which a good tree line stands before.
 pub fn note_parents(
+    kind: Kind,
     names: &mut [u8],
     marks: &mut [u8],
     line: &mut [u32],
@@ -148,13 +159,14 @@ pub fn note_parents(
     body: &[u8],
     count: usize,
 ) -> Grown
-    ensures { λ r. ⌜ NotesParents second cap from (header idBytes (now (body .entry))) (lent (now (names .entry)) (now (marks .entry)) (now (line .entry))) (lent (now (names .exit)) (now (marks .exit)) (now (line .exit))) past count r ⌝ }
+    ensures { λ r. ⌜ NotesParents (widthOf kind) second cap from (header (widthOf kind) (now (body .entry))) (lent (now (names .entry)) (now (marks .entry)) (now (line .entry))) (lent (now (names .exit)) (now (marks .exit)) (now (line .exit))) past count r ⌝ }
 {
     let mut r = past;
     let mut i = 0;
     while i < count {
-        let id = reading::body_parent(body, i);
+        let id = reading::body_parent(kind, body, i);
         r = note_next(
+            kind,
             names,
             marks,
             line,
@@ -162,7 +174,7 @@ pub fn note_parents(
             second,
             from,
             r,
-            object::id_slice(Kind::Sha1, &id.bytes),
+            object::id_slice(kind, &id.bytes),
         );
         i += 1;
     }

@@ -7,12 +7,12 @@ use object::Reading;
 ghost use mathlib.Core.Path.{_≡_};
 ghost use Prim.Native.Nat.{_+_};
 ghost use lib.ListN.{getD};
-ghost use Rattle.hash.specs.Bytes.{idBytes};
 ghost use Rattle.hashtable.specs.Table.{idOf};
 ghost use Rattle.walk.specs.Opening.{listIds};
 ghost use Rattle.reading.specs.Stored.{GivesBody};
 ghost use Rattle.reach.specs.Memory.{lent};
 ghost use Rattle.reach.specs.Seek.{stepOf, Reads, Seeks, SeeksFrom};
+ghost use Rattle.hash.specs.Bytes.{widthOf};
 
 // One commit read: how many slots the line has then; it is not readable; or the lent memory is too small.
 pub enum Step {
@@ -43,14 +43,10 @@ fn slot_after(line: &[u32], from: usize, k: usize) -> u32
 }
 
 // The body of the commit in a slot, a part of the store; empty where the store has none.
-fn body_in<'a>(names: &[u8], slot: u32, store: &'a [u8]) -> &'a [u8]
-    ensures { λ r. ⌜ GivesBody idBytes (now (store .entry)) (idOf idBytes (now (names .entry)) slot) (now r) ⌝ }
+fn body_in<'a>(kind: Kind, names: &[u8], slot: u32, store: &'a [u8]) -> &'a [u8]
+    ensures { λ r. ⌜ GivesBody (widthOf kind) (now (store .entry)) (idOf (widthOf kind) (now (names .entry)) slot) (now r) ⌝ }
 {
-    reading::stored_body(
-        Kind::Sha1,
-        store,
-        table::id_of(Kind::Sha1, names, slot as usize),
-    )
+    reading::stored_body(kind, store, table::id_of(kind, names, slot as usize))
 }
 
 // The parents noted, as an answer.
@@ -65,6 +61,7 @@ fn noted(r: Grown) -> Step
 
 // Reads the commit at place k of the n, and notes its parents.
 fn read_at(
+    kind: Kind,
     names: &mut [u8],
     marks: &mut [u8],
     line: &mut [u32],
@@ -75,12 +72,13 @@ fn read_at(
     n: usize,
     k: usize,
 ) -> Step
-    ensures { λ r. ⌜ Reads second cap from (now (store .entry)) (lent (now (names .entry)) (now (marks .entry)) (now (line .entry))) (lent (now (names .exit)) (now (marks .exit)) (now (line .exit))) n k r ⌝ }
+    ensures { λ r. ⌜ Reads (widthOf kind) second cap from (now (store .entry)) (lent (now (names .entry)) (now (marks .entry)) (now (line .entry))) (lent (now (names .exit)) (now (marks .exit)) (now (line .exit))) n k r ⌝ }
 {
     let slot = slot_after(line, from, k);
-    let body = body_in(names, slot, store);
-    match object::readable(Kind::Sha1, body) {
+    let body = body_in(kind, names, slot, store);
+    match object::readable(kind, body) {
         Reading::Readable { parents, .. } => noted(notes::note_parents(
+            kind,
             names,
             marks,
             line,
@@ -98,6 +96,7 @@ fn read_at(
 
 // The search, over the n slots that the line has to begin with.
 pub fn search(
+    kind: Kind,
     names: &mut [u8],
     marks: &mut [u8],
     line: &mut [u32],
@@ -107,7 +106,7 @@ pub fn search(
     store: &[u8],
     n: usize,
 ) -> Sought
-    ensures { λ r. ⌜ Seeks second cap from (now (store .entry)) (lent (now (names .entry)) (now (marks .entry)) (now (line .entry))) (lent (now (names .exit)) (now (marks .exit)) (now (line .exit))) n r ⌝ }
+    ensures { λ r. ⌜ Seeks (widthOf kind) second cap from (now (store .entry)) (lent (now (names .entry)) (now (marks .entry)) (now (line .entry))) (lent (now (names .exit)) (now (marks .exit)) (now (line .exit))) n r ⌝ }
 {
     let mut count = n;
     let mut k = 0;
@@ -115,7 +114,7 @@ pub fn search(
         if cap <= k {
             return Sought::NoRoom;
         }
-        match read_at(names, marks, line, cap, second, from, store, count, k) {
+        match read_at(kind, names, marks, line, cap, second, from, store, count, k) {
             Step::Count(m) => {
                 count = m;
             }
@@ -133,6 +132,7 @@ pub fn search(
 
 // The search from the ids of a list, where nothing has its mark yet.
 pub fn search_from(
+    kind: Kind,
     names: &mut [u8],
     marks: &mut [u8],
     line: &mut [u32],
@@ -142,9 +142,10 @@ pub fn search_from(
     store: &[u8],
     roots: &[u8],
 ) -> Sought
-    ensures { λ r. ⌜ SeeksFrom second cap from (now (store .entry)) (lent (now (names .entry)) (now (marks .entry)) (now (line .entry))) (lent (now (names .exit)) (now (marks .exit)) (now (line .exit))) (listIds (now (roots .entry))) r ⌝ }
+    ensures { λ r. ⌜ SeeksFrom (widthOf kind) second cap from (now (store .entry)) (lent (now (names .entry)) (now (marks .entry)) (now (line .entry))) (lent (now (names .exit)) (now (marks .exit)) (now (line .exit))) (listIds (widthOf kind) (now (roots .entry))) r ⌝ }
 {
     let begun = notes::note_list(
+        kind,
         names,
         marks,
         line,
@@ -155,7 +156,7 @@ pub fn search_from(
         roots,
     );
     match begun {
-        Grown::Count(n) => search(names, marks, line, cap, second, from, store, n),
+        Grown::Count(n) => search(kind, names, marks, line, cap, second, from, store, n),
         Grown::NoRoom => Sought::NoRoom,
     }
 }

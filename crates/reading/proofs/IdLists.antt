@@ -4,59 +4,63 @@ use Prim.Native.Nat.{ℕ, zero, suc, _+_, _*_, _-_, _/_, _≤_, _<_}
 use mathlib.Core.Bool.{Bool, true, false, cond}
 use mathlib.Core.List.{List, [], _∷_, _++_, List·Memᴰ·head, List·Memᴰ·tail}
 use native.Mathlib.Omega.{arith}
+use native.Mathlib.Nat.{mul-zero, mul-div-le}
 use native.Mathlib.Numerals.{add-one}
 use lib.ListN.{length, take, drop, getD}
 use lib.Seq.{take-suc, drop-drop}
-use Rattle.hash.specs.Bytes.{Id, idBytes, at, eqId, among, idsOf}
+use Rattle.hash.specs.Bytes.{Id, at, eqId, among, idsOf}
 use Rattle.hash.proofs.Bytes.{length-at}
+use Rattle.hash.proofs.Widths.{apart}
 use Rattle.walk.specs.Opening.{listIds}
 use Rattle.walk.specs.Reach.{Mem}
 
 -- n ids, of which k were passed
-abbrev pub fromId : List ℕ → ℕ → ℕ → List Id
-fromId b n k = idsOf idBytes (n - k) (drop (idBytes * k) b)
+abbrev pub fromId : ℕ → List ℕ → ℕ → ℕ → List Id
+fromId w b n k = idsOf w (n - k) (drop (w * k) b)
 
-pub among-start : (x : Id) (b : List ℕ) → among x (listIds b) ≡ among x (fromId b (length b / idBytes) 0)
+pub among-start : (w : ℕ) (x : Id) (b : List ℕ) → among x (listIds w b) ≡ among x (fromId w b (length b / w) 0)
 unfolding listIds
-among-start x b = let m : length b / idBytes ≡ length b / idBytes - 0 = omega arith in ap (λ (j : ℕ). among x (idsOf idBytes j b)) m
+among-start w x b =
+    let m : length b / w ≡ length b / w - 0 = omega arith in
+    ap (λ (j : ℕ). among x (idsOf w j b)) m ∙ ap (λ (j : ℕ). among x (idsOf w (length b / w - 0) (drop j b))) (sym (mul-zero w))
 
-module _ (x : Id) (b : List ℕ) (n k : ℕ) (h : k < n) where
-  next-id : fromId b n k ≡ at b (idBytes * k) idBytes ∷ fromId b n (k + 1)
+module _ (w : ℕ) (x : Id) (b : List ℕ) (n k : ℕ) (h : k < n) where
+  next-id : fromId w b n k ≡ at b (w * k) w ∷ (fromId w) b n (k + 1)
   unfolding idsOf at
   next-id =
       let m : n - k ≡ suc (n - (k + 1)) = omega arith in
-      let d : idBytes * k + idBytes ≡ idBytes * (k + 1) = omega arith in
-      ap (λ (j : ℕ). idsOf idBytes j (drop (idBytes * k) b)) m
-      ∙ ap (λ (c : List ℕ). take idBytes (drop (idBytes * k) b) ∷ idsOf idBytes (n - (k + 1)) c) (drop-drop idBytes (idBytes * k) b ∙ ap (λ (j : ℕ). drop j b) d)
+      let d : w * k + w ≡ w * (k + 1) = omega arith in
+      ap (λ (j : ℕ). idsOf w j (drop (w * k) b)) m
+      ∙ ap (λ (c : List ℕ). take w (drop (w * k) b) ∷ idsOf w (n - (k + 1)) c) (drop-drop w (w * k) b ∙ ap (λ (j : ℕ). drop j b) d)
 
-  pub among-here : eqId x (at b (idBytes * k) idBytes) ≡ true → among x (fromId b n k) ≡ true
+  pub among-here : eqId x (at b (w * k) w) ≡ true → among x (fromId w b n k) ≡ true
   unfolding among
-  among-here e = ap (among x) next-id ∙ ap (λ (t : Bool). cond t true (among x (fromId b n (k + 1)))) e
+  among-here e = ap (among x) next-id ∙ ap (λ (t : Bool). cond t true (among x (fromId w b n (k + 1)))) e
 
-  pub among-later : eqId x (at b (idBytes * k) idBytes) ≡ false → among x (fromId b n k) ≡ among x (fromId b n (k + 1))
+  pub among-later : eqId x (at b (w * k) w) ≡ false → among x (fromId w b n k) ≡ among x (fromId w b n (k + 1))
   unfolding among
-  among-later e = ap (among x) next-id ∙ ap (λ (t : Bool). cond t true (among x (fromId b n (k + 1)))) e
+  among-later e = ap (among x) next-id ∙ ap (λ (t : Bool). cond t true (among x (fromId w b n (k + 1)))) e
 
-pub among-none : (x : Id) (b : List ℕ) (n k : ℕ) → n ≤ k → among x (fromId b n k) ≡ false
+pub among-none : (w : ℕ) (x : Id) (b : List ℕ) (n k : ℕ) → n ≤ k → among x (fromId w b n k) ≡ false
 unfolding among idsOf
-among-none x b n k h = let m : n - k ≡ 0 = omega arith in ap (λ (j : ℕ). among x (idsOf idBytes j (drop (idBytes * k) b))) m
+among-none w x b n k h = let m : n - k ≡ 0 = omega arith in ap (λ (j : ℕ). among x (idsOf w j (drop (w * k) b))) m
 
 -- ---- the id at a place
 
-ids-at : (k : ℕ) (b : List ℕ) (i : ℕ) → i < k → getD (idsOf idBytes k b) i [] ≡ at b (idBytes * i) idBytes
+ids-at : (w : ℕ) (k : ℕ) (b : List ℕ) (i : ℕ) → i < k → getD (idsOf w k b) i [] ≡ at b (w * i) w
 unfolding idsOf at
-ids-at zero b i h = absurd (omega arith)
-ids-at (suc k) b zero h = refl
-ids-at (suc k) b (suc i) h =
-    let e : idBytes + idBytes * i ≡ idBytes * suc i = omega arith in
-    ids-at k (drop idBytes b) i (omega arith) ∙ ap (take idBytes) (drop-drop (idBytes * i) idBytes b ∙ ap (λ (j : ℕ). drop j b) e)
+ids-at w zero b i h = absurd (omega arith)
+ids-at w (suc k) b zero h = ap (λ (j : ℕ). take w (drop j b)) (sym (mul-zero w))
+ids-at w (suc k) b (suc i) h =
+    let e : w + w * i ≡ w * suc i = omega arith in
+    ids-at w k (drop w b) i (omega arith) ∙ ap (take w) (drop-drop (w * i) w b ∙ ap (λ (j : ℕ). drop j b) e)
 
-pub list-at : (b : List ℕ) (i : ℕ) → i < length b / idBytes → at b (idBytes * i) idBytes ≡ getD (listIds b) i []
+pub list-at : (w : ℕ) (b : List ℕ) (i : ℕ) → i < length b / w → at b (w * i) w ≡ getD (listIds w b) i []
 unfolding listIds
-list-at b i h = sym (ids-at (length b / idBytes) b i h)
+list-at w b i h = sym (ids-at w (length b / w) b i h)
 
-pub list-width : (b : List ℕ) (i : ℕ) → i < length b / idBytes → length (at b (idBytes * i) idBytes) ≡ idBytes
-list-width b i h = length-at b (idBytes * i) idBytes (omega arith)
+pub list-width : (w : ℕ) (b : List ℕ) (i : ℕ) → i < length b / w → length (at b (w * i) w) ≡ w
+list-width w b i h = length-at b (w * i) w (omega (arith, apart w h, mul-div-le (length b) w))
 
 -- ---- a list of ids, place by place
 

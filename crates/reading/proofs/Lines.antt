@@ -8,9 +8,9 @@ use mathlib.Core.List.{List, []}
 use native.Mathlib.Omega.{arith}
 use lib.ListN.{length, drop, getD}
 use borrow.Author.Tests.{lt-ltb, le-ltb}
-use Rattle.hash.specs.Bytes.{Id, idBytes}
+use Rattle.hash.specs.Bytes.{Id}
 use Rattle.hash.proofs.Tests.{byCases}
-use Rattle.object.specs.Ids.{idIn}
+use Rattle.object.specs.Ids.{idRoom, idIn}
 use Rattle.object.specs.Header.{Header, header, idLine, parentWord, authorLine, most}
 use Rattle.object.specs.Read.{idRead, parentAt}
 use Rattle.object.specs.declared.ParentLine.{ParentLine}
@@ -29,32 +29,32 @@ use Rattle.reading.specs.Body.{endOf, refusalOf, parentPlace, noBytes, p
 
 -- ---- the id at a place where parents may stand
 
-here-id : (b : List ℕ) (i : ℕ) → tokenAt idBytes b (here i ParentLines) .id .bytes ≡ parentAt idBytes b i .id .bytes
+here-id : (w : ℕ) (b : List ℕ) (i : ℕ) → tokenAt w b (here i ParentLines) .id .bytes ≡ parentAt w b i .id .bytes
 unfolding tokenAt lineAt lineIn parentAt
-here-id b i = go (idLine idBytes parentWord (drop i b)) (authorLine (drop i b))
+here-id w b i = go (idLine w parentWord (drop i b)) (authorLine (drop i b))
   where
     go : (o : Option (Id × List ℕ)) (p : Option (List ℕ)) → tokenOf b (here i ParentLines) (parentTold o (authorTold p)) .id .bytes ≡ idRead o .id .bytes
     go none none = refl
     go none (some r) = refl
     go (some t) p = refl
 
-id-here : (b : List ℕ) (k : ℕ) → k < most → parentIdAt b k ≡ parentAt idBytes b (parentPlace k) .id .bytes
+id-here : (w : ℕ) (b : List ℕ) (k : ℕ) → k < most → parentIdAt w b k ≡ parentAt w b (parentPlace w k) .id .bytes
 unfolding parentIdAt
-id-here b k h = rw (lt-ltb k most h)
+id-here w b k h = rw (lt-ltb k most h)
 
-pub id-near : (b : List ℕ) (k : ℕ) {t : TokenRead} → k < most → t ≡ tokenAt idBytes b (parentsPlace idBytes k) → t .id .bytes ≡ parentIdAt b k
-id-near b k h read =
-    ap (λ (r : TokenRead). r .id .bytes) (read ∙ ap (tokenAt idBytes b) (place-few idBytes k (omega arith) (omega arith))) ∙ here-id b (parentPlace k) ∙ sym (id-here b k h)
+pub id-near : (w : ℕ) → w ≤ idRoom → (b : List ℕ) (k : ℕ) {t : TokenRead} → k < most → t ≡ tokenAt w b (parentsPlace w k) → t .id .bytes ≡ parentIdAt w b k
+id-near w small b k h read =
+    ap (λ (r : TokenRead). r .id .bytes) (read ∙ ap (tokenAt w b) (place-few w k small (omega arith))) ∙ here-id w b (parentPlace w k) ∙ sym (id-here w b k h)
 
-pub id-far : (b : List ℕ) (k : ℕ) {r : Id} → most ≤ k → r ≡ noBytes → r ≡ parentIdAt b k
+pub id-far : (w : ℕ) (b : List ℕ) (k : ℕ) {r : Id} → most ≤ k → r ≡ noBytes → r ≡ parentIdAt w b k
 unfolding parentIdAt
-id-far b k h e = rw (le-ltb k most h) e
+id-far w b k h e = rw (le-ltb k most h) e
 
 -- the id of a parent stands in its value
-pub parent-right : (b : List ℕ) (k : ℕ) → header idBytes b .tree ≡ true → k < length (header idBytes b .ids) → idIn idBytes (parentIdAt b k) ≡ getD (header idBytes b .ids) k []
-parent-right b k g l =
-    ap (idIn idBytes) (id-here b k (omega (arith, l, header-lines idBytes b g .few)) ∙ ap (λ (q : ParentLine). q .id .bytes) (parent-read idBytes b g k l))
-    ∙ id-in idBytes (getD (header idBytes b .ids) k []) (parent-width idBytes b g k l) (omega arith)
+pub parent-right : (w : ℕ) → w ≤ idRoom → (b : List ℕ) (k : ℕ) → header w b .tree ≡ true → k < length (header w b .ids) → idIn w (parentIdAt w b k) ≡ getD (header w b .ids) k []
+parent-right w small b k g l =
+    ap (idIn w) (id-here w b k (omega (arith, l, header-lines w b g .few)) ∙ ap (λ (q : ParentLine). q .id .bytes) (parent-read w b g k l))
+    ∙ id-in w (getD (header w b .ids) k []) (parent-width w b g k l) small
 
 -- ---- the walk's `ending`, by how the reading ends
 

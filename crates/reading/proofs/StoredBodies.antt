@@ -8,7 +8,7 @@ use mathlib.Core.Option.{Option, some}
 use mathlib.Core.List.{List, []}
 use native.Mathlib.Omega.{arith}
 use lib.ListN.{length}
-use Rattle.hash.specs.Bytes.{Id, idBytes}
+use Rattle.hash.specs.Bytes.{Id}
 use Rattle.hash.proofs.Tests.{clash}
 use Rattle.date.specs.declared.Stamp.{Stamp}
 use Rattle.object.specs.Header.{Header, header, idLine, strip}
@@ -49,39 +49,39 @@ header-good h n t e =
     record { tree = f .0; count = v .count ∙ ap length (sym (f .1)); pair = p; is = v .is ∙ ap (λ (l : List Id). good l (record { generation = noGeneration; time = t .seconds .0 })) (sym (f .1)) }
 
 -- no part of nothing has a tree line
-empty-tree : header idBytes [] .tree ≡ false
+empty-tree : (w : ℕ) → header w [] .tree ≡ false
 unfolding header idLine strip
-empty-tree = refl
+empty-tree w = refl
 
 fail-good : {X : Type 0} (r : Refusal) (ps : List Id) (p : Pair) → fail r ≡ good ps p → X
 fail-good r ps p e = let z : _≡_ {A = ℕ} 0 1 = cc in absurd (omega arith)
 
 -- ---- the commit
 
-module _ {s : List ℕ} {x : Id} {b : List ℕ} (v : GivesBody idBytes s x b) (ok : storeOk idBytes s ≡ true) (g : List ℕ) where
+module _ {w : ℕ} {s : List ℕ} {x : Id} {b : List ℕ} (v : GivesBody w s x b) (ok : storeOk w s ≡ true) (g : List ℕ) where
   -- a body that reads as readable is the commit's
-  pub stored-good : (n : ℕ) (t : Stamp) → readingOf (header idBytes b) ≡ Readable n t → GoodHeader (header idBytes b) n (fromStore (worldOf s g .store x))
+  pub stored-good : (n : ℕ) (t : Stamp) → readingOf (header w b) ≡ Readable n t → GoodHeader (header w b) n (fromStore (worldOf w s g .store x))
   unfolding partOf
   stored-good n t e = go (v .place) refl
     where
-      h : GoodHeader (header idBytes b) n (fromStore (some (header idBytes b)))
-      h = header-good (header idBytes b) n t e
+      h : GoodHeader (header w b) n (fromStore (some (header w b)))
+      h = header-good (header w b) n t e
 
-      go : (o : Located) → v .place ≡ o → GoodHeader (header idBytes b) n (fromStore (worldOf s g .store x))
+      go : (o : Located) → v .place ≡ o → GoodHeader (header w b) n (fromStore (worldOf w s g .store x))
       go (Body a c) p =
-          subst (λ (o : Option Header). GoodHeader (header idBytes b) n (fromStore o)) (sym (located-body g a c (v .locates) p (v .is ∙ ap (partOf s) p) ok)) h
-      go Absent p = clash (h .tree) (ap (λ (c : List ℕ). header idBytes c .tree) (v .is ∙ ap (partOf s) p) ∙ empty-tree)
+          subst (λ (o : Option Header). GoodHeader (header w b) n (fromStore o)) (sym (located-body g a c (v .locates) p (v .is ∙ ap (partOf s) p) ok)) h
+      go Absent p = clash (h .tree) (ap (λ (c : List ℕ). header w c .tree) (v .is ∙ ap (partOf s) p) ∙ empty-tree w)
 
-  pub stored-links : (n : ℕ) (t : Stamp) → readingOf (header idBytes b) ≡ Readable n t → links (worldOf s g) x ≡ header idBytes b .ids
+  pub stored-links : (n : ℕ) (t : Stamp) → readingOf (header w b) ≡ Readable n t → links (worldOf w s g) x ≡ header w b .ids
   unfolding links parentsOf
   stored-links n t e = ap parentsOf (stored-good n t e .is)
 
-  pub stored-readable : (n : ℕ) (t : Stamp) → readingOf (header idBytes b) ≡ Readable n t → IsReadable (worldOf s g) x
+  pub stored-readable : (n : ℕ) (t : Stamp) → readingOf (header w b) ≡ Readable n t → IsReadable (worldOf w s g) x
   unfolding IsReadable
-  stored-readable n t e = let h = stored-good n t e in (header idBytes b .ids, h .pair, h .is)
+  stored-readable n t e = let h = stored-good n t e in (header w b .ids, h .pair, h .is)
 
   -- one that the walk's reading refuses: the commit is not readable
-  refused : (r : Refusal) → fromStore (some (header idBytes b)) ≡ fail r → IsReadable (worldOf s g) x → ⊥
+  refused : (r : Refusal) → fromStore (some (header w b)) ≡ fail r → IsReadable (worldOf w s g) x → ⊥
   unfolding IsReadable fromStore
   refused r e d = go (v .place) refl
     where
@@ -89,8 +89,8 @@ module _ {s : List ℕ} {x : Id} {b : List ℕ} (v : GivesBody idBytes s x b) (o
       go (Body a c) p = fail-good r (d .0) (d .1) (sym e ∙ ap fromStore (sym (located-body g a c (v .locates) p (v .is ∙ ap (partOf s) p) ok)) ∙ d .2)
       go Absent p = fail-good _ (d .0) (d .1) (sym (ap fromStore (located-none g (v .locates) p ok)) ∙ d .2)
 
-  pub stored-bad : readingOf (header idBytes b) ≡ Bad → IsReadable (worldOf s g) x → ⊥
-  stored-bad e = refused CommitUnreadable (tells-as (header idBytes b) Bad e)
+  pub stored-bad : readingOf (header w b) ≡ Bad → IsReadable (worldOf w s g) x → ⊥
+  stored-bad e = refused CommitUnreadable (tells-as (header w b) Bad e)
 
-  pub stored-crowded : readingOf (header idBytes b) ≡ Crowded → IsReadable (worldOf s g) x → ⊥
-  stored-crowded e = refused TooManyParents (tells-as (header idBytes b) Crowded e)
+  pub stored-crowded : readingOf (header w b) ≡ Crowded → IsReadable (worldOf w s g) x → ⊥
+  stored-crowded e = refused TooManyParents (tells-as (header w b) Crowded e)

@@ -23,10 +23,9 @@ use Rattle.reading.specs.Tip.{tipStamp, tipSeconds, tipOf, tipIn, ReadsT
 use Rattle.reading.specs.declared.tip.TipRead.{TipRead}
 use Rattle.reading.specs.declared.tip.TipRead.the-variants.{Missing}
 use Rattle.reading.proofs.World.{tried-body, tried-none}
-use Rattle.hash.specs.Bytes.{idBytes}
 
-pub header-seconds : (b : List ℕ) → header idBytes b .seconds ≡ secondsOf idBytes b
-header-seconds b = header-stamp idBytes b .0
+pub header-seconds : (w : ℕ) (b : List ℕ) → header w b .seconds ≡ secondsOf w b
+header-seconds w b = header-stamp w b .0
 
 -- a tip by its committer reading is the tip by its seconds: the zone is not looked at
 tip-stamp : (o : Option Stamped) → tipStamp (stampRead o) ≡ tipSeconds (secondsRead (secondsIn o))
@@ -34,9 +33,9 @@ tip-stamp none = refl
 tip-stamp (some s) = refl
 
 -- the store has a body under x, and its committer line was read
-pub tip-body : {s : List ℕ} {x : Id} {f : Bool} {b : List ℕ} {q : StampRead} {r : TipRead} → TriesFind idBytes s x f b → f ≡ true → q ≡ stampRead (stampOf idBytes b) → r ≡ tipStamp q → ReadsTip s x r
+pub tip-body : {w : ℕ} {s : List ℕ} {x : Id} {f : Bool} {b : List ℕ} {q : StampRead} {r : TipRead} → TriesFind w s x f b → f ≡ true → q ≡ stampRead (stampOf w b) → r ≡ tipStamp q → ReadsTip w s x r
 unfolding secondsOf
-tip-body {f = f} {b = b} l p e k = record { found = f; body = b; looked = l; is = k ∙ ap tipStamp e ∙ tip-stamp (stampOf idBytes b) ∙ ap (λ (t : Bool). tipIn t b) (sym p) }
+tip-body {w} {f = f} {b = b} l p e k = record { found = f; body = b; looked = l; is = k ∙ ap tipStamp e ∙ tip-stamp (stampOf w b) ∙ ap (λ (t : Bool). tipIn w t b) (sym p) }
 
 -- ---- the zone: the header's is the committer reading's, so what was read of that tells it
 
@@ -48,32 +47,32 @@ zone-bad : (o : Option Stamped) → stampRead o ≡ BadStamp → NoZone ≡ zone
 zone-bad none e = refl
 zone-bad (some v) e = let z : _≡_ {A = ℕ} 0 1 = cc in absurd (omega arith)
 
-module _ (b : List ℕ) {q : StampRead} (read : q ≡ stampRead (stampOf idBytes b)) where
-  header-zone : zoneGiven (zoneOf idBytes b) ≡ zoneGiven (header idBytes b .zone)
-  header-zone = ap zoneGiven (sym (header-stamp idBytes b .1))
+module _ (w : ℕ) (b : List ℕ) {q : StampRead} (read : q ≡ stampRead (stampOf w b)) where
+  header-zone : zoneGiven (zoneOf w b) ≡ zoneGiven (header w b .zone)
+  header-zone = ap zoneGiven (sym (header-stamp w b .1))
 
-  pub zone-told : (s : Stamp) → q ≡ GoodStamp s → s .zone ≡ zoneGiven (header idBytes b .zone)
+  pub zone-told : (s : Stamp) → q ≡ GoodStamp s → s .zone ≡ zoneGiven (header w b .zone)
   unfolding zoneOf
-  zone-told s e = zone-good (stampOf idBytes b) s (sym read ∙ e) ∙ header-zone
+  zone-told s e = zone-good (stampOf w b) s (sym read ∙ e) ∙ header-zone
 
-  pub no-zone-told : q ≡ BadStamp → NoZone ≡ zoneGiven (header idBytes b .zone)
+  pub no-zone-told : q ≡ BadStamp → NoZone ≡ zoneGiven (header w b .zone)
   unfolding zoneOf
-  no-zone-told e = zone-bad (stampOf idBytes b) (sym read ∙ e) ∙ header-zone
+  no-zone-told e = zone-bad (stampOf w b) (sym read ∙ e) ∙ header-zone
 
-pub tip-missing : {s : List ℕ} {x : Id} {f : Bool} {b : List ℕ} → TriesFind idBytes s x f b → f ≡ false → ReadsTip s x Missing
-tip-missing {f = f} {b = b} l p = record { found = f; body = b; looked = l; is = ap (λ (t : Bool). tipIn t b) (sym p) }
+pub tip-missing : {w : ℕ} {s : List ℕ} {x : Id} {f : Bool} {b : List ℕ} → TriesFind w s x f b → f ≡ false → ReadsTip w s x Missing
+tip-missing {w} {f = f} {b = b} l p = record { found = f; body = b; looked = l; is = ap (λ (t : Bool). tipIn w t b) (sym p) }
 
-pub seconds-read : {s : List ℕ} {x : Id} {r : TipRead} {t : Seconds} → ReadsTip s x r → t ≡ secondsOr0 r → GivesSeconds s x t
-seconds-read {s} {x} {r} k e = record { read = r; as-tip = k; is = e }
+pub seconds-read : {w : ℕ} {s : List ℕ} {x : Id} {r : TipRead} {t : Seconds} → ReadsTip w s x r → t ≡ secondsOr0 r → GivesSeconds w s x t
+seconds-read {w} {s} {x} {r} k e = record { read = r; as-tip = k; is = e }
 
 -- ---- in a good store
 
 -- what the store has under x decides
-pub tip-right : {s : List ℕ} {x : Id} {r : TipRead} → ReadsTip s x r → storeOk idBytes s ≡ true → (g : List ℕ) → r ≡ tipOf (worldOf s g .store x)
-tip-right {s} {x} {r} k ok g = go (k .found) (k .looked) (k .is)
+pub tip-right : {w : ℕ} {s : List ℕ} {x : Id} {r : TipRead} → ReadsTip w s x r → storeOk w s ≡ true → (g : List ℕ) → r ≡ tipOf (worldOf w s g .store x)
+tip-right {w} {s} {x} {r} k ok g = go (k .found) (k .looked) (k .is)
   where
-    go : (f : Bool) → TriesFind idBytes s x f (k .body) → r ≡ tipIn f (k .body) → r ≡ tipOf (worldOf s g .store x)
-    go true l i = i ∙ ap (λ (t : Option ℤ). tipSeconds (secondsRead t)) (sym (header-seconds (k .body))) ∙ ap tipOf (sym (tried-body g l refl ok))
+    go : (f : Bool) → TriesFind w s x f (k .body) → r ≡ tipIn w f (k .body) → r ≡ tipOf (worldOf w s g .store x)
+    go true l i = i ∙ ap (λ (t : Option ℤ). tipSeconds (secondsRead t)) (sym (header-seconds w (k .body))) ∙ ap tipOf (sym (tried-body g l refl ok))
     go false l i = i ∙ ap tipOf (sym (tried-none g l refl ok))
 
 -- the seconds of a header, 0 where there are none
@@ -85,6 +84,6 @@ seconds-value (some h) = go (h .seconds)
     go none = refl
     go (some v) = refl
 
-pub seconds-right : {s : List ℕ} {x : Id} {r : Seconds} → GivesSeconds s x r → storeOk idBytes s ≡ true → (g : List ℕ) → r .0 ≡ secondsFor (worldOf s g) x
+pub seconds-right : {w : ℕ} {s : List ℕ} {x : Id} {r : Seconds} → GivesSeconds w s x r → storeOk w s ≡ true → (g : List ℕ) → r .0 ≡ secondsFor (worldOf w s g) x
 unfolding secondsFor storeSeconds
-seconds-right {s} {x} k ok g = ap (λ (t : Seconds). t .0) (k .is ∙ ap secondsOr0 (tip-right (k .as-tip) ok g)) ∙ seconds-value (worldOf s g .store x)
+seconds-right {w} {s} {x} k ok g = ap (λ (t : Seconds). t .0) (k .is ∙ ap secondsOr0 (tip-right (k .as-tip) ok g)) ∙ seconds-value (worldOf w s g .store x)

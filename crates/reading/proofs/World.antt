@@ -27,7 +27,6 @@ use Rattle.walk.specs.Lookup.{no-row, rowAt, worldOf}
 use Rattle.walk.specs.State.{isEmpty}
 use Rattle.walk.proofs.Rows.{find-nil}
 use Rattle.reading.specs.Files.{cacheWith, cacheOf, layoutUnder, worldUnder}
-use Rattle.hash.specs.Bytes.{idBytes}
 
 -- ---- the cache
 
@@ -46,80 +45,80 @@ cache-used [] l kept h e = absurd (h refl)
 cache-used (x ∷ g) l kept h e = rw e
 
 -- an empty or a good file is used well
-pub good-cache : (g : List ℕ) (kept : Bool) → (isEmpty g || graphOk idBytes g) ≡ true → GoodCache idBytes (cacheOf g kept) g
+pub good-cache : (w : ℕ) (g : List ℕ) (kept : Bool) → (isEmpty g || graphOk w g) ≡ true → GoodCache w (cacheOf w g kept) g
 unfolding cacheWith GoodCache isEmpty
-good-cache g false e = tt
-good-cache [] true e = tt
-good-cache (x ∷ g) true e = (e, refl)
+good-cache w g false e = tt
+good-cache w [] true e = tt
+good-cache w (x ∷ g) true e = (e, refl)
 
 -- ---- the world
 
 -- a zero-length graph has no rows
-pub nil-world : (s : List ℕ) (x : Id) → worldOf s [] .graph x ≡ no-row
+pub nil-world : (w : ℕ) (s : List ℕ) (x : Id) → worldOf w s [] .graph x ≡ no-row
 unfolding worldOf
-nil-world s x = rw (find-nil x)
+nil-world w s x = rw (find-nil w x)
 
 -- a graph that is kept: the walk's world
-pub kept-world : (g s : List ℕ) → worldUnder (cacheOf g true) g s ≡ worldOf s g
+pub kept-world : (w : ℕ) (g s : List ℕ) → worldUnder w (cacheOf w g true) g s ≡ worldOf w s g
 unfolding cacheWith isEmpty worldUnder
-kept-world [] s = λ k. record { graph = λ x. sym (nil-world s x) k; store = worldOf s [] .store }
-kept-world (x ∷ g) s = refl
+kept-world w [] s = λ k. record { graph = λ x. sym (nil-world w s x) k; store = worldOf w s [] .store }
+kept-world w (x ∷ g) s = refl
 
 -- one that was dropped: no rows, and the same store
-pub dropped-world : (g s : List ℕ) (x : Id) → worldUnder (cacheOf g false) g s .graph x ≡ no-row
+pub dropped-world : (w : ℕ) (g s : List ℕ) (x : Id) → worldUnder w (cacheOf w g false) g s .graph x ≡ no-row
 unfolding cacheWith worldUnder
-dropped-world g s x = refl
+dropped-world w g s x = refl
 
-pub same-store : (c : Cache) (g s : List ℕ) (x : Id) → worldUnder c g s .store x ≡ worldOf s g .store x
+pub same-store : (w : ℕ) (c : Cache) (g s : List ℕ) (x : Id) → worldUnder w c g s .store x ≡ worldOf w s g .store x
 unfolding worldUnder
-same-store (Graph l) g s x = refl
-same-store NoGraph g s x = refl
+same-store w (Graph l) g s x = refl
+same-store w NoGraph g s x = refl
 
-pub graph-under : (c : Cache) (g s : List ℕ) (x : Id) → worldUnder c g s .graph x ≡ ifSome (rowOf idBytes c g x) no-row (λ p. rowAt g p)
+pub graph-under : (w : ℕ) (c : Cache) (g s : List ℕ) (x : Id) → worldUnder w c g s .graph x ≡ ifSome (rowOf w c g x) no-row (λ p. rowAt w g p)
 unfolding worldUnder worldOf rowOf
-graph-under (Graph l) g s x = refl
-graph-under NoGraph g s x = refl
+graph-under w (Graph l) g s x = refl
+graph-under w NoGraph g s x = refl
 
 -- ---- the store
 
 -- a body that the store's lookup names is the body under the id
-pub body-stored : (s : List ℕ) → storeOk idBytes s ≡ true → (g : List ℕ) (x : Id) (a e : ℕ) → Body a e ≡ locatedOf idBytes s (findEntry idBytes s x) → worldOf s g .store x ≡ some (header idBytes (partOf s (Body a e)))
+pub body-stored : (w : ℕ) (s : List ℕ) → storeOk w s ≡ true → (g : List ℕ) (x : Id) (a e : ℕ) → Body a e ≡ locatedOf w s (findEntry w s x) → worldOf w s g .store x ≡ some (header w (partOf s (Body a e)))
 unfolding worldOf storeFind body at
-body-stored s ok g x a e f = go (findEntry idBytes s x) refl f
+body-stored w s ok g x a e f = go (findEntry w s x) refl f
   where
-    go : (o : Option ℕ) → findEntry idBytes s x ≡ o → Body a e ≡ locatedOf idBytes s o → worldOf s g .store x ≡ some (header idBytes (partOf s (Body a e)))
+    go : (o : Option ℕ) → findEntry w s x ≡ o → Body a e ≡ locatedOf w s o → worldOf w s g .store x ≡ some (header w (partOf s (Body a e)))
     go none k f′ = let z : _≡_ {A = ℕ} 0 1 = cc in absurd (omega arith)
     go (some j) k f′ =
-        let h = entry-hit idBytes s x j k .0 in
-        let u : a ≡ bodyStart idBytes s j = cc in
-        let v : e ≡ bodyEnd idBytes s j = cc in
-        rw (k, u, v) (ap (λ (b : List ℕ). some (header idBytes b)) (partOf-yes s (bodyStart idBytes s j) (bodyEnd idBytes s j) (start-end idBytes s ok j h) (end-within idBytes s ok j h)))
+        let h = entry-hit w s x j k .0 in
+        let u : a ≡ bodyStart w s j = cc in
+        let v : e ≡ bodyEnd w s j = cc in
+        rw (k, u, v) (ap (λ (b : List ℕ). some (header w b)) (partOf-yes s (bodyStart w s j) (bodyEnd w s j) (start-end w s ok j h) (end-within w s ok j h)))
 
-pub not-stored : (s g : List ℕ) (x : Id) → Nowhere ≡ locatedOf idBytes s (findEntry idBytes s x) → worldOf s g .store x ≡ none
+pub not-stored : (w : ℕ) (s g : List ℕ) (x : Id) → Nowhere ≡ locatedOf w s (findEntry w s x) → worldOf w s g .store x ≡ none
 unfolding worldOf storeFind
-not-stored s g x f = go (findEntry idBytes s x) refl f
+not-stored w s g x f = go (findEntry w s x) refl f
   where
-    go : (o : Option ℕ) → findEntry idBytes s x ≡ o → Nowhere ≡ locatedOf idBytes s o → worldOf s g .store x ≡ none
+    go : (o : Option ℕ) → findEntry w s x ≡ o → Nowhere ≡ locatedOf w s o → worldOf w s g .store x ≡ none
     go none k f′ = rw k
     go (some j) k f′ = let z : _≡_ {A = ℕ} 0 1 = cc in absurd (omega arith)
 
 -- the same of what `locate` answers
-pub located-body : {s : List ℕ} {x : Id} {o : Located} {b : List ℕ} (g : List ℕ) (a e : ℕ) → Locates idBytes s x o → o ≡ Body a e → b ≡ partOf s (Body a e) → storeOk idBytes s ≡ true
-    → worldOf s g .store x ≡ some (header idBytes b)
-located-body {s} {x} g a e l p f ok = body-stored s ok g x a e (sym p ∙ l .good ok) ∙ ap (λ (c : List ℕ). some (header idBytes c)) (sym f)
+pub located-body : {w : ℕ} {s : List ℕ} {x : Id} {o : Located} {b : List ℕ} (g : List ℕ) (a e : ℕ) → Locates w s x o → o ≡ Body a e → b ≡ partOf s (Body a e) → storeOk w s ≡ true
+    → worldOf w s g .store x ≡ some (header w b)
+located-body {w} {s} {x} g a e l p f ok = body-stored w s ok g x a e (sym p ∙ l .good ok) ∙ ap (λ (c : List ℕ). some (header w c)) (sym f)
 
-pub located-none : {s : List ℕ} {x : Id} {o : Located} (g : List ℕ) → Locates idBytes s x o → o ≡ Nowhere → storeOk idBytes s ≡ true → worldOf s g .store x ≡ none
-located-none {s} {x} g l p ok = not-stored s g x (sym p ∙ l .good ok)
+pub located-none : {w : ℕ} {s : List ℕ} {x : Id} {o : Located} (g : List ℕ) → Locates w s x o → o ≡ Nowhere → storeOk w s ≡ true → worldOf w s g .store x ≡ none
+located-none {w} {s} {x} g l p ok = not-stored w s g x (sym p ∙ l .good ok)
 
 -- and of what `try_find` answers, the body itself
-module _ {s : List ℕ} {x : Id} {f : Bool} {b : List ℕ} (g : List ℕ) (l : TriesFind idBytes s x f b) where
-  pub tried-body : f ≡ true → storeOk idBytes s ≡ true → worldOf s g .store x ≡ some (header idBytes b)
+module _ {w : ℕ} {s : List ℕ} {x : Id} {f : Bool} {b : List ℕ} (g : List ℕ) (l : TriesFind w s x f b) where
+  pub tried-body : f ≡ true → storeOk w s ≡ true → worldOf w s g .store x ≡ some (header w b)
   unfolding worldOf
-  tried-body p ok = ap (λ (o : Option (List ℕ)). ifSome o none (λ c. some (header idBytes c))) (sym (l .good ok) ∙ ap (λ (t : Bool). optionOf t b) p)
+  tried-body p ok = ap (λ (o : Option (List ℕ)). ifSome o none (λ c. some (header w c))) (sym (l .good ok) ∙ ap (λ (t : Bool). optionOf t b) p)
 
-  pub tried-none : f ≡ false → storeOk idBytes s ≡ true → worldOf s g .store x ≡ none
+  pub tried-none : f ≡ false → storeOk w s ≡ true → worldOf w s g .store x ≡ none
   unfolding worldOf
-  tried-none p ok = ap (λ (o : Option (List ℕ)). ifSome o none (λ c. some (header idBytes c))) (sym (l .good ok) ∙ ap (λ (t : Bool). optionOf t b) p)
+  tried-none p ok = ap (λ (o : Option (List ℕ)). ifSome o none (λ c. some (header w c))) (sym (l .good ok) ∙ ap (λ (t : Bool). optionOf t b) p)
 
 -- ---- what `find` finds
 
@@ -136,47 +135,47 @@ in-store-row (Body d e) p a b f = let z : _≡_ {A = ℕ} 0 1 = cc in absurd (om
 in-store-row Nowhere p a b f = let z : _≡_ {A = ℕ} 0 1 = cc in absurd (omega arith)
 
 -- a row that was found: the file is a good one, read by its own layout
-pub record RowFound (c : Cache) (g s : List ℕ) (x : Id) (p : ℕ) : Type 0 where
-  pub file : graphOk idBytes g ≡ true
-  pub layout : layoutUnder c ≡ layoutOf idBytes g
-  pub says : worldUnder c g s .graph x ≡ rowAt g p
+pub record RowFound (w : ℕ) (c : Cache) (g s : List ℕ) (x : Id) (p : ℕ) : Type 0 where
+  pub file : graphOk w g ≡ true
+  pub layout : layoutUnder c ≡ layoutOf w g
+  pub says : worldUnder w c g s .graph x ≡ rowAt w g p
 
-listed : (c : Cache) (g : List ℕ) (x : Id) (p : ℕ) → GoodCache idBytes c g → rowOf idBytes c g x ≡ some p → (graphOk idBytes g ≡ true) × (layoutUnder c ≡ layoutOf idBytes g)
+listed : (w : ℕ) (c : Cache) (g : List ℕ) (x : Id) (p : ℕ) → GoodCache w c g → rowOf w c g x ≡ some p → (graphOk w g ≡ true) × (layoutUnder c ≡ layoutOf w g)
 unfolding GoodCache rowOf
-listed (Graph l) g x p t e = t
-listed NoGraph g x p t e = let z : _≡_ {A = ℕ} 0 1 = cc in absurd (omega arith)
+listed w (Graph l) g x p t e = t
+listed w NoGraph g x p t e = let z : _≡_ {A = ℕ} 0 1 = cc in absurd (omega arith)
 
-pub row-found : (c : Cache) (g s : List ℕ) (x : Id) (p : ℕ) → GoodCache idBytes c g → rowOf idBytes c g x ≡ some p → RowFound c g s x p
-row-found c g s x p t e =
-    let l = listed c g x p t e in
-    record { file = l .0; layout = l .1; says = graph-under c g s x ∙ ap (λ (o : Option ℕ). ifSome o no-row (λ q. rowAt g q)) e }
+pub row-found : (w : ℕ) (c : Cache) (g s : List ℕ) (x : Id) (p : ℕ) → GoodCache w c g → rowOf w c g x ≡ some p → RowFound w c g s x p
+row-found w c g s x p t e =
+    let l = listed w c g x p t e in
+    record { file = l .0; layout = l .1; says = graph-under w c g s x ∙ ap (λ (o : Option ℕ). ifSome o no-row (λ q. rowAt w g q)) e }
 
-module _ (c : Cache) (g s : List ℕ) (x : Id) where
-  pub found-row : (p a b : ℕ) → GoodCache idBytes c g → foundIn idBytes c g s x ≡ CachedCommit p a b → RowFound c g s x p
+module _ (w : ℕ) (c : Cache) (g s : List ℕ) (x : Id) where
+  pub found-row : (p a b : ℕ) → GoodCache w c g → foundIn w c g s x ≡ CachedCommit p a b → RowFound w c g s x p
   unfolding foundIn
-  found-row p a b t f = row-found c g s x p t (go (rowOf idBytes c g x) f)
+  found-row p a b t f = row-found w c g s x p t (go (rowOf w c g x) f)
     where
-      go : (o : Option ℕ) → ifSome o (inStore (locatedOf idBytes s (findEntry idBytes s x))) (inGraph idBytes g (layoutOf idBytes g)) ≡ CachedCommit p a b → o ≡ some p
-      go none f′ = absurd (in-store-row (locatedOf idBytes s (findEntry idBytes s x)) p a b f′)
+      go : (o : Option ℕ) → ifSome o (inStore (locatedOf w s (findEntry w s x))) (inGraph w g (layoutOf w g)) ≡ CachedCommit p a b → o ≡ some p
+      go none f′ = absurd (in-store-row (locatedOf w s (findEntry w s x)) p a b f′)
       go (some q) f′ = let i : q ≡ p = cc in ap some i
 
   -- no row stands before what the store has
-  past-row : (e : Either) → ((p a b : ℕ) → CachedCommit p a b ≡ e → ⊥) → foundIn idBytes c g s x ≡ e → (worldUnder c g s .graph x ≡ no-row) × (inStore (locatedOf idBytes s (findEntry idBytes s x)) ≡ e)
+  past-row : (e : Either) → ((p a b : ℕ) → CachedCommit p a b ≡ e → ⊥) → foundIn w c g s x ≡ e → (worldUnder w c g s .graph x ≡ no-row) × (inStore (locatedOf w s (findEntry w s x)) ≡ e)
   unfolding foundIn
-  past-row e n f = go (rowOf idBytes c g x) refl f
+  past-row e n f = go (rowOf w c g x) refl f
     where
-      go : (o : Option ℕ) → rowOf idBytes c g x ≡ o → ifSome o (inStore (locatedOf idBytes s (findEntry idBytes s x))) (inGraph idBytes g (layoutOf idBytes g)) ≡ e
-          → (worldUnder c g s .graph x ≡ no-row) × (inStore (locatedOf idBytes s (findEntry idBytes s x)) ≡ e)
-      go none k f′ = (graph-under c g s x ∙ ap (λ (o : Option ℕ). ifSome o no-row (λ q. rowAt g q)) k, f′)
-      go (some p) k f′ = absurd (n p (rowStart idBytes g (layoutOf idBytes g) p) (rowEnd idBytes g (layoutOf idBytes g) p) f′)
+      go : (o : Option ℕ) → rowOf w c g x ≡ o → ifSome o (inStore (locatedOf w s (findEntry w s x))) (inGraph w g (layoutOf w g)) ≡ e
+          → (worldUnder w c g s .graph x ≡ no-row) × (inStore (locatedOf w s (findEntry w s x)) ≡ e)
+      go none k f′ = (graph-under w c g s x ∙ ap (λ (o : Option ℕ). ifSome o no-row (λ q. rowAt w g q)) k, f′)
+      go (some p) k f′ = absurd (n p (rowStart w g (layoutOf w g) p) (rowEnd w g (layoutOf w g) p) f′)
 
-  pub found-body : (a e : ℕ) → storeOk idBytes s ≡ true → foundIn idBytes c g s x ≡ CommitRefIter a e
-      → (worldUnder c g s .graph x ≡ no-row) × (worldUnder c g s .store x ≡ some (header idBytes (partOf s (Body a e))))
+  pub found-body : (a e : ℕ) → storeOk w s ≡ true → foundIn w c g s x ≡ CommitRefIter a e
+      → (worldUnder w c g s .graph x ≡ no-row) × (worldUnder w c g s .store x ≡ some (header w (partOf s (Body a e))))
   found-body a e ok f =
       let r = past-row (CommitRefIter a e) (λ p d b k. let z : _≡_ {A = ℕ} 0 1 = cc in absurd (omega arith)) f in
-      (r .0, same-store c g s x ∙ body-stored s ok g x a e (in-store-body (locatedOf idBytes s (findEntry idBytes s x)) a e (r .1)))
+      (r .0, same-store w c g s x ∙ body-stored w s ok g x a e (in-store-body (locatedOf w s (findEntry w s x)) a e (r .1)))
 
-  pub found-absent : foundIn idBytes c g s x ≡ Absent → (worldUnder c g s .graph x ≡ no-row) × (worldUnder c g s .store x ≡ none)
+  pub found-absent : foundIn w c g s x ≡ Absent → (worldUnder w c g s .graph x ≡ no-row) × (worldUnder w c g s .store x ≡ none)
   found-absent f =
       let r = past-row Absent (λ p d b k. let z : _≡_ {A = ℕ} 0 1 = cc in absurd (omega arith)) f in
-      (r .0, same-store c g s x ∙ not-stored s g x (in-store-absent (locatedOf idBytes s (findEntry idBytes s x)) (r .1)))
+      (r .0, same-store w c g s x ∙ not-stored w s g x (in-store-absent (locatedOf w s (findEntry w s x)) (r .1)))

@@ -19,7 +19,6 @@ use Rattle.walk.specs.Given.{joined}
 use Rattle.reading.specs.declared.body.BodyEnd.{BodyEnd}
 use Rattle.reading.specs.declared.body.BodyEnd.the-variants.{Whole, Unreadable, Crowded}
 use Rattle.reading.specs.declared.body.BodyRead.{BodyRead}
-use Rattle.hash.specs.Bytes.{idBytes}
 
 -- "After the parents of a commit from the book the author line must be good"; 11: "a good 257th parent line; of 10 and 11 the earlier
 -- line decides": how the reading of a header with a good tree line ends after all its parents
@@ -33,16 +32,16 @@ refusalOf Unreadable = some CommitUnreadable
 refusalOf Crowded = some TooManyParents
 
 -- the place of parent line k, after the tree line and k parent lines
-abbrev pub parentPlace : ℕ → ℕ
-parentPlace k = treeSize idBytes + parentSize idBytes * k
+abbrev pub parentPlace : ℕ → ℕ → ℕ
+parentPlace w k = treeSize w + parentSize w * k
 
 -- an id by value that is none: zeros
 abbrev pub noBytes : Id
 noBytes = replicate idRoom 0
 
 -- the id of parent line k by value, on any bytes: zeros where no parent line stands, and past the 256th
-unfoldable pub parentIdAt : List ℕ → ℕ → Id
-parentIdAt b k = pick (ltb k most) (parentAt idBytes b (parentPlace k) .id .bytes) noBytes
+unfoldable pub parentIdAt : ℕ → List ℕ → ℕ → Id
+parentIdAt w b k = pick (ltb k most) (parentAt w b (parentPlace w k) .id .bytes) noBytes
 
 -- how many parents are read at most
 abbrev pub mostRead : Bool → ℕ

@@ -2,7 +2,6 @@
 use Prim.Native.Nat.{ℕ}
 use mathlib.Core.Bool.{Bool, false, cond}
 use mathlib.Core.List.{List}
-use Rattle.hash.specs.Bytes.{idBytes}
 use Rattle.commitgraph.specs.Graph.{layoutOf}
 use Rattle.commitgraph.specs.declared.Layout.{Layout}
 use Rattle.commit.specs.declared.Cache.{Cache}
@@ -17,8 +16,8 @@ cacheWith g l kept =
     cond kept used NoGraph
 
 -- the same by the file's own layout
-abbrev pub cacheOf : List ℕ → Bool → Cache
-cacheOf g kept = cacheWith g (layoutOf idBytes g) kept
+abbrev pub cacheOf : ℕ → List ℕ → Bool → Cache
+cacheOf w g kept = cacheWith g (layoutOf w g) kept
 
 -- where the chunks stand; without a file all is 0
 abbrev pub layoutUnder : Cache → Layout
@@ -26,6 +25,6 @@ layoutUnder (Graph l) = l
 layoutUnder NoGraph = record { fan = 0; ids = 0; rows = 0; edge = 0; edges = 0; count = 0; levels = false }
 
 -- what the two files say of an id: where no graph is used, no id has a row
-unfoldable pub worldUnder : Cache → List ℕ → List ℕ → World
-worldUnder (Graph l) g s = worldOf s g
-worldUnder NoGraph g s = record { graph = λ x. no-row; store = worldOf s g .store }
+unfoldable pub worldUnder : ℕ → Cache → List ℕ → List ℕ → World
+worldUnder w (Graph l) g s = worldOf w s g
+worldUnder w NoGraph g s = record { graph = λ x. no-row; store = worldOf w s g .store }

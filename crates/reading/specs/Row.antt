@@ -9,10 +9,9 @@ use Rattle.commitgraph.specs.declared.Layout.{Layout}
 use Rattle.commitgraph.specs.declared.Level.{Level}
 use Rattle.reading.specs.declared.row.RowRead.{RowRead}
 use Rattle.reading.specs.declared.row.RowRead.the-variants.{Corrupt, Row as RowAt}
-use Rattle.hash.specs.Bytes.{idBytes}
 
-abbrev pub levelOf : List ℕ → Layout → ℕ → Level
-levelOf g l p = record { 0 = levelIn idBytes g l p }
+abbrev pub levelOf : ℕ → List ℕ → Layout → ℕ → Level
+levelOf w g l p = record { 0 = levelIn w g l p }
 
 -- a row as an answer, with its level and its parent list
 abbrev pub rowReadOf : Level → Option (List ℕ) → RowRead
@@ -20,5 +19,5 @@ rowReadOf v none = Corrupt
 rowReadOf v (some ps) = RowAt (length ps) v
 
 -- the id of parent k of the row at position p, by its place in the row's list, on any bytes
-unfoldable pub rowParent : List ℕ → Layout → ℕ → ℕ → Id
-rowParent g l p k = idIn idBytes g l (parentIn idBytes g l p k)
+unfoldable pub rowParent : ℕ → List ℕ → Layout → ℕ → ℕ → Id
+rowParent w g l p k = idIn w g l (parentIn w g l p k)

@@ -16,7 +16,6 @@ use Rattle.actor.specs.declared.StampRead.the-variants.{Good as GoodStamp, Bad 
 use Rattle.odb.specs.Lookup.{TriesFind}
 use Rattle.reading.specs.declared.tip.TipRead.{TipRead}
 use Rattle.reading.specs.declared.tip.TipRead.the-variants.{Good, Missing, Unreadable}
-use Rattle.hash.specs.Bytes.{idBytes}
 
 -- a tip by its committer reading, and by its seconds alone
 abbrev pub tipStamp : StampRead → TipRead
@@ -33,16 +32,16 @@ tipOf none = Missing
 tipOf (some h) = tipSeconds (secondsRead (h .seconds))
 
 -- a tip by what a lookup in the store gave, on any bytes: whether a body was found, and the body
-abbrev pub tipIn : Bool → List ℕ → TipRead
-tipIn true b = tipSeconds (secondsRead (secondsOf idBytes b))
-tipIn false b = Missing
+abbrev pub tipIn : ℕ → Bool → List ℕ → TipRead
+tipIn w true b = tipSeconds (secondsRead (secondsOf w b))
+tipIn w false b = Missing
 
 -- what `read_tip` answers for the tip x: the lookup's answer, read
-pub record ReadsTip (s : List ℕ) (x : Id) (r : TipRead) : Type 0 where
+pub record ReadsTip (w : ℕ) (s : List ℕ) (x : Id) (r : TipRead) : Type 0 where
   pub found : Bool
   pub body : List ℕ
-  pub looked : TriesFind idBytes s x found body
-  pub is : r ≡ tipIn found body
+  pub looked : TriesFind w s x found body
+  pub is : r ≡ tipIn w found body
 
 -- "from the book, else they are 0"
 abbrev pub secondsOr0 : TipRead → Seconds
@@ -51,7 +50,7 @@ secondsOr0 Missing = record { 0 = pos 0 }
 secondsOr0 Unreadable = record { 0 = pos 0 }
 
 -- what `seconds_for` answers for the commit x
-pub record GivesSeconds (s : List ℕ) (x : Id) (r : Seconds) : Type 0 where
+pub record GivesSeconds (w : ℕ) (s : List ℕ) (x : Id) (r : Seconds) : Type 0 where
   pub read : TipRead
-  pub as-tip : ReadsTip s x read
+  pub as-tip : ReadsTip w s x read
   pub is : r ≡ secondsOr0 read

@@ -27,11 +27,10 @@ use Rattle.reading.specs.declared.Commit.the-variants.{Row, Body, Failed
 use Rattle.reading.specs.Files.{layoutUnder, worldUnder}
 use Rattle.reading.specs.Row.{rowParent}
 use Rattle.reading.specs.Body.{noBytes, parentIdAt}
-use Rattle.hash.specs.Bytes.{idBytes}
 
 -- the pair of the row at position p
-abbrev pub pairIn : List ℕ → Layout → ℕ → GenThenTime
-pairIn g l p = record { generation = record { 0 = levelIn idBytes g l p }; time = record { 0 = secondsIn idBytes g l p } }
+abbrev pub pairIn : ℕ → List ℕ → Layout → ℕ → GenThenTime
+pairIn w g l p = record { generation = record { 0 = levelIn w g l p }; time = record { 0 = secondsIn w g l p } }
 
 -- the commit of that row, given its pair and its parent list: "a corrupt list (here 10)"
 abbrev pub rowCommit : ℕ → GenThenTime → Option (List ℕ) → Commit
@@ -64,9 +63,9 @@ Names (Body a b n q) e = e ≡ CommitRefIter a b
 Names (Failed r) e = Unit {0}
 
 -- r is what is read of the commit x: so in good files of a commit that `read_commit` gave
-pub record IsRead (c : Cache) (g s : List ℕ) (x : Id) (r : Commit) : Type 0 where
-  pub tells : Tells r (read (worldUnder c g s) x)
-  pub names : Names r (foundIn idBytes c g s x)
+pub record IsRead (w : ℕ) (c : Cache) (g s : List ℕ) (x : Id) (r : Commit) : Type 0 where
+  pub tells : Tells r (read (worldUnder w c g s) x)
+  pub names : Names r (foundIn w c g s x)
 
 -- how many parents an answer has
 abbrev pub parentCount : Commit → ℕ
@@ -75,33 +74,33 @@ parentCount (Body a e n q) = n
 parentCount (Failed r) = 0
 
 -- the commit of what `find` found, on any bytes: "absent (9)"
-abbrev pub commitAt : Cache → List ℕ → List ℕ → Either → Commit
-commitAt c g s (CachedCommit p a e) = rowCommit p (pairIn g (layoutUnder c) p) (parentsIn idBytes g (layoutUnder c) p)
-commitAt c g s (CommitRefIter a e) = bodyCommit a e (readingOf (header idBytes (partOf s (BodyAt a e))))
-commitAt c g s Absent = Failed CommitNotFound
+abbrev pub commitAt : ℕ → Cache → List ℕ → List ℕ → Either → Commit
+commitAt w c g s (CachedCommit p a e) = rowCommit p (pairIn w g (layoutUnder c) p) (parentsIn w g (layoutUnder c) p)
+commitAt w c g s (CommitRefIter a e) = bodyCommit a e (readingOf (header w (partOf s (BodyAt a e))))
+commitAt w c g s Absent = Failed CommitNotFound
 
 -- what `read_commit` answers for the commit x: what `find` found, read
-pub record ReadsCommit (c : Cache) (g s : List ℕ) (x : Id) (r : Commit) : Type 0 where
+pub record ReadsCommit (w : ℕ) (c : Cache) (g s : List ℕ) (x : Id) (r : Commit) : Type 0 where
   pub found : Either
-  pub finds : FindsCommit idBytes c g s x found
-  pub is : r ≡ commitAt c g s found
+  pub finds : FindsCommit w c g s x found
+  pub is : r ≡ commitAt w c g s found
 
 -- no position in the graph file and no number of an entry
 abbrev pub nowhere : ℕ
 nowhere = 4294967295
 
 -- where parent k of a commit that was read is looked at first: a row names its parents by their positions
-abbrev pub placeOf : Cache → List ℕ → Commit → ℕ → ℕ
-placeOf c g (Row p n q) k = parentIn idBytes g (layoutUnder c) p k
-placeOf c g (Body a e n q) k = nowhere
-placeOf c g (Failed r) k = nowhere
+abbrev pub placeOf : ℕ → Cache → List ℕ → Commit → ℕ → ℕ
+placeOf w c g (Row p n q) k = parentIn w g (layoutUnder c) p k
+placeOf w c g (Body a e n q) k = nowhere
+placeOf w c g (Failed r) k = nowhere
 
 -- parent k of a commit that was read, on any bytes: of its row, of its body, or zeros where it could not be read
-abbrev pub ParentAt : Cache → List ℕ → List ℕ → Commit → ℕ → Id → Type 0
-ParentAt c g s (Row p n q) k x = x ≡ padded (rowParent g (layoutUnder c) p k)
-ParentAt c g s (Body a e n q) k x = x ≡ parentIdAt (partOf s (BodyAt a e)) k
-ParentAt c g s (Failed r) k x = x ≡ noBytes
+abbrev pub ParentAt : ℕ → Cache → List ℕ → List ℕ → Commit → ℕ → Id → Type 0
+ParentAt w c g s (Row p n q) k x = x ≡ padded (rowParent w g (layoutUnder c) p k)
+ParentAt w c g s (Body a e n q) k x = x ≡ parentIdAt w (partOf s (BodyAt a e)) k
+ParentAt w c g s (Failed r) k x = x ≡ noBytes
 
 -- what `parent_of` answers
-pub record GivesParent (c : Cache) (g s : List ℕ) (m : Commit) (k : ℕ) (r : ObjectId) : Type 0 where
-  pub is : ParentAt c g s m k (r .bytes)
+pub record GivesParent (w : ℕ) (c : Cache) (g s : List ℕ) (m : Commit) (k : ℕ) (r : ObjectId) : Type 0 where
+  pub is : ParentAt w c g s m k (r .bytes)

@@ -8,7 +8,7 @@ ghost use lib.Dec.{eqb};
 ghost use Rattle.object.specs.Header.{header};
 ghost use Rattle.commititer.specs.Token.{tokenAt, parentsPlace};
 ghost use Rattle.reading.specs.Body.{mostRead, parentIdAt, PutsParents, IsCrowded, EndsAfter, ReadsBody};
-ghost use Rattle.hash.specs.Bytes.{widthOf, idBytes};
+ghost use Rattle.hash.specs.Bytes.{widthOf};
 
 // How the reading of a body ends after its parents: the author line is good, or it is bad, or a parent line too many stands there.
 pub enum BodyEnd {
@@ -27,20 +27,20 @@ pub struct BodyRead {
 const MOST_PARENTS: usize = 256;
 
 // What stands after a tree line and k parent lines.
-fn token_after(body: &[u8], k: usize) -> TokenRead
-    ensures { λ r. ⌜ r ≡ tokenAt idBytes (now (body .entry)) (parentsPlace idBytes k) ⌝ }
+fn token_after(kind: Kind, body: &[u8], k: usize) -> TokenRead
+    ensures { λ r. ⌜ r ≡ tokenAt (widthOf kind) (now (body .entry)) (parentsPlace (widthOf kind) k) ⌝ }
 {
-    commititer::read_token(Kind::Sha1, body, commititer::parents_place(Kind::Sha1, k))
+    commititer::read_token(kind, body, commititer::parents_place(kind, k))
 }
 
 // The id of parent k of a body, which a good tree line stands before; zeros where no parent line stands.
-pub fn body_parent(body: &[u8], k: usize) -> ObjectId
-    ensures { λ r. ⌜ r .bytes ≡ parentIdAt (now (body .entry)) k ⌝ }
+pub fn body_parent(kind: Kind, body: &[u8], k: usize) -> ObjectId
+    ensures { λ r. ⌜ r .bytes ≡ parentIdAt (widthOf kind) (now (body .entry)) k ⌝ }
 {
     if MOST_PARENTS <= k {
         return ObjectId { bytes: [0u8; 32] };
     }
-    let read = token_after(body, k);
+    let read = token_after(kind, body, k);
     read.id
 }
 

@@ -40,7 +40,7 @@ ghost use Rattle.object.specs.Read.{readingOf};
 ghost use Rattle.commitgraph.specs.Graph.{parentsIn};
 ghost use Rattle.reading.specs.Files.{cacheWith, layoutUnder};
 ghost use Rattle.reading.specs.Whole.{pairIn, rowCommit, bodyCommit, ReadsCommit, placeOf, GivesParent};
-ghost use Rattle.hash.specs.Bytes.{idBytes};
+ghost use Rattle.hash.specs.Bytes.{widthOf};
 
 // A commit that was read whole, as painting does: where it stands, how many parents it has, and its place in the painting's order; or why
 // it cannot be read.
@@ -94,16 +94,16 @@ pub fn layout_of(cache: Cache) -> Layout
 }
 
 // The commit of the row at a position.
-fn row_commit(graph: &[u8], l: Layout, position: usize) -> Commit
-    ensures { λ r. ⌜ r ≡ rowCommit position (pairIn (now (graph .entry)) l position) (parentsIn idBytes (now (graph .entry)) l position) ⌝ }
+fn row_commit(kind: Kind, graph: &[u8], l: Layout, position: usize) -> Commit
+    ensures { λ r. ⌜ r ≡ rowCommit position (pairIn (widthOf kind) (now (graph .entry)) l position) (parentsIn (widthOf kind) (now (graph .entry)) l position) ⌝ }
 {
-    match parents::parents(Kind::Sha1, graph, l, position) {
+    match parents::parents(kind, graph, l, position) {
         ParentList::Good(n) => Commit::Row {
             position,
             parents: n,
             pair: GenThenTime {
-                generation: rows::level(Kind::Sha1, graph, l, position),
-                time: rows::seconds(Kind::Sha1, graph, l, position),
+                generation: rows::level(kind, graph, l, position),
+                time: rows::seconds(kind, graph, l, position),
             },
         },
         ParentList::Corrupt => Commit::Failed(Refusal::CommitUnreadable),
@@ -111,10 +111,10 @@ fn row_commit(graph: &[u8], l: Layout, position: usize) -> Commit
 }
 
 // The commit of a body, which stands from start to end in the store.
-fn body_commit(body: &[u8], start: usize, end: usize) -> Commit
-    ensures { λ r. ⌜ r ≡ bodyCommit start end (readingOf (header idBytes (now (body .entry)))) ⌝ }
+fn body_commit(kind: Kind, body: &[u8], start: usize, end: usize) -> Commit
+    ensures { λ r. ⌜ r ≡ bodyCommit start end (readingOf (header (widthOf kind) (now (body .entry)))) ⌝ }
 {
-    match object::readable(Kind::Sha1, body) {
+    match object::readable(kind, body) {
         Reading::Readable { parents, stamp } => {
             let time = stamp.seconds;
             Commit::Body {
@@ -134,13 +134,26 @@ fn body_commit(body: &[u8], start: usize, end: usize) -> Commit
 
 // One commit, read whole: its graph row, else its body. It may stand at near, as `find` has it: a position in the commit-graph file or the
 // number of an entry in the store, which is looked at first; on good files any other number gives the same answer.
-pub fn read_commit(cache: Cache, graph: &[u8], store: &[u8], id: &[u8], near: usize) -> Commit
-    ensures { λ r. ⌜ ReadsCommit cache (now (graph .entry)) (now (store .entry)) (now (id .entry)) r ⌝ }
+pub fn read_commit(
+    kind: Kind,
+    cache: Cache,
+    graph: &[u8],
+    store: &[u8],
+    id: &[u8],
+    near: usize,
+) -> Commit
+    ensures { λ r. ⌜ ReadsCommit (widthOf kind) cache (now (graph .entry)) (now (store .entry)) (now (id .entry)) r ⌝ }
 {
-    let at = commit::find(Kind::Sha1, cache, graph, store, id, near);
+    let at = commit::find(kind, cache, graph, store, id, near);
     match at {
-        Either::CachedCommit { position, .. } => row_commit(graph, layout_of(cache), position),
+        Either::CachedCommit { position, .. } => row_commit(
+            kind,
+            graph,
+            layout_of(cache),
+            position,
+        ),
         Either::CommitRefIter { start, end } => body_commit(
+            kind,
             commit::part_of_store(at, store),
             start,
             end,
@@ -151,34 +164,37 @@ pub fn read_commit(cache: Cache, graph: &[u8], store: &[u8], id: &[u8], near: us
 
 // Where parent k of a commit that `read_commit` gave may be looked at first: a row names its parents by their positions in the commit-graph
 // file; of a body's parents no place is known.
-pub fn parent_near(commit: Commit, k: usize, cache: Cache, graph: &[u8]) -> usize
-    ensures { λ r. ⌜ r ≡ placeOf cache (now (graph .entry)) commit k ⌝ }
+pub fn parent_near(kind: Kind, commit: Commit, k: usize, cache: Cache, graph: &[u8]) -> usize
+    ensures { λ r. ⌜ r ≡ placeOf (widthOf kind) cache (now (graph .entry)) commit k ⌝ }
 {
     match commit {
-        Commit::Row { position, .. } => parents::parent(
-            Kind::Sha1,
-            graph,
-            layout_of(cache),
-            position,
-            k,
-        ),
+        Commit::Row { position, .. } => parents::parent(kind, graph, layout_of(cache), position, k),
         Commit::Body { .. } => NOWHERE,
         Commit::Failed(_) => NOWHERE,
     }
 }
 
 // The id of parent k of a commit that `read_commit` gave.
-pub fn parent_of(commit: Commit, k: usize, cache: Cache, graph: &[u8], store: &[u8]) -> ObjectId
-    ensures { λ r. ⌜ GivesParent cache (now (graph .entry)) (now (store .entry)) commit k r ⌝ }
+pub fn parent_of(
+    kind: Kind,
+    commit: Commit,
+    k: usize,
+    cache: Cache,
+    graph: &[u8],
+    store: &[u8],
+) -> ObjectId
+    ensures { λ r. ⌜ GivesParent (widthOf kind) cache (now (graph .entry)) (now (store .entry)) commit k r ⌝ }
 {
     match commit {
         Commit::Row { position, .. } => object::id_of(row_parent(
+            kind,
             graph,
             layout_of(cache),
             position,
             k,
         )),
         Commit::Body { start, end, .. } => body_parent(
+            kind,
             odb::body(store, Located::Body { start, end }),
             k,
         ),

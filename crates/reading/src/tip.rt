@@ -11,7 +11,7 @@ ghost use Rattle.odb.specs.Lookup.{NotesEntry};
 ghost use Rattle.object.specs.Header.{header};
 ghost use Rattle.object.specs.Read.{zoneGiven};
 ghost use Rattle.reading.specs.Tip.{tipStamp, ReadsTip, secondsOr0, GivesSeconds};
-ghost use Rattle.hash.specs.Bytes.{idBytes};
+ghost use Rattle.hash.specs.Bytes.{widthOf};
 
 // A tip that was read at the opening: its seconds; or the store lacks it; or its header is not good through the committer line.
 pub enum TipRead {
@@ -34,24 +34,24 @@ fn tip_seconds(read: StampRead) -> TipRead
 }
 
 // A tip, read from the store alone: its body is a part of the store itself, not a copy. The number of its entry is noted.
-fn read_tip_noting(store: &[u8], id: &[u8], entry: &mut usize) -> TipRead
-    ensures { λ r. ⌜ ReadsTip (now (store .entry)) (now (id .entry)) r × NotesEntry idBytes (now (store .entry)) (now (id .entry)) (now (entry .entry)) (now (entry .exit)) ⌝ }
+fn read_tip_noting(kind: Kind, store: &[u8], id: &[u8], entry: &mut usize) -> TipRead
+    ensures { λ r. ⌜ ReadsTip (widthOf kind) (now (store .entry)) (now (id .entry)) r × NotesEntry (widthOf kind) (now (store .entry)) (now (id .entry)) (now (entry .entry)) (now (entry .exit)) ⌝ }
 {
     let mut found = false;
-    let body = odb::try_find_noting(Kind::Sha1, store, id, &mut found, entry);
+    let body = odb::try_find_noting(kind, store, id, &mut found, entry);
     if found {
-        tip_seconds(object::stamp_only(Kind::Sha1, body))
+        tip_seconds(object::stamp_only(kind, body))
     } else {
         TipRead::Missing
     }
 }
 
 // The same without the entry.
-pub fn read_tip(store: &[u8], id: &[u8]) -> TipRead
-    ensures { λ r. ⌜ ReadsTip (now (store .entry)) (now (id .entry)) r ⌝ }
+pub fn read_tip(kind: Kind, store: &[u8], id: &[u8]) -> TipRead
+    ensures { λ r. ⌜ ReadsTip (widthOf kind) (now (store .entry)) (now (id .entry)) r ⌝ }
 {
     let mut entry = 0;
-    read_tip_noting(store, id, &mut entry)
+    read_tip_noting(kind, store, id, &mut entry)
 }
 
 // The seconds of a tip that was read, 0 where it has none.
@@ -67,25 +67,25 @@ fn seconds_or_0(read: TipRead) -> Seconds
 
 // The seconds of a commit in the store, 0 where the store has none. The number of its entry is noted, where it may be looked for first
 // another time.
-pub fn seconds_noting(store: &[u8], id: &[u8], entry: &mut usize) -> Seconds
-    ensures { λ r. ⌜ GivesSeconds (now (store .entry)) (now (id .entry)) r × NotesEntry idBytes (now (store .entry)) (now (id .entry)) (now (entry .entry)) (now (entry .exit)) ⌝ }
+pub fn seconds_noting(kind: Kind, store: &[u8], id: &[u8], entry: &mut usize) -> Seconds
+    ensures { λ r. ⌜ GivesSeconds (widthOf kind) (now (store .entry)) (now (id .entry)) r × NotesEntry (widthOf kind) (now (store .entry)) (now (id .entry)) (now (entry .entry)) (now (entry .exit)) ⌝ }
 {
-    seconds_or_0(read_tip_noting(store, id, entry))
+    seconds_or_0(read_tip_noting(kind, store, id, entry))
 }
 
 // The same without the entry.
-pub fn seconds_for(store: &[u8], id: &[u8]) -> Seconds
-    ensures { λ r. ⌜ GivesSeconds (now (store .entry)) (now (id .entry)) r ⌝ }
+pub fn seconds_for(kind: Kind, store: &[u8], id: &[u8]) -> Seconds
+    ensures { λ r. ⌜ GivesSeconds (widthOf kind) (now (store .entry)) (now (id .entry)) r ⌝ }
 {
-    seconds_or_0(read_tip(store, id))
+    seconds_or_0(read_tip(kind, store, id))
 }
 
 // The zone of a body whose tree line and first `known` parent lines are good, past all its parent lines: none where a line up to the
 // committer's is bad.
-pub fn zone_past(body: &[u8], known: usize) -> Zone
-    ensures { λ r. ⌜ (header idBytes (now (body .entry)) .tree ≡ true → known ≤ length (header idBytes (now (body .entry)) .ids) → r ≡ zoneGiven (header idBytes (now (body .entry)) .zone)) ⌝ }
+pub fn zone_past(kind: Kind, body: &[u8], known: usize) -> Zone
+    ensures { λ r. ⌜ (header (widthOf kind) (now (body .entry)) .tree ≡ true → known ≤ length (header (widthOf kind) (now (body .entry)) .ids) → r ≡ zoneGiven (header (widthOf kind) (now (body .entry)) .zone)) ⌝ }
 {
-    match object::stamp_past(Kind::Sha1, body, known) {
+    match object::stamp_past(kind, body, known) {
         StampRead::Good(stamp) => {
             let zone = stamp.zone;
             zone

@@ -25,15 +25,16 @@ use Rattle.revwalk.proofs.QueueSlots.{emptied, emptied-list, times-good, times-
 use Rattle.walk.specs.Lookup.{worldOf, secondsFor}
 use Rattle.walk.specs.State.{State, nobody}
 use Rattle.walk.specs.Next.{outside, paintedWith}
+use Rattle.hash.specs.Bytes.{widthOf}
+use Rattle.state.specs.declared.Fixed.{Fixed}
 use Rattle.state.specs.declared.Record.{Record}
-use Rattle.state.specs.Reads.{Memory, Shape, entryOf, waiting, Reads}
+use Rattle.state.specs.Reads.{Memory, Shape, entryOf, waiting, Reads, memoryWidth}
 use Rattle.state.specs.Steps.{mem}
 use Rattle.state.proofs.Entries.{map-agree}
 use Rattle.state.proofs.States.{waits-low, queue-length, count-low}
 use Rattle.refill.specs.Painted.{Painted, Due, Timed, Leaves, Fails, Skips}
 use Rattle.refill.specs.Inner.{emptyQueue, paintedRecord, Struck, Ends, Rereads, Sifts, Holding, without, inFrontier}
 use Rattle.refill.proofs.Lists.{in-without, length-without, outside-map}
-use Rattle.hash.specs.Bytes.{idBytes}
 
 -- ---- the record
 
@@ -53,28 +54,28 @@ frontier-dead : (m : ℕ) → live true m ≡ false → frontier m ≡ false
 unfolding frontier
 frontier-dead m d = not-yes (λ f. let b = and-both {a = visible m} {b = hidden m} f in clash (live-frontier true m (b .0) (b .1)) d)
 
-module _ {names marks : List ℕ} {cap : ℕ} (t : Table idBytes false names marks cap) (x : Id) where
-  painted-same : (P : ℕ → Bool) → P 0 ≡ false → ((m : ℕ) → live true m ≡ false → P m ≡ false) → P (markFor idBytes true names marks cap x) ≡ P (markFor idBytes false names marks cap x)
+module _ {width : ℕ} {names marks : List ℕ} {cap : ℕ} (t : Table width false names marks cap) (x : Id) where
+  painted-same : (P : ℕ → Bool) → P 0 ≡ false → ((m : ℕ) → live true m ≡ false → P m ≡ false) → P (markFor width true names marks cap x) ≡ P (markFor width false names marks cap x)
   painted-same P z h =
-      byCases (live true (markFor idBytes false names marks cap x))
+      byCases (live true (markFor width false names marks cap x))
       (λ a. ap P (painted-live t x a))
-      (λ d. ap P (painted-gone t x d) ∙ z ∙ sym (h (markFor idBytes false names marks cap x) d))
+      (λ d. ap P (painted-gone t x d) ∙ z ∙ sym (h (markFor width false names marks cap x) d))
 
 -- ---- a state after painting
 
 module _ {r : Record} {m : Memory} {sh : Shape} {st : State} (g : Reads r m sh st) (u : r .painted ≡ false) where
-  table-then : Table idBytes false (m .names) (m .marks) (sh .cap)
-  table-then = subst (λ (b : Bool). Table idBytes b (m .names) (m .marks) (sh .cap)) u (g .table)
+  table-then : Table (memoryWidth sh) false (m .names) (m .marks) (sh .cap)
+  table-then = subst (λ (b : Bool). Table (memoryWidth sh) b (m .names) (m .marks) (sh .cap)) u (g .table)
 
-  seen-then : (x : Id) → st .seen x ≡ seen (markFor idBytes false (m .names) (m .marks) (sh .cap) x)
-  seen-then x = g .seen-is x ∙ ap (λ (b : Bool). seen (markFor idBytes b (m .names) (m .marks) (sh .cap) x)) u
+  seen-then : (x : Id) → st .seen x ≡ seen (markFor (memoryWidth sh) false (m .names) (m .marks) (sh .cap) x)
+  seen-then x = g .seen-is x ∙ ap (λ (b : Bool). seen (markFor (memoryWidth sh) b (m .names) (m .marks) (sh .cap) x)) u
 
   painted-reads : (q : Queue) (failed : Bool) (m′ : Memory) (l : List (Id × ℤ)) (f : Id → Bool) → Alike (r .queue) q → sh .cap ≤ length (m′ .times) → 5 * sh .cap ≤ length (m′ .line)
-      → Table idBytes false (m′ .names) (m′ .marks) (sh .cap)
-      → ((x : Id) → seen (markFor idBytes false (m′ .names) (m′ .marks) (sh .cap) x) ≡ seen (markFor idBytes false (m .names) (m .marks) (sh .cap) x))
-      → GoodQueue q (m′ .times) (m′ .line) → l ≡ map (entryOf (sh .timed) (m′ .names) (m′ .times)) (slotsOf q (m′ .times) (m′ .line))
+      → Table (memoryWidth sh) false (m′ .names) (m′ .marks) (sh .cap)
+      → ((x : Id) → seen (markFor (memoryWidth sh) false (m′ .names) (m′ .marks) (sh .cap) x) ≡ seen (markFor (memoryWidth sh) false (m .names) (m .marks) (sh .cap) x))
+      → GoodQueue q (m′ .times) (m′ .line) → l ≡ map (entryOf (memoryWidth sh) (sh .timed) (m′ .names) (m′ .times)) (slotsOf q (m′ .times) (m′ .line))
       → ((s : ℕ) → In s (slotsOf q (m′ .times) (m′ .line)) → seen (getD (m′ .marks) s 0) ≡ true) → q .next ≤ r .admitted + cond (r .kept) 0 1
-      → ((x : Id) → f x ≡ (not failed && frontier (markFor idBytes false (m′ .names) (m′ .marks) (sh .cap) x))) → (failed ≡ true → slotsOf q (m′ .times) (m′ .line) ≡ [])
+      → ((x : Id) → f x ≡ (not failed && frontier (markFor (memoryWidth sh) false (m′ .names) (m′ .marks) (sh .cap) x))) → (failed ≡ true → slotsOf q (m′ .times) (m′ .line) ≡ [])
       → Reads (paintedRecord r q failed) m′ sh (paintedWith st l f)
   unfolding paintedWith
   painted-reads q failed m′ l f a long-times long-line t same good el seens next ef empty = record {
@@ -99,7 +100,7 @@ module _ {r : Record} {m : Memory} {sh : Shape} {st : State} (g : Reads r m sh s
     admitted = g .admitted;
     struck =
         let c = queue-length g in
-        let n : length l ≡ q .count = ap length el ∙ length-map (slotsOf q (m′ .times) (m′ .line)) (entryOf (sh .timed) (m′ .names) (m′ .times)) ∙ slots-length q (m′ .times) (m′ .line) in
+        let n : length l ≡ q .count = ap length el ∙ length-map (slotsOf q (m′ .times) (m′ .line)) (entryOf (memoryWidth sh) (sh .timed) (m′ .names) (m′ .times)) ∙ slots-length q (m′ .times) (m′ .line) in
         let s = g .struck in
         omega arith;
   }
@@ -115,8 +116,8 @@ skips {r} {r′} e = record {
   failed = e .failed;
   reads = λ m sh st d free.
       let g = d .reads in
-      let none : (x : Id) → frontier (markFor idBytes false (m .names) (m .marks) (sh .cap) x) ≡ false = λ x. not-yes (λ h.
-      let w = has-slot idBytes false (m .names) (m .marks) (sh .cap) x frontier frontier-0 h in
+      let none : (x : Id) → frontier (markFor (memoryWidth sh) false (m .names) (m .marks) (sh .cap) x) ≡ false = λ x. not-yes (λ h.
+      let w = has-slot (memoryWidth sh) false (m .names) (m .marks) (sh .cap) x frontier frontier-0 h in
       clash (w .2) (free (w .0) (w .1 .low) (w .1 .alive))) in
       subst (λ (a : Record). Reads a m sh (paintedWith st (st .queue) nobody)) (sym (e .is (omega (arith, d .few)) (omega (arith, d .few, count-low g)) (omega arith)))
       (painted-reads g (d .unpainted) (r .queue) (r .failed) m (st .queue) nobody (record { timed = refl; newest = refl; cap = refl }) (g .for-times) (g .for-line) (table-then g (d .unpainted)) (λ x. refl) (g .good)
@@ -136,7 +137,7 @@ fails-empty {r} {r′} e = record {
       let none : slotsOf q (m′ .times) (m′ .line) ≡ [] = emptied-list q (m′ .times) (m′ .line) refl in
       subst (λ (a : Record). Reads a m′ sh (paintedWith st [] nobody)) (sym (e .is (omega (arith, d .few)) (omega (arith, d .few, count-low g)) (omega arith)))
       (painted-reads g (d .unpainted) q true m′ [] nobody (record { timed = refl; newest = refl; cap = refl }) (omega (arith, g .for-times, p .long-times)) (omega (arith, g .for-line, p .long-line)) (p .table) (p .seen-same)
-      (emptied q (m′ .times) (m′ .line) refl refl (omega (arith, g .for-line, p .long-line, g .cap))) (sym (ap (map (entryOf (sh .timed) (m′ .names) (m′ .times))) none))
+      (emptied q (m′ .times) (m′ .line) refl refl (omega (arith, g .for-line, p .long-line, g .cap))) (sym (ap (map (entryOf (memoryWidth sh) (sh .timed) (m′ .names) (m′ .times))) none))
       (λ s h. absurd (nothing-in s (subst (In s) none h))) (omega arith) (λ x. refl) (λ f. none));
 }
 
@@ -154,12 +155,16 @@ unfolding In
 in-map e s [] h = absurd h
 in-map e s (y ∷ ys) h = ⊎-elim (λ p. List·Memᴰ·head (ap e p)) (λ i. List·Memᴰ·tail (in-map e s ys i)) h
 
-module _ {r : Record} {store names marks : List ℕ} {times times′ : List ℤ} {line line′ : List ℕ} {left : Queue} (a : Rereads (r .queue) store names line times times′)
+module _ {r : Record} {store names marks : List ℕ} {times times′ : List ℤ} {line line′ : List ℕ} {left : Queue} (a : Rereads (widthOf (r .fixed .kind)) (r .queue) store names line times times′)
     (v : Sifts (r .queue) marks times′ line line′ left) where
-  module _ (m : Memory) (sh : Shape) (st : State) (graph : List ℕ) (f : Id → Bool) (d : Due r m sh st) (p : Painted m (mem names marks times line) (sh .cap)) (o : storeOk idBytes store ≡ true)
-      (tm : Timed (worldOf store graph) sh st) (ff : (x : Id) → f x ≡ frontier (markFor idBytes false names marks (sh .cap) x)) where
+  module _ (m : Memory) (sh : Shape) (st : State) (graph : List ℕ) (f : Id → Bool) (d : Due r m sh st) (p : Painted (memoryWidth sh) m (mem names marks times line) (sh .cap)) (o : storeOk (memoryWidth sh) store ≡ true)
+      (tm : Timed (worldOf (memoryWidth sh) store graph) sh st) (ff : (x : Id) → f x ≡ frontier (markFor (memoryWidth sh) false names marks (sh .cap) x)) where
     g : Reads r m sh st
     g = d .reads
+
+    -- the kind of ids is that of the shape
+    reread : Rereads (memoryWidth sh) (r .queue) store names line times times′
+    reread = subst (λ (x : Fixed). Rereads (widthOf (x .kind)) (r .queue) store names line times times′) (g .fixed) a
 
     line-below : (k : ℕ) → k < r .queue .cap + r .queue .cap → at (m .line) k ≡ at line k
     line-below k h = p .line-same k (subst (λ (c : ℕ). k < c + c) (g .cap) h)
@@ -177,26 +182,26 @@ module _ {r : Record} {store names marks : List ℕ} {times times′ : List ℤ}
     list-then = line-list (g .good) line line-below
 
     -- ---- a waiting slot holds its id still
-    held : (s : ℕ) → In s (waiting r m) → Holds idBytes false (m .names) (m .marks) (sh .cap) (idOf idBytes (m .names) s) s
+    held : (s : ℕ) → In s (waiting r m) → Holds (memoryWidth sh) false (m .names) (m .marks) (sh .cap) (idOf (memoryWidth sh) (m .names) s) s
     held s h = record { low = waits-low g s h; alive = live-seen false (getD (m .marks) s 0) (g .waits-seen s h); is = refl }
 
-    holds-now : (s : ℕ) → In s (waiting r m) → Holds idBytes false names marks (sh .cap) (idOf idBytes (m .names) s) s
-    holds-now s h = p .still (idOf idBytes (m .names) s) s (held s h)
+    holds-now : (s : ℕ) → In s (waiting r m) → Holds (memoryWidth sh) false names marks (sh .cap) (idOf (memoryWidth sh) (m .names) s) s
+    holds-now s h = p .still (idOf (memoryWidth sh) (m .names) s) s (held s h)
 
     seen-now : (s : ℕ) → In s (waiting r m) → seen (getD marks s 0) ≡ true
     seen-now s h =
-        ap seen (sym (mark-held (p .table) s (holds-now s h))) ∙ p .seen-same (idOf idBytes (m .names) s) ∙ ap seen (mark-held (table-then g (d .unpainted)) s (held s h)) ∙ g .waits-seen s h
+        ap seen (sym (mark-held (p .table) s (holds-now s h))) ∙ p .seen-same (idOf (memoryWidth sh) (m .names) s) ∙ ap seen (mark-held (table-then g (d .unpainted)) s (held s h)) ∙ g .waits-seen s h
 
     -- ---- its seconds are the old ones
     times-now : r .queue .timed ≡ true → (z : ℕ) → In z (slotsOf (r .queue) (m .times) line) → getD (m .times) z (pos 0) ≡ getD times′ z (pos 0)
     times-now e z h =
         let i : In z (waiting r m) = subst (In z) (sym list-then) h in
         let timed : sh .timed ≡ true = sym (g .timed) ∙ e in
-        let all : List·Memᴰ (entryOf (sh .timed) (m .names) (m .times) z) (st .queue) = subst (List·Memᴰ (entryOf (sh .timed) (m .names) (m .times) z)) (sym (g .queue)) (in-map (entryOf (sh .timed) (m .names) (m .times)) z (waiting r m) i) in
-        let entry : List·Memᴰ (idOf idBytes (m .names) z, getD (m .times) z (pos 0)) (st .queue) = Memᴰ·cast (ap {B = Id × ℤ} (λ (b : Bool). (idOf idBytes (m .names) z, cond b (getD (m .times) z (pos 0)) (pos 0))) (sym timed)) all in
-        tm timed (idOf idBytes (m .names) z) (getD (m .times) z (pos 0)) entry
-        ∙ ap (secondsFor (worldOf store graph)) (sym (holds-now z i .is))
-        ∙ sym (a .again (m .times) good-then e o graph z h (omega (arith, waits-low g z i, g .for-times, long-times)))
+        let all : List·Memᴰ (entryOf (memoryWidth sh) (sh .timed) (m .names) (m .times) z) (st .queue) = subst (List·Memᴰ (entryOf (memoryWidth sh) (sh .timed) (m .names) (m .times) z)) (sym (g .queue)) (in-map (entryOf (memoryWidth sh) (sh .timed) (m .names) (m .times)) z (waiting r m) i) in
+        let entry : List·Memᴰ (idOf (memoryWidth sh) (m .names) z, getD (m .times) z (pos 0)) (st .queue) = Memᴰ·cast (ap {B = Id × ℤ} (λ (b : Bool). (idOf (memoryWidth sh) (m .names) z, cond b (getD (m .times) z (pos 0)) (pos 0))) (sym timed)) all in
+        tm timed (idOf (memoryWidth sh) (m .names) z) (getD (m .times) z (pos 0)) entry
+        ∙ ap (secondsFor (worldOf (memoryWidth sh) store graph)) (sym (holds-now z i .is))
+        ∙ sym (reread .again (m .times) good-then e o graph z h (omega (arith, waits-low g z i, g .for-times, long-times)))
 
     good-now : GoodQueue (r .queue) times′ line
     good-now =
@@ -213,10 +218,10 @@ module _ {r : Record} {store names marks : List ℕ} {times times′ : List ℤ}
         (λ e. ring-list (r .queue) (m .times) times′ line e)
         (either (r .queue .timed))
 
-    entry-now : (z : ℕ) → In z (waiting r m) → entryOf (sh .timed) (m .names) (m .times) z ≡ entryOf (sh .timed) names times′ z
+    entry-now : (z : ℕ) → In z (waiting r m) → entryOf (memoryWidth sh) (sh .timed) (m .names) (m .times) z ≡ entryOf (memoryWidth sh) (sh .timed) names times′ z
     entry-now z h =
         ap {B = Id × ℤ} (λ (x : Id). (x, cond (sh .timed) (getD (m .times) z (pos 0)) (pos 0))) (sym (holds-now z h .is))
-        ∙ ap {B = Id × ℤ} (λ (t : ℤ). (idOf idBytes names z, t)) (cond-agree (sh .timed) (λ e. times-now (g .timed ∙ e) z (subst (In z) list-then h)))
+        ∙ ap {B = Id × ℤ} (λ (t : ℤ). (idOf (memoryWidth sh) names z, t)) (cond-agree (sh .timed) (λ e. times-now (g .timed ∙ e) z (subst (In z) list-then h)))
 
     -- ---- the queue that is left
     holding : Holding left times′ line′ (without (inFrontier marks) (slotsOf (r .queue) times′ line))
@@ -225,16 +230,16 @@ module _ {r : Record} {store names marks : List ℕ} {times times′ : List ℤ}
     left-in : (z : ℕ) → In z (slotsOf left times′ line′) → In z (waiting r m)
     left-in z h = subst (In z) (sym list-now) (in-without (inFrontier marks) z (slotsOf (r .queue) times′ line) (subst (In z) (holding .list) h))
 
-    front-now : (z : ℕ) → In z (waiting r m) → f (idOf idBytes (m .names) z) ≡ inFrontier marks z
-    front-now z h = ff (idOf idBytes (m .names) z) ∙ ap frontier (mark-held (p .table) z (holds-now z h))
+    front-now : (z : ℕ) → In z (waiting r m) → f (idOf (memoryWidth sh) (m .names) z) ≡ inFrontier marks z
+    front-now z h = ff (idOf (memoryWidth sh) (m .names) z) ∙ ap frontier (mark-held (p .table) z (holds-now z h))
 
-    queue-now : outside f (st .queue) ≡ map (entryOf (sh .timed) names times′) (slotsOf left times′ line′)
+    queue-now : outside f (st .queue) ≡ map (entryOf (memoryWidth sh) (sh .timed) names times′) (slotsOf left times′ line′)
     queue-now =
         ap (outside f) (g .queue)
-        ∙ outside-map f (entryOf (sh .timed) (m .names) (m .times)) (inFrontier marks) (waiting r m) front-now
-        ∙ map-agree (entryOf (sh .timed) (m .names) (m .times)) (entryOf (sh .timed) names times′) (without (inFrontier marks) (waiting r m)) (λ z h. entry-now z (in-without (inFrontier marks) z (waiting r m) h))
-        ∙ ap (λ (l : List ℕ). map (entryOf (sh .timed) names times′) (without (inFrontier marks) l)) list-now
-        ∙ ap (map (entryOf (sh .timed) names times′)) (sym (holding .list))
+        ∙ outside-map f (entryOf (memoryWidth sh) (sh .timed) (m .names) (m .times)) (inFrontier marks) (waiting r m) front-now
+        ∙ map-agree (entryOf (memoryWidth sh) (sh .timed) (m .names) (m .times)) (entryOf (memoryWidth sh) (sh .timed) names times′) (without (inFrontier marks) (waiting r m)) (λ z h. entry-now z (in-without (inFrontier marks) z (waiting r m) h))
+        ∙ ap (λ (l : List ℕ). map (entryOf (memoryWidth sh) (sh .timed) names times′) (without (inFrontier marks) l)) list-now
+        ∙ ap (map (entryOf (memoryWidth sh) (sh .timed) names times′)) (sym (holding .list))
 
     few-now : left .count ≤ r .queue .count
     few-now =

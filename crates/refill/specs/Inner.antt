@@ -14,7 +14,6 @@ use Rattle.revwalk.specs.declared.queue.Queue.{Queue}
 use Rattle.revwalk.specs.Order.{at, listed, In}
 use Rattle.revwalk.specs.Queue.{before, slotsOf, GoodQueue, Alike, Pushes}
 use Rattle.state.specs.declared.Record.{Record}
-use Rattle.hash.specs.Bytes.{idBytes}
 
 abbrev pub emptyQueue : Queue → Queue
 emptyQueue q = record { timed = q .timed; newest = q .newest; cap = q .cap; head = 0; count = 0; next = 0 }
@@ -43,15 +42,15 @@ pub record Ends (r : Record) (q : Queue) (f : Bool) (a : Record) : Type 0 where
 
 -- ---- seconds read again
 
-pub record RereadsSlot (store names : List ℕ) (slot : ℕ) (times times′ : List ℤ) : Type 0 where
+pub record RereadsSlot (width : ℕ) (store names : List ℕ) (slot : ℕ) (times times′ : List ℤ) : Type 0 where
   pub long : length times′ ≡ length times
-  pub is : storeOk idBytes store ≡ true → (g : List ℕ) → times′ ≡ set times slot (secondsFor (worldOf store g) (idOf idBytes names slot))
+  pub is : storeOk width store ≡ true → (g : List ℕ) → times′ ≡ set times slot (secondsFor (worldOf width store g) (idOf width names slot))
 
 -- each waiting slot has the seconds of its id in the store
-pub record Rereads (q : Queue) (store names line : List ℕ) (times times′ : List ℤ) : Type 0 where
+pub record Rereads (width : ℕ) (q : Queue) (store names line : List ℕ) (times times′ : List ℤ) : Type 0 where
   pub long : length times′ ≡ length times
-  pub again : (t : List ℤ) → GoodQueue q t line → q .timed ≡ true → storeOk idBytes store ≡ true → (g : List ℕ) (z : ℕ) → In z (slotsOf q t line) → z < length times
-      → getD times′ z (pos 0) ≡ secondsFor (worldOf store g) (idOf idBytes names z)
+  pub again : (t : List ℤ) → GoodQueue q t line → q .timed ≡ true → storeOk width store ≡ true → (g : List ℕ) (z : ℕ) → In z (slotsOf q t line) → z < length times
+      → getD times′ z (pos 0) ≡ secondsFor (worldOf width store g) (idOf width names z)
 
 -- ---- out of the queue
 

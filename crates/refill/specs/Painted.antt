@@ -14,16 +14,15 @@ use Rattle.walk.specs.Lookup.{World, worldOf, secondsFor}
 use Rattle.walk.specs.State.{State, nobody}
 use Rattle.walk.specs.Next.{outside, paintedWith}
 use Rattle.state.specs.declared.Record.{Record}
-use Rattle.state.specs.Reads.{Memory, Shape, Reads}
+use Rattle.state.specs.Reads.{Memory, Shape, Reads, memoryWidth}
 use Rattle.state.specs.Steps.{mem}
-use Rattle.hash.specs.Bytes.{idBytes}
 
 -- what painting does to the memory, m before it and m′ after it: more marks and new ids, but the seen ids stay the same, a slot that holds an
 -- id holds it still, and the line stays below 2 · cap
-pub record Painted (m m′ : Memory) (cap : ℕ) : Type 0 where
-  pub table : Table idBytes false (m′ .names) (m′ .marks) cap
-  pub seen-same : (x : Id) → seen (markFor idBytes false (m′ .names) (m′ .marks) cap x) ≡ seen (markFor idBytes false (m .names) (m .marks) cap x)
-  pub still : (x : Id) (k : ℕ) → Holds idBytes false (m .names) (m .marks) cap x k → Holds idBytes false (m′ .names) (m′ .marks) cap x k
+pub record Painted (width : ℕ) (m m′ : Memory) (cap : ℕ) : Type 0 where
+  pub table : Table width false (m′ .names) (m′ .marks) cap
+  pub seen-same : (x : Id) → seen (markFor width false (m′ .names) (m′ .marks) cap x) ≡ seen (markFor width false (m .names) (m .marks) cap x)
+  pub still : (x : Id) (k : ℕ) → Holds width false (m .names) (m .marks) cap x k → Holds width false (m′ .names) (m′ .marks) cap x k
   pub long-times : length (m′ .times) ≡ length (m .times)
   pub long-line : length (m′ .line) ≡ length (m .line)
   pub line-same : (k : ℕ) → k < cap + cap → getD (m .line) k 0 ≡ getD (m′ .line) k 0
@@ -44,14 +43,14 @@ pub record Leaves (r : Record) (store names marks : List ℕ) (times times′ : 
   pub long-times : length times′ ≡ length times
   pub long-line : length line′ ≡ length line
   pub failed : r′ .failed ≡ false
-  pub reads : (m : Memory) (sh : Shape) (st : State) (graph : List ℕ) (f : Id → Bool) → Due r m sh st → Painted m (mem names marks times line) (sh .cap)
-      → storeOk idBytes store ≡ true → Timed (worldOf store graph) sh st
-      → ((x : Id) → f x ≡ frontier (markFor idBytes false names marks (sh .cap) x)) → Reads r′ (mem names marks times′ line′) sh (paintedWith st (outside f (st .queue)) f)
+  pub reads : (m : Memory) (sh : Shape) (st : State) (graph : List ℕ) (f : Id → Bool) → Due r m sh st → Painted (memoryWidth sh) m (mem names marks times line) (sh .cap)
+      → storeOk (memoryWidth sh) store ≡ true → Timed (worldOf (memoryWidth sh) store graph) sh st
+      → ((x : Id) → f x ≡ frontier (markFor (memoryWidth sh) false names marks (sh .cap) x)) → Reads r′ (mem names marks times′ line′) sh (paintedWith st (outside f (st .queue)) f)
 
 -- fail_painting, with its answer r′: "line emptied (all of it struck)"
 pub record Fails (r r′ : Record) : Type 0 where
   pub failed : r′ .failed ≡ true
-  pub reads : (m m′ : Memory) (sh : Shape) (st : State) → Due r m sh st → Painted m m′ (sh .cap) → Reads r′ m′ sh (paintedWith st [] nobody)
+  pub reads : (m m′ : Memory) (sh : Shape) (st : State) → Due r m sh st → Painted (memoryWidth sh) m m′ (sh .cap) → Reads r′ m′ sh (paintedWith st [] nobody)
 
 -- skip_painting, with its answer r′: painting is not due, and no mark says otherwise
 pub record Skips (r r′ : Record) : Type 0 where

@@ -14,6 +14,7 @@ ghost use lib.ListN.{length, getD, set};
 ghost use Rattle.hashtable.specs.Marks.{frontier};
 ghost use Rattle.refill.specs.Painted.{Leaves, Fails, Skips};
 ghost use Rattle.refill.specs.Inner.{emptyQueue, Struck, Ends, RereadsSlot, Rereads, Drains, Enters, Refills, Sifts};
+ghost use Rattle.hash.specs.Bytes.{widthOf};
 
 // The largest number that a count may have here.
 const MOST: usize = 4294967295;
@@ -87,10 +88,10 @@ pub fn skip_painting(r: Record) -> Record
 }
 
 // The seconds of one slot are read again from the store.
-fn read_slot(store: &[u8], names: &[u8], times: &mut [i64], slot: u32)
-    ensures { λ r. ⌜ RereadsSlot (now (store .entry)) (now (names .entry)) slot (now (times .entry)) (now (times .exit)) ⌝ }
+fn read_slot(kind: Kind, store: &[u8], names: &[u8], times: &mut [i64], slot: u32)
+    ensures { λ r. ⌜ RereadsSlot (widthOf kind) (now (store .entry)) (now (names .entry)) slot (now (times .entry)) (now (times .exit)) ⌝ }
 {
-    let s = reading::seconds_for(store, table::id_of(Kind::Sha1, names, wide(slot)));
+    let s = reading::seconds_for(kind, store, table::id_of(kind, names, wide(slot)));
     revwalk::set_seconds(times, slot, s);
 }
 
@@ -102,13 +103,13 @@ fn timed_count(q: Queue) -> usize
 }
 
 // The seconds of all waiting slots are read again from the store, where they wait by time: painting has written over them.
-fn read_again(q: Queue, store: &[u8], names: &[u8], times: &mut [i64], line: &[u32])
-    ensures { λ r. ⌜ Rereads q (now (store .entry)) (now (names .entry)) (now (line .entry)) (now (times .entry)) (now (times .exit)) ⌝ }
+fn read_again(kind: Kind, q: Queue, store: &[u8], names: &[u8], times: &mut [i64], line: &[u32])
+    ensures { λ r. ⌜ Rereads (widthOf kind) q (now (store .entry)) (now (names .entry)) (now (line .entry)) (now (times .entry)) (now (times .exit)) ⌝ }
 {
     let n = timed_count(q);
     let mut i = 0;
     while i < n {
-        read_slot(store, names, times, queue::slot_at(q, line, i));
+        read_slot(kind, store, names, times, queue::slot_at(q, line, i));
         i += 1;
     }
 }
@@ -206,8 +207,10 @@ pub fn leave_frontier(
 ) -> Record
     ensures { λ a. ⌜ Leaves r (now (store .entry)) (now (names .entry)) (now (marks .entry)) (now (times .entry)) (now (times .exit)) (now (line .entry)) (now (line .exit)) a ⌝ }
 {
+    let fixed = r.fixed;
+    let kind = fixed.kind;
     let q = r.queue;
-    read_again(q, store, names, times, line);
+    read_again(kind, q, store, names, times, line);
     let left = without_frontier(q, marks, times, line);
     painted_with(r, left, false)
 }

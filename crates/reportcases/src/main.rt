@@ -1,6 +1,6 @@
 // Makes the report of each case of standard input, and prints it: `whole` or `refused` and the number, then the report's numbers.
-// A case is the reader's letter, the settings, the lengths of the six buffers to lend and the parts; before it stands its own length, at most 65,536.
-// tools/make_reports.py says where each stands, and makes them.
+// A case is the reader's letter, the width of ids, the settings, the lengths of the six buffers to lend and the parts; before it stands its own length,
+// at most 65,536. tools/make_reports.py says where each stands, and makes them.
 use libc::STDOUT_FILENO;
 use reports::FeedReport;
 use reports::Reader;
@@ -78,13 +78,14 @@ fn low(n: u64) -> i64 {
     (n % 9223372036854775808) as i64
 }
 
-// The settings of a case.
+// The width of ids and the settings of a case.
 fn settings(head: &[u8]) -> Settings {
     wire::settings_of(
         hash::be32(head, 1),
         hash::be32(head, 5),
-        low(hash::be64(head, 13)),
         hash::be32(head, 9),
+        low(hash::be64(head, 17)),
+        hash::be32(head, 13),
     )
 }
 
@@ -107,20 +108,20 @@ fn run_feed(
     line: &mut [u32],
     parents: &mut [u8],
 ) {
-    let s = number_at(input, 45);
-    let g = number_at(input, 49);
-    let t = number_at(input, 53);
-    let h = number_at(input, 57);
-    let e = number_at(input, 61);
-    let b = number_at(input, 65);
+    let s = number_at(input, 49);
+    let g = number_at(input, 53);
+    let t = number_at(input, 57);
+    let h = number_at(input, 61);
+    let e = number_at(input, 65);
+    let b = number_at(input, 69);
     print_feed(reports::feed_report(
-        hash::part(input, 69, s),
-        hash::part(input, 69 + s, g),
-        hash::part(input, 69 + s + g, t),
-        hash::part(input, 69 + s + g + t, h),
-        hash::part(input, 69 + s + g + t + h, e),
+        hash::part(input, 73, s),
+        hash::part(input, 73 + s, g),
+        hash::part(input, 73 + s + g, t),
+        hash::part(input, 73 + s + g + t, h),
+        hash::part(input, 73 + s + g + t + h, e),
         settings(input),
-        hash::part(input, 69 + s + g + t + h + e, b),
+        hash::part(input, 73 + s + g + t + h + e, b),
         reader(input),
         names,
         marks,
@@ -141,12 +142,12 @@ fn lend(
     line: &mut [u32],
     parents: &mut [u8],
 ) {
-    let a = lent(input, 21, names.len());
-    let b = lent(input, 25, marks.len());
-    let c = lent(input, 29, levels.len());
-    let d = lent(input, 33, times.len());
-    let e = lent(input, 37, line.len());
-    let f = lent(input, 41, parents.len());
+    let a = lent(input, 25, names.len());
+    let b = lent(input, 29, marks.len());
+    let c = lent(input, 33, levels.len());
+    let d = lent(input, 37, times.len());
+    let e = lent(input, 41, line.len());
+    let f = lent(input, 45, parents.len());
     run_feed(
         input,
         &mut names[..a],
@@ -158,14 +159,14 @@ fn lend(
     );
 }
 
-// A case, in memory for 512 places.
+// A case, in memory for 512 places of either kind.
 fn run_case(input: &[u8]) {
-    let mut names = [0u8; 10240];
+    let mut names = [0u8; 16384];
     let mut marks = [0u8; 512];
     let mut levels = [0u32; 512];
     let mut times = [0i64; 512];
     let mut line = [0u32; 2560];
-    let mut parents = [0u8; 5120];
+    let mut parents = [0u8; 8192];
     lend(
         input,
         &mut names,

@@ -4,20 +4,23 @@ use mathlib.Core.Path.{_≡_, refl, sym, _∙_, ap}
 use Prim.Native.Nat.{ℕ, _+_, _≤_}
 use mathlib.Core.Bool.{true}
 use mathlib.Core.Option.{Option, none, some}
-use mathlib.Core.List.{List}
+use mathlib.Core.List.{List, []}
 use native.Mathlib.Omega.{arith}
 use lib.ListN.{length}
-use Rattle.hash.specs.Bytes.{Id, idBytes, among, idsOf}
+use Rattle.hash.specs.Bytes.{Id, among, idsOf}
+use Rattle.hash.specs.Bytes.{widthOf}
+use Rattle.hash.specs.declared.Kind.{Kind}
+use Rattle.hash.specs.declared.Kind.the-variants.{Sha1, Sha256}
 use Rattle.feed.specs.declared.FeedOutcome.{FeedOutcome}
 use Rattle.walk.specs.declared.Refusal.{Refusal}
-use Rattle.walk.specs.Opening.{Input, walkOf, listIds, refusal, P, roomFor, Opening, closed, opened, openWalk}
+use Rattle.walk.specs.Opening.{Input, widthIn, walkOf, listIds, refusal, P, roomFor, Opening, closed, opened, openWalk}
 use Rattle.walk.specs.Next.{Answer}
 use Rattle.walk.specs.Calls.{answerAt}
 use Rattle.walk.specs.Demand.{Premises}
 use Rattle.walk.proofs.Calls.{answers-at}
 use Rattle.traverse.specs.Contract.{Lent, lengthsOf}
 use Rattle.traverse.proofs.Numbered.{length-upTo}
-use Rattle.tally.specs.Feeds.{noReading, feedAt, feedsOver}
+use Rattle.tally.specs.Feeds.{noReading, feedAt, feedFor, feedsOver}
 use Rattle.tally.proofs.Steps.{held-back, none-held}
 use Rattle.driver.specs.Walked.{allAnswers, wholeList}
 use Rattle.driver.proofs.Whole.{listed-whole}
@@ -57,13 +60,13 @@ module _ (reader : Reader) (e : List ℕ) (i : Input) (m : Lent) (r : FeedReport
       go (closed q) h = not-whole q (sym (ap (λ (x : FeedReport). x .outcome) (s .refused-open q h .0)) ∙ o)
       go (opened st) h =
           let k = s .accepted-open st h in
-          ap four k ∙ whole-four (readingsFor reader e (i .store)) i (sym (ap (λ (x : FeedReport). x .outcome) k) ∙ o)
+          ap four k ∙ whole-four (readingsFor (widthIn i) reader e (i .store)) i (sym (ap (λ (x : FeedReport). x .outcome) k) ∙ o)
 
-  of-listed : goodList e ≡ true → refusal i ≡ none → roomFor i (lengthsOf m) ≡ true → Premises (walkOf i) (listIds (i .tips)) → OfListed reader e i r
+  of-listed : goodList (widthIn i) e ≡ true → refusal i ≡ none → roomFor i (lengthsOf m) ≡ true → Premises (walkOf i) (listIds (widthIn i) (i .tips)) → OfListed reader e i r
   unfolding feedReport reportBy
   of-listed good none-refused room pre =
       let q = listed-whole i none-refused pre in
-      let f : Id → FeedOutcome = readingsFor reader e (i .store) in
+      let f : Id → FeedOutcome = readingsFor (widthIn i) reader e (i .store) in
       let d = q .0 in
       let n : length (allAnswers i) ≡ P i + 2 = ap (λ (x : List Answer). length x) (answers-at i (P i + 2)) ∙ length-upTo (answerAt i) (P i + 2) in
       record {
@@ -81,22 +84,27 @@ feed-demand reader e i m = record { adds-up = λ r m′ s. adds reader e i m r m
 
 -- ---- what each reader is given
 
-shop-readings : (e s : List ℕ) → readingsFor Shop e s ≡ feedAt idBytes s
+-- an empty list has no ids
+none-listed : (kind : Kind) → listIds (widthOf kind) [] ≡ []
 unfolding listIds idsOf
-shop-readings e s = λ j x. none-held idBytes s x j
+none-listed Sha1 = refl
+none-listed Sha256 = refl
 
-shop-says : (e : List ℕ) (i : Input) (m : Lent) (r : FeedReport) (m′ : Lent) → goodList e ≡ true → FeedSays Shop e i m r m′ → ShopSays i m r m′
+shop-readings : (kind : Kind) (e s : List ℕ) → readingsFor (widthOf kind) Shop e s ≡ feedAt (widthOf kind) s
+shop-readings kind e s = ap (λ (l : List Id). feedFor (widthOf kind) l s) (none-listed kind) ∙ (λ j x. none-held (widthOf kind) s x j)
+
+shop-says : (e : List ℕ) (i : Input) (m : Lent) (r : FeedReport) (m′ : Lent) → goodList (widthIn i) e ≡ true → FeedSays Shop e i m r m′ → ShopSays i m r m′
 unfolding feedReport
 shop-says e i m r m′ good s =
     let o = good-opens i e (roomFor i (lengthsOf m)) good in
     record {
       refused-open = λ q h. s .refused-open q (o ∙ h);
-      accepted-open = λ st h. s .accepted-open st (o ∙ h) ∙ ap (λ (f : Id → FeedOutcome). reportBy f i) (shop-readings e (i .store));
+      accepted-open = λ st h. s .accepted-open st (o ∙ h) ∙ ap (λ (f : Id → FeedOutcome). reportBy f i) (shop-readings (i .settings .kind) e (i .store));
       same-lengths = s .same-lengths;
     }
 
 pub readers-given : (e : List ℕ) (i : Input) → ReadersGiven e i
 unfolding feedReport
 readers-given e i =
-    let held : (x : Id) → among x (listIds e) ≡ true → readingsFor Outside e (i .store) x ≡ noReading = λ x h. sym (held-back idBytes (listIds e) (i .store) x h) in
+    let held : (x : Id) → among x (listIds (widthIn i) e) ≡ true → readingsFor (widthIn i) Outside e (i .store) x ≡ noReading = λ x h. sym (held-back (widthIn i) (listIds (widthIn i) e) (i .store) x h) in
     record { shop = shop-says e i; neither = held; no-fault = λ x h. ap faultIn (held x h); none-embargoed = refl }

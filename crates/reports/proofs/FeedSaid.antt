@@ -9,7 +9,7 @@ use Rattle.walk.specs.declared.Refusal.{Refusal}
 use Rattle.walk.specs.declared.Outcome.{Outcome}
 use Rattle.walk.specs.declared.OpenOutcome.{OpenOutcome}
 use Rattle.walk.specs.State.{State}
-use Rattle.walk.specs.Opening.{Input, P, roomFor, closed, opened, openWalk}
+use Rattle.walk.specs.Opening.{Input, widthIn, P, roomFor, closed, opened, openWalk}
 use Rattle.walk.specs.Calls.{answers}
 use Rattle.walk.specs.AnyInput.{handedIds}
 use Rattle.traverse.specs.Contract.{Lent, lengthsOf}
@@ -33,31 +33,31 @@ module _ {i : Input} {m : Lent} {d : Driven} {m′ : Lent} {embargoed terms ids 
   pub low-feeds : LowFeeds (d .tally .feeds)
   low-feeds = few-up 1048578 4294967296 (d .tally) (omega arith) (s .few) .feeds
 
-  accepted : (st : State) → openWalk i (roomFor i (lengthsOf m)) ≡ opened st → reportOf d ≡ reportBy (seen embargoed (i .store)) i
+  accepted : (st : State) → openWalk i (roomFor i (lengthsOf m)) ≡ opened st → reportOf d ≡ reportBy (seen (widthIn i) embargoed (i .store)) i
   unfolding reportBy wholeList
-  accepted st e = go (firstFault (seen embargoed (i .store)) (answers i (v .calls))) refl
+  accepted st e = go (firstFault (seen (widthIn i) embargoed (i .store)) (answers i (v .calls))) refl
     where
       v : Drove Feed embargoed (goodPart terms) i (holding noTally ids (zeros (length counts))) (m .parents) d m′ ids′ counts′
       v = s .accepted-open st e
 
-      t : Told (seen embargoed (i .store)) (answers i (v .calls)) (holding (d .tally) ids′ counts′)
-      t = subst (Told (seen embargoed (i .store)) (answers i (v .calls))) (sym (v .made .held)) (told-all i ids embargoed (goodPart terms) (zeros (length counts)) (v .calls))
+      t : Told (seen (widthIn i) embargoed (i .store)) (answers i (v .calls)) (holding (d .tally) ids′ counts′)
+      t = subst (Told (seen (widthIn i) embargoed (i .store)) (answers i (v .calls))) (sym (v .made .held)) (told-all i ids embargoed (goodPart terms) (zeros (length counts)) (v .calls))
 
-      one : (f : Option Refusal) → firstFault (seen embargoed (i .store)) (answers i (v .calls)) ≡ f → reportOf d ≡ reportAfter (asReason f) (d .tally .feeds)
+      one : (f : Option Refusal) → firstFault (seen (widthIn i) embargoed (i .store)) (answers i (v .calls)) ≡ f → reportOf d ≡ reportAfter (asReason f) (d .tally .feeds)
       one f h =
           ap (λ (o : OpenOutcome). openedBy o (d .tally .reason) (d .tally .feeds)) (v .made .accepted)
           ∙ ap (λ (o : Outcome). reportAfter o (d .tally .feeds)) (t .reason ∙ ap asReason h)
 
-      go : (f : Option Refusal) → firstFault (seen embargoed (i .store)) (answers i (v .calls)) ≡ f
-          → reportOf d ≡ reportFrom (firstFault (seen embargoed (i .store)) (allAnswers i)) (feedsOver (seen embargoed (i .store)) (handedIds (allAnswers i)))
+      go : (f : Option Refusal) → firstFault (seen (widthIn i) embargoed (i .store)) (answers i (v .calls)) ≡ f
+          → reportOf d ≡ reportFrom (firstFault (seen (widthIn i) embargoed (i .store)) (allAnswers i)) (feedsOver (seen (widthIn i) embargoed (i .store)) (handedIds (allAnswers i)))
       go none h =
           let n = v .whole (ap isRefusal (t .reason ∙ ap asReason h)) in
           one none h
-          ∙ ap wholeReport (t .feeds ∙ ap (λ (j : ℕ). feedsOver (seen embargoed (i .store)) (handedIds (answers i j))) n)
-          ∙ ap (λ (f : Option Refusal). reportFrom f (feedsOver (seen embargoed (i .store)) (handedIds (allAnswers i)))) (sym (subst (λ (j : ℕ). firstFault (seen embargoed (i .store)) (answers i j) ≡ none) n h))
+          ∙ ap wholeReport (t .feeds ∙ ap (λ (j : ℕ). feedsOver (seen (widthIn i) embargoed (i .store)) (handedIds (answers i j))) n)
+          ∙ ap (λ (f : Option Refusal). reportFrom f (feedsOver (seen (widthIn i) embargoed (i .store)) (handedIds (allAnswers i)))) (sym (subst (λ (j : ℕ). firstFault (seen (widthIn i) embargoed (i .store)) (answers i j) ≡ none) n h))
       go (some r) h =
           one (some r) h
-          ∙ ap (λ (f : Option Refusal). reportFrom f (feedsOver (seen embargoed (i .store)) (handedIds (allAnswers i)))) (sym (fault-stays (seen embargoed (i .store)) i r (v .calls) (P i + 2) (v .few) h))
+          ∙ ap (λ (f : Option Refusal). reportFrom f (feedsOver (seen (widthIn i) embargoed (i .store)) (handedIds (allAnswers i)))) (sym (fault-stays (seen (widthIn i) embargoed (i .store)) i r (v .calls) (P i + 2) (v .few) h))
 
   -- the readings of the embargoed ids are those that this reader is not given, and the list refuses in no way
   pub feed-says : {reader : Reader} {e : List ℕ} {r : FeedReport} → embargoed ≡ withheld reader e → embargoFault i e ≡ none → r ≡ reportOf d → FeedSays reader e i m r m′
@@ -66,7 +66,7 @@ module _ {i : Input} {m : Lent} {d : Driven} {m′ : Lent} {embargoed terms ids 
       let o : openEmbargoed i e (roomFor i (lengthsOf m)) ≡ openWalk i (roomFor i (lengthsOf m)) = fine-opens i e (roomFor i (lengthsOf m)) g in
       record {
         refused-open = λ q h. let u = s .refused-open q (sym o ∙ h) in (b ∙ ap reportOf (u .0), u .1);
-        accepted-open = λ st h. b ∙ accepted st (sym o ∙ h) ∙ ap (λ (l : List ℕ). reportBy (seen l (i .store)) i) w;
+        accepted-open = λ st h. b ∙ accepted st (sym o ∙ h) ∙ ap (λ (l : List ℕ). reportBy (seen (widthIn i) l (i .store)) i) w;
         same-lengths = s .same-lengths;
       }
 

@@ -7,11 +7,11 @@ use mathlib.Core.Bool.{true}
 use mathlib.Core.Option.{Option, none, some}
 use mathlib.Core.List.{List, [], _∷_}
 use lib.ListN.{length}
-use Rattle.hash.specs.Bytes.{Id, idBytes, among, ifSome}
+use Rattle.hash.specs.Bytes.{Id, among, ifSome}
 use Rattle.feed.specs.declared.FeedOutcome.{FeedOutcome}
 use Rattle.walk.specs.declared.Refusal.{Refusal}
 use Rattle.walk.specs.State.{State}
-use Rattle.walk.specs.Opening.{Input, walkOf, listIds, refusal, roomFor, openWalk, closed, opened}
+use Rattle.walk.specs.Opening.{Input, widthIn, walkOf, listIds, refusal, roomFor, openWalk, closed, opened}
 use Rattle.walk.specs.Reach.{Mem, NoDup}
 use Rattle.walk.specs.Demand.{Premises, Listed}
 use Rattle.traverse.specs.Contract.{Lent, lengthsOf}
@@ -32,28 +32,28 @@ faultOver f (x ∷ xs) = let later = faultOver f xs in ifSome (faultIn (f x)) la
 pub record OfListed (reader : Reader) (e : List ℕ) (i : Input) (r : FeedReport) : Type 0 where
   pub list : List Id
   pub no-repeats : NoDup list
-  pub exactly : (x : Id) → Mem x list ↔ Listed (walkOf i) (listIds (i .tips)) x
-  pub is : r ≡ reportFrom (faultOver (readingsFor reader e (i .store)) list) (feedsOver (readingsFor reader e (i .store)) list)
+  pub exactly : (x : Id) → Mem x list ↔ Listed (walkOf i) (listIds (widthIn i) (i .tips)) x
+  pub is : r ≡ reportFrom (faultOver (readingsFor (widthIn i) reader e (i .store)) list) (feedsOver (readingsFor (widthIn i) reader e (i .store)) list)
 
 -- card 5's report, which knows of no embargo: refused as the opening is, or over the readings of the store
 pub record ShopSays (i : Input) (m : Lent) (r : FeedReport) (m′ : Lent) : Type 0 where
   pub refused-open : (q : Refusal) → openWalk i (roomFor i (lengthsOf m)) ≡ closed q → (r ≡ refusedReport q) × (m′ ≡ m)
-  pub accepted-open : (st : State) → openWalk i (roomFor i (lengthsOf m)) ≡ opened st → r ≡ reportBy (feedAt idBytes (i .store)) i
+  pub accepted-open : (st : State) → openWalk i (roomFor i (lengthsOf m)) ≡ opened st → r ≡ reportBy (feedAt (widthIn i) (i .store)) i
   pub same-lengths : lengthsOf m′ ≡ lengthsOf m
 
 -- of `feed_report` with the input i, the list e of embargoed ids and the lent memory m, whatever it gave back
 pub record FeedDemand (reader : Reader) (e : List ℕ) (i : Input) (m : Lent) : Type 0 where
   -- "Unless refused, the four numbers add up to the runs handed out."
   pub adds-up : (r : FeedReport) (m′ : Lent) → FeedSays reader e i m r m′ → r .outcome ≡ Whole → r .both + r .cone + r .bed + r .neither ≡ length (wholeList i)
-  pub demanded : (r : FeedReport) (m′ : Lent) → FeedSays reader e i m r m′ → goodList e ≡ true → refusal i ≡ none → roomFor i (lengthsOf m) ≡ true
-      → Premises (walkOf i) (listIds (i .tips)) → OfListed reader e i r
+  pub demanded : (r : FeedReport) (m′ : Lent) → FeedSays reader e i m r m′ → goodList (widthIn i) e ≡ true → refusal i ≡ none → roomFor i (lengthsOf m) ≡ true
+      → Premises (walkOf i) (listIds (widthIn i) (i .tips)) → OfListed reader e i r
 
 -- what each reader is given (card 10)
 pub record ReadersGiven (e : List ℕ) (i : Input) : Type 0 where
   -- "The shop's reader sees all": with any good list its report is card 5's
-  pub shop : (m : Lent) (r : FeedReport) (m′ : Lent) → goodList e ≡ true → FeedSays Shop e i m r m′ → ShopSays i m r m′
+  pub shop : (m : Lent) (r : FeedReport) (m′ : Lent) → goodList (widthIn i) e ≡ true → FeedSays Shop e i m r m′ → ShopSays i m r m′
   -- "its feed counts as neither reading", and "Readings embargoed from the outside reader never cause 21 or 22 there"
-  pub neither : (x : Id) → among x (listIds e) ≡ true → readingsFor Outside e (i .store) x ≡ noReading
-  pub no-fault : (x : Id) → among x (listIds e) ≡ true → faultIn (readingsFor Outside e (i .store) x) ≡ none
+  pub neither : (x : Id) → among x (listIds (widthIn i) e) ≡ true → readingsFor (widthIn i) Outside e (i .store) x ≡ noReading
+  pub no-fault : (x : Id) → among x (listIds (widthIn i) e) ≡ true → faultIn (readingsFor (widthIn i) Outside e (i .store) x) ≡ none
   -- with nothing embargoed an outside reader is given what the shop's is
   pub none-embargoed : feedReport Outside [] i ≡ feedReport Shop e i

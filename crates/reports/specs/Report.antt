@@ -8,7 +8,7 @@ use mathlib.Core.List.{List, [], _∷_}
 use lib.ListN.{length}
 use lib.Dec.{eqb, leb}
 use lib.IntN.{pos, _-ℤ_}
-use Rattle.hash.specs.Bytes.{Id, idBytes, ifSome}
+use Rattle.hash.specs.Bytes.{Id, ifSome}
 use Rattle.feed.specs.declared.FeedOutcome.{FeedOutcome}
 use Rattle.feed.specs.declared.FeedOutcome.the-variants.{Read, Faulty}
 use Rattle.walk.specs.declared.Refusal.{Refusal}
@@ -18,7 +18,7 @@ use Rattle.walk.specs.declared.Outcome.the-variants.{Commit, End, Refused as St
 use Rattle.walk.specs.declared.OpenOutcome.{OpenOutcome}
 use Rattle.walk.specs.declared.OpenOutcome.the-variants.{Accepted, NotOpened}
 use Rattle.walk.specs.State.{State}
-use Rattle.walk.specs.Opening.{Input, listIds, listLimit, sizesOk, wholeIds, roomFor, Opening, openWalk, closed, opened}
+use Rattle.walk.specs.Opening.{Input, widthIn, listIds, listLimit, sizesOk, wholeIds, roomFor, Opening, openWalk, closed, opened}
 use Rattle.walk.specs.Next.{Kind, end, refused, handed, Answer}
 use Rattle.traverse.specs.Contract.{Lent, lengthsOf}
 use Rattle.driver.specs.declared.Driven.{Driven}
@@ -83,23 +83,23 @@ abbrev pub withheld : Reader → List ℕ → List ℕ
 withheld Shop e = []
 withheld Outside e = e
 
--- the readings of commits that a reader is given; e is the list of embargoed ids, as lent
-abbrev pub readingsFor : Reader → List ℕ → List ℕ → Id → FeedOutcome
-readingsFor reader e s = feedFor idBytes (listIds (withheld reader e)) s
+-- the readings of commits, their ids so wide, that a reader is given; e is the list of embargoed ids, as lent
+abbrev pub readingsFor : ℕ → Reader → List ℕ → List ℕ → Id → FeedOutcome
+readingsFor width reader e s = feedFor width (listIds width (withheld reader e)) s
 
 unfoldable pub feedReport : Reader → List ℕ → Input → FeedReport
-feedReport reader e i = reportBy (readingsFor reader e (i .store)) i
+feedReport reader e i = reportBy (readingsFor (widthIn i) reader e (i .store)) i
 
 -- ---- the opening: "The list of embargoed ids is a list for 2 and 3", for either reader; then as any opening
 
 -- a list that neither refuses
-abbrev pub goodList : List ℕ → Bool
-goodList e = leb (length e) listLimit && eqb (length e % idBytes) 0
+abbrev pub goodList : ℕ → List ℕ → Bool
+goodList width e = leb (length e) (listLimit width) && eqb (length e % width) 0
 
 unfoldable pub openEmbargoed : Input → List ℕ → Bool → Opening
 openEmbargoed i e room =
-    let three : Opening = cond (wholeIds i && eqb (length e % idBytes) 0) (openWalk i room) (closed PartialId) in
-    cond (sizesOk i && leb (length e) listLimit) three (closed InputTooLarge)
+    let three : Opening = cond (wholeIds i && eqb (length e % widthIn i) 0) (openWalk i room) (closed PartialId) in
+    cond (sizesOk i && leb (length e) (listLimit (widthIn i))) three (closed InputTooLarge)
 
 -- ---- feed_report: refused as the opening is, with no lent byte altered; or the report of the whole walk, with all lent memory free
 pub record FeedSays (reader : Reader) (e : List ℕ) (i : Input) (m : Lent) (r : FeedReport) (m′ : Lent) : Type 0 where
@@ -113,8 +113,8 @@ pub record FeedSays (reader : Reader) (e : List ℕ) (i : Input) (m : Lent) (r :
 unfoldable pub embargoFault : Input → List ℕ → Option Refusal
 embargoFault i e =
     let three : Option Refusal = cond (sizesOk i) (some PartialId) (some InputTooLarge) in
-    let whole : Option Refusal = cond (eqb (length e % idBytes) 0) none three in
-    cond (leb (length e) listLimit) whole (some InputTooLarge)
+    let whole : Option Refusal = cond (eqb (length e % widthIn i) 0) none three in
+    cond (leb (length e) (listLimit (widthIn i))) whole (some InputTooLarge)
 
 -- by the first refusal, or End
 abbrev pub reportAfter : Outcome → Feeds → FeedReport

@@ -14,6 +14,7 @@ ghost use lib.Dec.{leb};
 ghost use lib.IntN.{pos, _-ℤ_};
 ghost use lib.ListN.{length};
 ghost use Prim.Native.Nat.{_<_};
+ghost use Rattle.hash.specs.Bytes.{widthOf};
 ghost use Rattle.walk.specs.Opening.{listLimit};
 ghost use Rattle.opening.specs.Checks.{inputOf, checkedOf};
 ghost use Rattle.traverse.specs.Open.{lentOf};
@@ -121,15 +122,16 @@ fn report_of(d: Driven) -> FeedReport
 const MOST_IDS: usize = 1024;
 
 // Whether a list has at most the bytes of 1,024 ids.
-fn list_fits(list: &[u8]) -> bool
-    ensures { λ r. ⌜ r ≡ leb (length (now (list .entry))) listLimit ⌝ }
+fn list_fits(kind: Kind, list: &[u8]) -> bool
+    ensures { λ r. ⌜ r ≡ leb (length (now (list .entry))) (listLimit (widthOf kind)) ⌝ }
 {
-    list.len() <= MOST_IDS * hash::width(Kind::Sha1)
+    list.len() <= MOST_IDS * hash::width(kind)
 }
 
 // Refusals 2 and 3 of the embargoed list, in their places among the opening's. 3 comes after every 2, so with a list that is not of whole ids the others
 // are tested for 2: by the opening's own tests, with this list in the place of the excluded ids, where they end with 2 or 3.
 fn check_embargoed(
+    kind: Kind,
     store: &[u8],
     graph: &[u8],
     tips: &[u8],
@@ -137,18 +139,18 @@ fn check_embargoed(
     excluded: &[u8],
     embargoed: &[u8],
 ) -> Checked
-    ensures { λ r. ⌜ ((s : Settings) → r ≡ checkedOf (embargoFault (inputOf (now (store .entry)) (now (graph .entry)) (now (tips .entry)) (now (hidden .entry)) (now (excluded .entry)) s) (now (embargoed .entry)))) ⌝ }
+    ensures { λ r. ⌜ ((s : Settings) → s .kind ≡ kind → r ≡ checkedOf (embargoFault (inputOf (now (store .entry)) (now (graph .entry)) (now (tips .entry)) (now (hidden .entry)) (now (excluded .entry)) s) (now (embargoed .entry)))) ⌝ }
 {
-    if !list_fits(embargoed) {
+    if !list_fits(kind, embargoed) {
         return Checked::Refused(Refusal::InputTooLarge);
     }
-    if hash::whole(Kind::Sha1, embargoed.len()) {
+    if hash::whole(kind, embargoed.len()) {
         return Checked::Fine;
     }
-    if !list_fits(excluded) {
+    if !list_fits(kind, excluded) {
         return Checked::Refused(Refusal::InputTooLarge);
     }
-    opening::check_input(store, graph, tips, hidden, embargoed)
+    opening::check_input(kind, store, graph, tips, hidden, embargoed)
 }
 
 // The ids whose readings a reader is not given.
@@ -181,11 +183,12 @@ pub fn feed_report(
 ) -> FeedReport
     ensures { λ r. ⌜ FeedSays reader (now (embargoed .entry)) (inputOf (now (store .entry)) (now (graph .entry)) (now (tips .entry)) (now (hidden .entry)) (now (excluded .entry)) settings) (lentOf (now (names .entry)) (now (marks .entry)) (now (levels .entry)) (now (times .entry)) (now (line .entry)) (now (parents .entry))) r (lentOf (now (names .exit)) (now (marks .exit)) (now (levels .exit)) (now (times .exit)) (now (line .exit)) (now (parents .exit))) ⌝ }
 {
+    let kind = settings.kind;
     // No id is set down, and nothing is counted by terms.
     let mut ids = [0u8; 1];
     let terms = [0u32; 1];
     let mut counts = [0u64; 1];
-    match check_embargoed(store, graph, tips, hidden, excluded, embargoed) {
+    match check_embargoed(kind, store, graph, tips, hidden, excluded, embargoed) {
         Checked::Refused(r) => refused_report(r),
         Checked::Fine => report_of(driver::drive(
             Task::Feed,

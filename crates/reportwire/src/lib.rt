@@ -1,5 +1,5 @@
-// Reports over a whole walk for callers in other languages: settings as numbers, and a report's numbers in lent slices. Every function is total on
-// any bytes, numbers and lengths.
+// Reports over a whole walk for callers in other languages: the width of ids and the settings as numbers, and a report's numbers in lent slices. Every
+// function is total on any bytes, numbers and lengths.
 pub mod terms;
 
 use reports::FeedReport;
@@ -74,6 +74,7 @@ fn reader_of(outside: u32) -> Reader
 
 // The feed report of a whole walk for a reader, set down; without room for it nothing is altered and the result is 101.
 pub fn feed(
+    width: u32,
     store: &[u8],
     graph: &[u8],
     tips: &[u8],
@@ -94,12 +95,12 @@ pub fn feed(
     numbers: &mut [u64],
     difference: &mut [i64],
 ) -> u32
-    ensures { λ n. ⌜ LibraryFeed (readerOf outside) (now (embargoed .entry)) (inputOf (now (store .entry)) (now (graph .entry)) (now (tips .entry)) (now (hidden .entry)) (now (excluded .entry)) (settingsOf sorting limited cutoff first)) (lentOf (now (names .entry)) (now (marks .entry)) (now (levels .entry)) (now (times .entry)) (now (line .entry)) (now (parents .entry))) (lentOf (now (names .exit)) (now (marks .exit)) (now (levels .exit)) (now (times .exit)) (now (line .exit)) (now (parents .exit))) (now (numbers .entry)) (now (numbers .exit)) (now (difference .entry)) (now (difference .exit)) n ⌝ }
+    ensures { λ n. ⌜ LibraryFeed (readerOf outside) (now (embargoed .entry)) (inputOf (now (store .entry)) (now (graph .entry)) (now (tips .entry)) (now (hidden .entry)) (now (excluded .entry)) (settingsOf width sorting limited cutoff first)) (lentOf (now (names .entry)) (now (marks .entry)) (now (levels .entry)) (now (times .entry)) (now (line .entry)) (now (parents .entry))) (lentOf (now (names .exit)) (now (marks .exit)) (now (levels .exit)) (now (times .exit)) (now (line .exit)) (now (parents .exit))) (now (numbers .entry)) (now (numbers .exit)) (now (difference .entry)) (now (difference .exit)) n ⌝ }
 {
     if !can_feed(numbers, difference) {
         return NO_ROOM;
     }
-    let settings = wire::settings_of(sorting, limited, cutoff, first);
+    let settings = wire::settings_of(width, sorting, limited, cutoff, first);
     let reader = reader_of(outside);
     let r = reports::feed_report(
         store,

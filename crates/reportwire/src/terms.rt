@@ -29,6 +29,7 @@ fn put_outside(r: TermsReport, numbers: &mut [u64]) -> u32
 // The report of a whole walk by terms, set down: a count for each term, 0 in every place of counts past them, and the commits outside all; without room
 // for it nothing is altered and the result is 101.
 pub fn terms(
+    width: u32,
     store: &[u8],
     graph: &[u8],
     tips: &[u8],
@@ -48,12 +49,12 @@ pub fn terms(
     counts: &mut [u64],
     numbers: &mut [u64],
 ) -> u32
-    ensures { λ n. ⌜ LibraryTerms (inputOf (now (store .entry)) (now (graph .entry)) (now (tips .entry)) (now (hidden .entry)) (now (excluded .entry)) (settingsOf sorting limited cutoff first)) (now (months .entry)) (lentOf (now (names .entry)) (now (marks .entry)) (now (levels .entry)) (now (times .entry)) (now (line .entry)) (now (parents .entry))) (lentOf (now (names .exit)) (now (marks .exit)) (now (levels .exit)) (now (times .exit)) (now (line .exit)) (now (parents .exit))) (now (counts .entry)) (now (counts .exit)) (now (numbers .entry)) (now (numbers .exit)) n ⌝ }
+    ensures { λ n. ⌜ LibraryTerms (inputOf (now (store .entry)) (now (graph .entry)) (now (tips .entry)) (now (hidden .entry)) (now (excluded .entry)) (settingsOf width sorting limited cutoff first)) (now (months .entry)) (lentOf (now (names .entry)) (now (marks .entry)) (now (levels .entry)) (now (times .entry)) (now (line .entry)) (now (parents .entry))) (lentOf (now (names .exit)) (now (marks .exit)) (now (levels .exit)) (now (times .exit)) (now (line .exit)) (now (parents .exit))) (now (counts .entry)) (now (counts .exit)) (now (numbers .entry)) (now (numbers .exit)) n ⌝ }
 {
     if !can_count(months, counts, numbers) {
         return super::NO_ROOM;
     }
-    let settings = wire::settings_of(sorting, limited, cutoff, first);
+    let settings = wire::settings_of(width, sorting, limited, cutoff, first);
     let r = termsreport::terms_report(
         store,
         graph,

@@ -8,7 +8,7 @@ use native.Mathlib.Omega.{arith}
 use lib.ListN.{length, take, drop, getD, length-take}
 use lib.Seq.{length-take-le, take-suc}
 use lib.IntN.{ℤ, pos}
-use Rattle.hash.specs.Bytes.{Id, idBytes, at, setDown}
+use Rattle.hash.specs.Bytes.{Id, at, setDown, widthOf}
 use Rattle.object.specs.Header.{most}
 use Rattle.commitgraph.specs.Graph.{graphOk, graphParents, layoutOf, idIn, secondsIn, parentIn, parentsIn}
 use Rattle.commitgraph.specs.declared.Layout.{Layout}
@@ -32,48 +32,52 @@ use Rattle.rowvisit.specs.Row.{Follows, SetsParent, VisitsRowParent, Vis
 
 -- ---- one id is set down
 
-pub parent-set : {k : ℕ} {x b b′ : List ℕ} → length x ≤ idBytes → b′ ≡ setDown b (idBytes * k) x → SetsParent k x b b′
-parent-set {k} {x} {b} h e = record {
+pub parent-set : {width : ℕ} {k : ℕ} {x b b′ : List ℕ} → length x ≤ width → b′ ≡ setDown b (width * k) x → SetsParent width k x b b′
+parent-set {width} {k} {x} {b} h e = record {
   down = λ i n. e;
-  past = record { same = λ j i. ap (λ (l : List ℕ). getD l j 0) e ∙ set-down-past b (idBytes * k) x j (omega arith) };
+  past = record { same = λ j i. ap (λ (l : List ℕ). getD l j 0) e ∙ set-down-past b (width * k) x j (omega arith) };
 }
 
 -- a parent past the most, or an id that does not fit its place
-pub parent-left : {k : ℕ} {x b : List ℕ} → (k < most → length x ≤ idBytes → ⊥) → SetsParent k x b b
+pub parent-left : {width : ℕ} {k : ℕ} {x b : List ℕ} → (k < most → length x ≤ width → ⊥) → SetsParent width k x b b
 parent-left f = record { down = λ i n. absurd (f i n); past = past-none }
 
--- the id of a row's parent has at most 20 bytes, whatever the file holds
-pub row-narrow : (g : List ℕ) (p : ℕ) (ps : List (Id × ℤ)) (v : ℕ) (t : ℤ) → rowAt g p ≡ row ps v t → (k : ℕ) → k < length ps → length (getD ps k ([], pos 0) .0) ≤ idBytes
+-- the id of a row's parent has at most an id's bytes, whatever the file holds
+pub row-narrow : (width : ℕ) (g : List ℕ) (p : ℕ) (ps : List (Id × ℤ)) (v : ℕ) (t : ℤ) → rowAt width g p ≡ row ps v t → (k : ℕ) → k < length ps → length (getD ps k ([], pos 0) .0) ≤ width
 unfolding idIn at graphParents
-row-narrow g p ps v t e k h =
-    let q : ℕ = parentIn idBytes g (layoutOf idBytes g) p k in
-    let there = parent-there g p ps v t e {l = layoutOf idBytes g} {k = k} {q = parentIn idBytes g (layoutOf idBytes g) p k} refl refl h in
-    omega (arith, ap (λ (a : Id × ℤ). length (a .0)) there, length-take idBytes (drop (layoutOf idBytes g .ids + idBytes * q) g))
+row-narrow width g p ps v t e k h =
+    let q : ℕ = parentIn width g (layoutOf width g) p k in
+    let there = parent-there width g p ps v t e {l = layoutOf width g} {k = k} {q = parentIn width g (layoutOf width g) p k} refl refl h in
+    omega (arith, ap (λ (a : Id × ℤ). length (a .0)) there, length-take width (drop (layoutOf width g .ids + width * q) g))
 
 -- ---- the parents of a row
 
 -- q is the position that the row lists as its k-th parent
 pub row-parent : {excluded : List ℕ} {settings : Settings} {g : List ℕ} {l : Layout} {p k q : ℕ} {r r′ : Record} {m m′ : Memory} {b b′ : List ℕ} {y : Id}
-    → q ≡ parentIn idBytes g l p k → y ≡ idIn idBytes g l q → SetsParent k y b b′ → Visits excluded settings r m m′ y (secondsIn idBytes g l q) r′
+    → q ≡ parentIn (widthOf (settings .kind)) g l p k → y ≡ idIn (widthOf (settings .kind)) g l q → SetsParent (widthOf (settings .kind)) k y b b′ → Visits excluded settings r m m′ y (secondsIn (widthOf (settings .kind)) g l q) r′
     → VisitsRowParent excluded settings g l p k r m m′ b b′ r′
 row-parent {excluded} {settings} {g} {l} {p} {k} {q} {r} {r′} {m} {m′} {b} {b′} {y} read i d v = record {
   right = λ own ps u w e h.
-      let z = parent-there g p ps u w e own read h in
+      let z = parent-there (widthOf (settings .kind)) g p ps u w e own read h in
       let x : y ≡ getD ps k ([], pos 0) .0 = i ∙ ap (λ (a : Id × ℤ). a .0) z in (
-        subst (λ (a : Id × ℤ). Visits excluded settings r m m′ (a .0) (a .1) r′) z (subst (λ (j : Id). Visits excluded settings r m m′ j (secondsIn idBytes g l q) r′) i v),
-        d .down (omega (arith, h, row-few g p ps u w e)) (omega (arith, ap length x, row-narrow g p ps u w e k h)) ∙ ap (setDown b (idBytes * k)) x,
+        subst (λ (a : Id × ℤ). Visits excluded settings r m m′ (a .0) (a .1) r′) z (subst (λ (j : Id). Visits excluded settings r m m′ j (secondsIn (widthOf (settings .kind)) g l q) r′) i v),
+        d .down (omega (arith, h, row-few (widthOf (settings .kind)) g p ps u w e)) (omega (arith, ap length x, row-narrow (widthOf (settings .kind)) g p ps u w e k h)) ∙ ap (setDown b (widthOf (settings .kind) * k)) x,
       );
   past = d .past;
 }
 
 -- after k parents of the row at position p
 pub record RowRun (excluded : List ℕ) (settings : Settings) (g : List ℕ) (l : Layout) (p k : ℕ) (r : Record) (m m′ : Memory) (b b′ : List ℕ) (r′ : Record) : Type 0 where
-  pub right : graphOk idBytes g ≡ true → l ≡ layoutOf idBytes g → (ps : List (Id × ℤ)) (v : ℕ) (t : ℤ) → rowAt g p ≡ row ps v t → k ≤ length ps → Run excluded settings r m m′ b b′ (take k ps) r′
-  pub past : Past k b b′
+  pub right : graphOk (widthOf (settings .kind)) g ≡ true → l ≡ layoutOf (widthOf (settings .kind)) g → (ps : List (Id × ℤ)) (v : ℕ) (t : ℤ) → rowAt (widthOf (settings .kind)) g p ≡ row ps v t → k ≤ length ps → Run excluded settings r m m′ b b′ (take k ps) r′
+  pub past : Past (widthOf (settings .kind)) k b b′
 
 module _ {excluded : List ℕ} {settings : Settings} {g : List ℕ} {l : Layout} {p : ℕ} {r : Record} {m : Memory} {b : List ℕ} where
   pub row-start : RowRun excluded settings g l p 0 r m m b b r
   row-start = record { right = λ ok own ps v t e h. run-start; past = past-none }
+
+  -- from a record that is the same
+  pub row-from : {r′ : Record} → r′ ≡ r → RowRun excluded settings g l p 0 r m m b b r′
+  row-from e = subst (λ (z : Record). RowRun excluded settings g l p 0 r m m b b z) (sym e) row-start
 
   pub row-next : {k : ℕ} {r′ r″ : Record} {m′ m″ : Memory} {b′ b″ : List ℕ} → RowRun excluded settings g l p k r m m′ b b′ r′ → VisitsRowParent excluded settings g l p k r′ m′ m″ b′ b″ r″
       → RowRun excluded settings g l p (k + 1) r m m″ b b″ r″
@@ -83,13 +87,17 @@ module _ {excluded : List ℕ} {settings : Settings} {g : List ℕ} {l : Layout}
         let n : k + 1 ≡ suc k = omega arith in
         let w = one .right own ps v t e s in
         run-next (take (k + 1) ps) (getD ps k ([], pos 0)) k (ap (λ (j : ℕ). take j ps) n ∙ take-suc ps k ([], pos 0) s) (length-take-le k ps (omega arith))
-        (omega (arith, s, row-few g p ps v t e)) (row-width g p ps v t e ok k s) (run .right ok own ps v t e (omega arith)) (w .0) (w .1);
+        (omega (arith, s, row-few (widthOf (settings .kind)) g p ps v t e)) (row-width (widthOf (settings .kind)) g p ps v t e ok k s) (run .right ok own ps v t e (omega arith)) (w .0) (w .1);
     past = past-next (run .past) (one .past);
   }
 
   pub row-done : {k n : ℕ} {r′ : Record} {m′ : Memory} {b′ : List ℕ} → RowRun excluded settings g l p k r m m′ b b′ r′ → k ≡ n → VisitsRow excluded settings g l p n r m m′ b b′ r′
   row-done {k} {n} {r′} {m′} {b′} run e =
       subst (λ (j : ℕ). VisitsRow excluded settings g l p j r m m′ b b′ r′) e (record { right = λ ok own ps v t q h. run .right ok own ps v t q h .all; past = run .past })
+
+-- to a record that is the same
+pub row-to : {excluded : List ℕ} {settings : Settings} {g : List ℕ} {l : Layout} {p n : ℕ} {r r′ r″ : Record} {m m′ : Memory} {b b′ : List ℕ} → r″ ≡ r′ → VisitsRow excluded settings g l p n r m m′ b b′ r′ → VisitsRow excluded settings g l p n r m m′ b b′ r″
+row-to {excluded} {settings} {g} {l} {p} {n} {r} {r′} {r″} {m} {m′} {b} {b′} e v = subst (λ (z : Record). VisitsRow excluded settings g l p n r m m′ b b′ z) (sym e) v
 
 -- ---- how many parents are followed
 
@@ -113,7 +121,7 @@ follows-all {settings} o = record { right = λ ps e. e ∙ ap length (sym (follo
 
 -- ---- the list is judged
 
-module _ {excluded : List ℕ} {settings : Settings} {g : List ℕ} {l : Layout} {p : ℕ} {r : Record} {m : Memory} {v b : List ℕ} {w : RowRead} (read : w ≡ rowReadOf (levelOf g l p) (parentsIn idBytes g l p)) where
+module _ {excluded : List ℕ} {settings : Settings} {g : List ℕ} {l : Layout} {p : ℕ} {r : Record} {m : Memory} {v b : List ℕ} {w : RowRead} (read : w ≡ rowReadOf (levelOf (widthOf (settings .kind)) g l p) (parentsIn (widthOf (settings .kind)) g l p)) where
   pub judged-good : {m′ : Memory} {v′ b′ : List ℕ} {r′ : Record} {n k : ℕ} {c : Level} → w ≡ RowAt n c → Follows settings n k → VisitsRow excluded settings g l p k r m m′ b b′ r′
       → VisitsCached excluded settings g l p r m m′ v v′ b b′ (Visited r′ k c)
   judged-good {m′} {v′} {b′} {r′} {n} {k} {c} e f d =

@@ -6,7 +6,7 @@ use mathlib.Core.Bool.{true}
 use mathlib.Core.List.{List, []}
 use lib.ListN.{length, take, getD}
 use lib.IntN.{ℤ, pos}
-use Rattle.hash.specs.Bytes.{Id, idBytes, setDown}
+use Rattle.hash.specs.Bytes.{Id, setDown, widthOf}
 use Rattle.object.specs.Header.{most}
 use Rattle.commitgraph.specs.Graph.{graphOk, layoutOf, parentsIn}
 use Rattle.commitgraph.specs.declared.Layout.{Layout}
@@ -23,21 +23,21 @@ use Rattle.links.specs.Visits.{Past, VisitsAll}
 use Rattle.rowvisit.specs.declared.row.RowVisited.{RowVisited}
 use Rattle.rowvisit.specs.declared.row.RowVisited.the-variants.{Visited, Corrupt as RowVisited·Corrupt}
 
--- the id x is set down as that of parent k, within its 20 bytes
-pub record SetsParent (k : ℕ) (x : Id) (b b′ : List ℕ) : Type 0 where
-  pub down : k < most → length x ≤ idBytes → b′ ≡ setDown b (idBytes * k) x
-  pub past : Past (k + 1) b b′
+-- the id x is set down as that of parent k, within the bytes of its place
+pub record SetsParent (width : ℕ) (k : ℕ) (x : Id) (b b′ : List ℕ) : Type 0 where
+  pub down : k < most → length x ≤ width → b′ ≡ setDown b (width * k) x
+  pub past : Past width (k + 1) b b′
 
 -- parent k of the row at position p is set down and visited
 pub record VisitsRowParent (excluded : List ℕ) (settings : Settings) (g : List ℕ) (l : Layout) (p k : ℕ) (r : Record) (m m′ : Memory) (b b′ : List ℕ) (r′ : Record) : Type 0 where
-  pub right : l ≡ layoutOf idBytes g → (ps : List (Id × ℤ)) (v : ℕ) (t : ℤ) → rowAt g p ≡ row ps v t → k < length ps
-      → Visits excluded settings r m m′ (getD ps k ([], pos 0) .0) (getD ps k ([], pos 0) .1) r′ × (b′ ≡ setDown b (idBytes * k) (getD ps k ([], pos 0) .0))
-  pub past : Past (k + 1) b b′
+  pub right : l ≡ layoutOf (widthOf (settings .kind)) g → (ps : List (Id × ℤ)) (v : ℕ) (t : ℤ) → rowAt (widthOf (settings .kind)) g p ≡ row ps v t → k < length ps
+      → Visits excluded settings r m m′ (getD ps k ([], pos 0) .0) (getD ps k ([], pos 0) .1) r′ × (b′ ≡ setDown b (widthOf (settings .kind) * k) (getD ps k ([], pos 0) .0))
+  pub past : Past (widthOf (settings .kind)) (k + 1) b b′
 
 -- the first n parents of the row at position p
 pub record VisitsRow (excluded : List ℕ) (settings : Settings) (g : List ℕ) (l : Layout) (p n : ℕ) (r : Record) (m m′ : Memory) (b b′ : List ℕ) (r′ : Record) : Type 0 where
-  pub right : graphOk idBytes g ≡ true → l ≡ layoutOf idBytes g → (ps : List (Id × ℤ)) (v : ℕ) (t : ℤ) → rowAt g p ≡ row ps v t → n ≤ length ps → VisitsAll excluded settings r m m′ b b′ (take n ps) r′
-  pub past : Past n b b′
+  pub right : graphOk (widthOf (settings .kind)) g ≡ true → l ≡ layoutOf (widthOf (settings .kind)) g → (ps : List (Id × ℤ)) (v : ℕ) (t : ℤ) → rowAt (widthOf (settings .kind)) g p ≡ row ps v t → n ≤ length ps → VisitsAll excluded settings r m m′ b b′ (take n ps) r′
+  pub past : Past (widthOf (settings .kind)) n b b′
 
 -- how many of n parents are followed
 pub record Follows (settings : Settings) (n k : ℕ) : Type 0 where
@@ -53,4 +53,4 @@ VisitedBy (RowAt n c) excluded settings g l p r m m′ v v′ b b′ a =
 
 -- the parents of the row at position p, with the levels v before and v′ after
 pub record VisitsCached (excluded : List ℕ) (settings : Settings) (g : List ℕ) (l : Layout) (p : ℕ) (r : Record) (m m′ : Memory) (v v′ b b′ : List ℕ) (a : RowVisited) : Type 0 where
-  pub judged : VisitedBy (rowReadOf (levelOf g l p) (parentsIn idBytes g l p)) excluded settings g l p r m m′ v v′ b b′ a
+  pub judged : VisitedBy (rowReadOf (levelOf (widthOf (settings .kind)) g l p) (parentsIn (widthOf (settings .kind)) g l p)) excluded settings g l p r m m′ v v′ b b′ a

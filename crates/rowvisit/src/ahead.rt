@@ -1,13 +1,17 @@
 // What the next calls will read, read before: along first parents, so that it comes from memory while this call goes on. Nothing is promised of it.
 use commitgraph::Layout;
-use commitgraph::rows;
 use hash::Kind;
-ghost use Prim.Native.Nat.{_<_};
+ghost use Prim.Native.Nat.{_<_, _≤_};
 
 // In a file of fewer commits all is near at hand.
 const MANY: usize = 2048;
 
-fn wide(x: u32) -> usize {
+// No chunk of a file begins past this, and what is added to a place here stays a number.
+const FAR: usize = 4611686018427387904;
+
+fn wide(x: u32) -> usize
+    ensures { λ r. ⌜ r < 4294967296 ⌝ }
+{
     x as usize
 }
 
@@ -17,29 +21,47 @@ fn small(b: u8) -> u32
     b as u32
 }
 
-// The first parent of the row at position p, as the row has it.
-fn first_parent(graph: &[u8], l: Layout, p: usize) -> usize {
-    wide(hash::be32(rows::row(Kind::Sha1, graph, l, p), 20))
+// The first four of eight bytes that were read as one number.
+fn high(x: u64) -> u32 {
+    (x / 4294967296) as u32
 }
 
-// Whether the row at position p and the id there are even: they are read.
-fn read_row(graph: &[u8], l: Layout, p: usize) -> u32
-    ensures { λ r. ⌜ r < 4 ⌝ }
+// How far past the first row the parents of row p stand.
+fn parents_of(kind: Kind, p: usize) -> usize
+    requires { ⌜ p < 4294967296 ⌝ }
+    ensures { λ r. ⌜ r < 1099511627776 ⌝ }
 {
-    let row = hash::be32(rows::row(Kind::Sha1, graph, l, p), 20) % 2;
-    let id = hash::be32(rows::id_at(Kind::Sha1, graph, l, p), 0) % 2;
-    row + id
+    let w = hash::width(kind);
+    (w + 16) * p + w
+}
+
+// How far past the first id the id of number p stands.
+fn id_of(kind: Kind, p: usize) -> usize
+    requires { ⌜ p < 4294967296 ⌝ }
+    ensures { λ r. ⌜ r < 1099511627776 ⌝ }
+{
+    hash::width(kind) * p
+}
+
+// The number at a place, 0 past the end.
+fn number(s: &[u8], i: usize) -> usize
+    ensures { λ r. ⌜ r < 4294967296 ⌝ }
+{
+    wide(high(hash::head(s, i, 8)))
 }
 
 // The slot where an id is looked for first, and its mark: they are read.
-fn read_slot(id: &[u8], names: &[u8], marks: &[u8], cap: usize) -> u32
+fn read_slot(kind: Kind, id: usize, names: &[u8], marks: &[u8], cap: usize) -> u32
     ensures { λ r. ⌜ r < 512 ⌝ }
 {
     if cap == 0 {
         return 0;
     }
-    let home = wide(hash::be32(id, 0)) % cap;
-    small(hash::byte_at(marks, home)) + small(hash::byte_at(hash::nth(Kind::Sha1, names, home), 0))
+    let home = id % cap;
+    if 4294967296 <= home {
+        return 0;
+    }
+    small(hash::byte_at(marks, home)) + small(hash::byte_at(names, id_of(kind, home)))
 }
 
 // Leaves a number beside a slot.
@@ -49,9 +71,38 @@ fn leave(levels: &mut [u32], slot: usize, x: u32) {
     }
 }
 
-// Reads the row of a commit's first parent, the slot of the first parent's first parent, and the row and the id of the one after. What is read must go
+// Reads the row of the first parent that stands in position one, the slot of its own first parent, and the row and the id of the one after.
+fn read_on(
+    kind: Kind,
+    graph: &[u8],
+    rows: usize,
+    ids: usize,
+    one: usize,
+    names: &[u8],
+    marks: &[u8],
+    cap: usize,
+) -> u32
+    requires { ⌜ (rows ≤ 4611686018427387904) × (ids ≤ 4611686018427387904) × (one < 4294967296) ⌝ }
+    ensures { λ r. ⌜ r < 1024 ⌝ }
+{
+    let two = number(graph, rows + parents_of(kind, one));
+    let slot = read_slot(
+        kind,
+        number(graph, ids + id_of(kind, two)),
+        names,
+        marks,
+        cap,
+    );
+    let three = number(graph, rows + parents_of(kind, two));
+    let row = small(hash::byte_at(graph, rows + parents_of(kind, three)));
+    let id = small(hash::byte_at(graph, ids + id_of(kind, three)));
+    slot + row + id
+}
+
+// Reads what a call after the next will need, where a commit's first parent is in position first. What is read must go
 // somewhere, else the compiler leaves it out: beside the last slot, where any number only costs a search (`links`, what is noted beside a slot).
 pub(crate) fn look_ahead(
+    kind: Kind,
     graph: &[u8],
     l: Layout,
     first: u32,
@@ -60,21 +111,18 @@ pub(crate) fn look_ahead(
     cap: usize,
     levels: &mut [u32],
 ) {
-    let one = wide(first);
     if l.count <= MANY {
         return;
     }
-    if l.count <= one {
+    if FAR < l.rows {
         return;
     }
-    let two = first_parent(graph, l, one);
-    if l.count <= two {
+    if FAR < l.ids {
         return;
     }
-    let slot = read_slot(rows::id_at(Kind::Sha1, graph, l, two), names, marks, cap);
-    let row = read_row(graph, l, first_parent(graph, l, two));
     if levels.len() == 0 {
         return;
     }
-    leave(levels, levels.len() - 1, slot + row);
+    let x = read_on(kind, graph, l.rows, l.ids, wide(first), names, marks, cap);
+    leave(levels, levels.len() - 1, x);
 }

@@ -3,11 +3,12 @@
 use commitgraph::Layout;
 use commitgraph::Level;
 use commitgraph::rows;
+use hash::Kind;
 use reading::RowRead;
 ghost use mathlib.Core.Path.{_≡_};
 ghost use mathlib.Core.Bool.{cond};
 ghost use Prim.Native.Nat.{_+_, _*_, _/_, _<_, min};
-ghost use Rattle.hash.specs.Bytes.{idBytes, u32At};
+ghost use Rattle.hash.specs.Bytes.{u32At, widthOf};
 ghost use Rattle.commitgraph.specs.Graph.{edgeIn, noGeneration, parentIn, parentsIn, rowIn};
 ghost use Rattle.reading.specs.Row.{levelOf, rowReadOf};
 ghost use Rattle.rowvisit.specs.Numbers.{Numbers, PlainList};
@@ -47,6 +48,7 @@ fn edge(graph: &[u8], l: Layout, from: usize, i: usize) -> u32
 
 // The position of parent k of the row at a position, by the row's numbers (`commitgraph::parents::parent`, which reads them).
 pub(crate) fn parent(
+    kind: Kind,
     graph: &[u8],
     l: Layout,
     position: usize,
@@ -54,8 +56,8 @@ pub(crate) fn parent(
     second: u32,
     k: usize,
 ) -> usize
-    requires { ⌜ Numbers (now graph) l position first second ⌝ }
-    ensures { λ r. ⌜ r ≡ parentIn idBytes (now (graph .entry)) l position k ⌝ }
+    requires { ⌜ Numbers (widthOf kind) (now graph) l position first second ⌝ }
+    ensures { λ r. ⌜ r ≡ parentIn (widthOf kind) (now (graph .entry)) l position k ⌝ }
 {
     if k == 0 {
         return wide(first);
@@ -101,6 +103,7 @@ fn level(l: Layout, third: u32) -> Level
 // The parents of the row at a position (`collect_parents` in the Rust), by its numbers where one or two parents are listed in the row itself; any
 // other list is read and judged by `reading`.
 pub(crate) fn collect_parents(
+    kind: Kind,
     graph: &[u8],
     l: Layout,
     position: usize,
@@ -108,12 +111,12 @@ pub(crate) fn collect_parents(
     second: u32,
     third: u32,
 ) -> RowRead
-    requires { ⌜ Numbers (now graph) l position first second × (third ≡ u32At (rowIn idBytes (now graph) l position) 28) ⌝ }
-    ensures { λ r. ⌜ r ≡ rowReadOf (levelOf (now (graph .entry)) l position) (parentsIn idBytes (now (graph .entry)) l position) ⌝ }
+    requires { ⌜ Numbers (widthOf kind) (now graph) l position first second × (third ≡ u32At (rowIn (widthOf kind) (now graph) l position) (widthOf kind + 8)) ⌝ }
+    ensures { λ r. ⌜ r ≡ rowReadOf (levelOf (widthOf kind) (now (graph .entry)) l position) (parentsIn (widthOf kind) (now (graph .entry)) l position) ⌝ }
 {
     let n = plain_count(l.count, first, second);
     if n == 0 {
-        return reading::collect_parents(graph, l, position);
+        return reading::collect_parents(kind, graph, l, position);
     }
     RowRead::Row {
         parents: n,

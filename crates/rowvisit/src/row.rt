@@ -9,10 +9,13 @@ use links::insert_into_seen_and_queue_cached;
 use links::only_first;
 use reading::RowRead;
 use state::Record;
+use state::Waiting;
 use walk::Settings;
+ghost use Rattle.state.specs.Shapes.{waitingIn};
 ghost use Rattle.state.specs.Steps.{mem};
 ghost use Rattle.rowvisit.specs.Numbers.{Numbers};
 ghost use Rattle.rowvisit.specs.Row.{Follows, SetsParent, VisitsRowParent, VisitsRow, VisitsCached};
+ghost use Rattle.hash.specs.Bytes.{widthOf};
 
 // The parents of a row that were visited, how many they are, and the row's level; or its list is corrupt.
 pub enum RowVisited {
@@ -27,18 +30,19 @@ pub enum RowVisited {
 // The most parents of a commit.
 const MOST_PARENTS: usize = 256;
 
-// Sets down the id of parent k in the 20 bytes that are its place; a longer one is not set down.
-fn set_parent(parents: &mut [u8], k: usize, id: &[u8])
-    ensures { λ r. ⌜ SetsParent k (now (id .entry)) (now (parents .entry)) (now (parents .exit)) ⌝ }
+// Sets down the id of parent k in the bytes that are its place; a longer one is not set down.
+fn set_parent(kind: Kind, parents: &mut [u8], k: usize, id: &[u8])
+    ensures { λ r. ⌜ SetsParent (widthOf kind) k (now (id .entry)) (now (parents .entry)) (now (parents .exit)) ⌝ }
 {
-    if k < MOST_PARENTS && id.len() <= hash::width(Kind::Sha1) {
-        hash::set_nth(Kind::Sha1, parents, k, id);
+    if k < MOST_PARENTS && id.len() <= hash::width(kind) {
+        hash::set_nth(kind, parents, k, id);
     }
 }
 
 // Sets down and visits parent k of the row at a position: its id goes from the file to the buffers, its seconds are those of its own row.
 fn visit_row_parent(
     r: Record,
+    w: Waiting,
     graph: &[u8],
     l: Layout,
     position: usize,
@@ -53,15 +57,17 @@ fn visit_row_parent(
     parents: &mut [u8],
     excluded: &[u8],
     settings: Settings,
-) -> Record
-    requires { ⌜ Numbers (now graph) l position first second ⌝ }
-    ensures { λ a. ⌜ VisitsRowParent (now (excluded .entry)) settings (now (graph .entry)) l position k r (mem (now (names .entry)) (now (marks .entry)) (now (times .entry)) (now (line .entry))) (mem (now (names .exit)) (now (marks .exit)) (now (times .exit)) (now (line .exit))) (now (parents .entry)) (now (parents .exit)) a ⌝ }
+) -> Waiting
+    requires { ⌜ Numbers (widthOf (settings .kind)) (now graph) l position first second ⌝ }
+    ensures { λ a. ⌜ VisitsRowParent (now (excluded .entry)) settings (now (graph .entry)) l position k (waitingIn r w) (mem (now (names .entry)) (now (marks .entry)) (now (times .entry)) (now (line .entry))) (mem (now (names .exit)) (now (marks .exit)) (now (times .exit)) (now (line .exit))) (now (parents .entry)) (now (parents .exit)) (waitingIn r a) ⌝ }
 {
-    let parent = numbers::parent(graph, l, position, first, second, k);
-    let id = rows::id_at(Kind::Sha1, graph, l, parent);
-    set_parent(parents, k, id);
+    let kind = settings.kind;
+    let parent = numbers::parent(kind, graph, l, position, first, second, k);
+    let id = rows::id_at(kind, graph, l, parent);
+    set_parent(kind, parents, k, id);
     insert_into_seen_and_queue_cached(
         r,
+        w,
         names,
         marks,
         levels,
@@ -93,14 +99,15 @@ fn visit_row(
     parents: &mut [u8],
     excluded: &[u8],
     settings: Settings,
-) -> Record
-    requires { ⌜ Numbers (now graph) l position first second ⌝ }
-    ensures { λ a. ⌜ VisitsRow (now (excluded .entry)) settings (now (graph .entry)) l position n r (mem (now (names .entry)) (now (marks .entry)) (now (times .entry)) (now (line .entry))) (mem (now (names .exit)) (now (marks .exit)) (now (times .exit)) (now (line .exit))) (now (parents .entry)) (now (parents .exit)) a ⌝ }
+) -> Waiting
+    requires { ⌜ Numbers (widthOf (settings .kind)) (now graph) l position first second ⌝ }
+    ensures { λ a. ⌜ VisitsRow (now (excluded .entry)) settings (now (graph .entry)) l position n r (mem (now (names .entry)) (now (marks .entry)) (now (times .entry)) (now (line .entry))) (mem (now (names .exit)) (now (marks .exit)) (now (times .exit)) (now (line .exit))) (now (parents .entry)) (now (parents .exit)) (waitingIn r a) ⌝ }
 {
-    let mut at = r;
+    let mut at = state::waiting_of(r);
     let mut k = 0;
     while k < n {
         at = visit_row_parent(
+            r,
             at,
             graph,
             l,
@@ -152,18 +159,20 @@ pub fn visit_cached(
 ) -> RowVisited
     ensures { λ a. ⌜ VisitsCached (now (excluded .entry)) settings (now (graph .entry)) l position r (mem (now (names .entry)) (now (marks .entry)) (now (times .entry)) (now (line .entry))) (mem (now (names .exit)) (now (marks .exit)) (now (times .exit)) (now (line .exit))) (now (levels .entry)) (now (levels .exit)) (now (parents .entry)) (now (parents .exit)) a ⌝ }
 {
-    let row = rows::row(Kind::Sha1, graph, l, position);
-    let first = hash::be32(row, 20);
-    let second = hash::be32(row, 24);
-    let third = hash::be32(row, 28);
-    match numbers::collect_parents(graph, l, position, first, second, third) {
+    let kind = settings.kind;
+    let row = rows::row(kind, graph, l, position);
+    let w = hash::width(kind);
+    let first = hash::be32(row, w);
+    let second = hash::be32(row, w + 4);
+    let third = hash::be32(row, w + 8);
+    match numbers::collect_parents(kind, graph, l, position, first, second, third) {
         RowRead::Row {
             parents: count,
             level,
         } => {
             let n = followed_count(settings, count);
             let q = r.queue;
-            ahead::look_ahead(graph, l, first, names, marks, q.cap, levels);
+            ahead::look_ahead(kind, graph, l, first, names, marks, q.cap, levels);
             let at = visit_row(
                 r,
                 graph,
@@ -182,7 +191,7 @@ pub fn visit_cached(
                 settings,
             );
             RowVisited::Visited {
-                after: at,
+                after: state::with_waiting(r, at),
                 parents: n,
                 level,
             }

@@ -456,6 +456,7 @@ fn settings_of(s: &[u8]) -> Settings {
     Settings {
         sorting: sorting(hash::byte_at(s, 0), Seconds(signed_of(hash::be64(s, 1)))),
         parents: mode(hash::byte_at(s, 9)),
+        kind: Kind::Sha1,
     }
 }
 

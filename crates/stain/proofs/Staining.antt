@@ -10,12 +10,12 @@ use lib.ListN.{length, take, getD, set}
 use lib.Seq.{take-all, getD-set-same, getD-set-other}
 use lib.Dec.{eqb}
 use borrow.Author.Tests.{eqb-true, eqb-false}
-use Rattle.hash.specs.Bytes.{Id, idBytes}
+use Rattle.hash.specs.Bytes.{Id}
 use Rattle.hash.proofs.Tests.{byCases, clash}
 use Rattle.date.specs.declared.Stamp.{Stamp}
 use Rattle.odb.specs.Store.{storeOk}
 use Rattle.object.specs.Header.{Header, header}
-use Rattle.object.specs.Ids.{idIn}
+use Rattle.object.specs.Ids.{idIn, idRoom}
 use Rattle.object.specs.Read.{readingOf}
 use Rattle.object.specs.declared.ObjectId.{ObjectId}
 use Rattle.object.specs.declared.Reading.the-variants.{Readable as AsReadable, Bad, Crowded}
@@ -39,12 +39,12 @@ use Rattle.stain.specs.Stain.{stainedAt, isStained, Stains, Beside, Stai
 -- ---- what is stained
 
 -- nothing is done
-stains-not : {names marks levels : List ℕ} {cap : ℕ} (Q : Id → Type 0) → ((z : Id) (k : ℕ) → Holds idBytes false names marks cap z k → Q z → ⊥) → Stains names marks cap levels levels Q
+stains-not : {width : ℕ} {names marks levels : List ℕ} {cap : ℕ} (Q : Id → Type 0) → ((z : Id) (k : ℕ) → Holds width false names marks cap z k → Q z → ⊥) → Stains width names marks cap levels levels Q
 stains-not Q n = record { keeps = λ k h. h; only = λ z k o h. inl h; does = λ z k o q. absurd (n z k o q) }
 
 -- one after another
-stains-then : {names marks levels levels₁ levels₂ : List ℕ} {cap : ℕ} {Q R : Id → Type 0} (S : Id → Type 0) → Stains names marks cap levels levels₁ Q → Stains names marks cap levels₁ levels₂ R
-    → ((z : Id) → Q z ⊎ R z → S z) → ((z : Id) → S z → Q z ⊎ R z) → Stains names marks cap levels levels₂ S
+stains-then : {width : ℕ} {names marks levels levels₁ levels₂ : List ℕ} {cap : ℕ} {Q R : Id → Type 0} (S : Id → Type 0) → Stains width names marks cap levels levels₁ Q → Stains width names marks cap levels₁ levels₂ R
+    → ((z : Id) → Q z ⊎ R z → S z) → ((z : Id) → S z → Q z ⊎ R z) → Stains width names marks cap levels levels₂ S
 stains-then S a b f g = record {
   keeps = λ k h. b .keeps k (a .keeps k h);
   only = λ z k o h. ⊎-elim (λ i. ⊎-elim inl (λ q. inr (f z (inl q))) (a .only z k o i)) (λ r. inr (f z (inr r))) (b .only z k o h);
@@ -52,8 +52,8 @@ stains-then S a b f g = record {
 }
 
 -- the same stains under another name
-stains-as : {names marks levels levels₁ : List ℕ} {cap : ℕ} {Q : Id → Type 0} (S : Id → Type 0) → Stains names marks cap levels levels₁ Q → ((z : Id) → Q z → S z) → ((z : Id) → S z → Q z)
-    → Stains names marks cap levels levels₁ S
+stains-as : {width : ℕ} {names marks levels levels₁ : List ℕ} {cap : ℕ} {Q : Id → Type 0} (S : Id → Type 0) → Stains width names marks cap levels levels₁ Q → ((z : Id) → Q z → S z) → ((z : Id) → S z → Q z)
+    → Stains width names marks cap levels levels₁ S
 stains-as S a f g = record { keeps = a .keeps; only = λ z k o h. ⊎-elim inl (λ q. inr (f z q)) (a .only z k o h); does = λ z k o q. a .does z k o (g z q) }
 
 -- a slot
@@ -67,12 +67,12 @@ module _ (levels : List ℕ) (k : ℕ) (room : k < length levels) where
   at-slot? : (j : ℕ) → (j ≡ k) ⊎ (j ≡ k → ⊥)
   at-slot? j = byCases (eqb j k) (λ e. inl (eqb-true j k e)) (λ e. inr (eqb-false j k e))
 
-  stains-slot : {names marks : List ℕ} {cap : ℕ} {x y : Id} → Table idBytes false names marks cap → Holds idBytes false names marks cap x k → (y ≡ x → ⊥)
-      → Stains names marks cap levels (set levels k 1) (Beside y (x ∷ []))
-  stains-slot {names} {marks} {cap} {x} {y} t h n = record {
+  stains-slot : {width : ℕ} {names marks : List ℕ} {cap : ℕ} {x y : Id} → Table width false names marks cap → Holds width false names marks cap x k → (y ≡ x → ⊥)
+      → Stains width names marks cap levels (set levels k 1) (Beside y (x ∷ []))
+  stains-slot {width} {names} {marks} {cap} {x} {y} t h n = record {
     keeps = λ j g. ⊎-elim (λ q. ap (isStained (set levels k 1)) q ∙ here-stained) (λ o. other-same j o ∙ g) (at-slot? j);
     only = λ z j o g. ⊎-elim
-        (λ q. let e : z ≡ x = sym (o .is) ∙ ap (idOf idBytes names) q ∙ h .is in inr (record { one = List·Memᴰ·head e; other = λ i. n (i ∙ e) }))
+        (λ q. let e : z ≡ x = sym (o .is) ∙ ap (idOf width names) q ∙ h .is in inr (record { one = List·Memᴰ·head e; other = λ i. n (i ∙ e) }))
         (λ q. inl (sym (other-same j q) ∙ g))
         (at-slot? j);
     does = λ z j o i.
@@ -82,34 +82,34 @@ module _ (levels : List ℕ) (k : ℕ) (room : k < length levels) where
 
 -- ---- one id
 
-module _ {names marks : List ℕ} {cap own : ℕ} {x : Id} {r : Slot} (f : Finds idBytes false names marks cap x r) where
-  pub id-found : {levels levels′ : List ℕ} (k : ℕ) → r ≡ Found k → levels′ ≡ stainedAt own k levels → StainsId names marks levels levels′ cap own x
+module _ {width : ℕ} {names marks : List ℕ} {cap own : ℕ} {x : Id} {r : Slot} (f : Finds width false names marks cap x r) where
+  pub id-found : {levels levels′ : List ℕ} (k : ℕ) → r ≡ Found k → levels′ ≡ stainedAt own k levels → StainsId width names marks levels levels′ cap own x
   unfolding stainedAt
   id-found {levels} {levels′} k e q = record {
     right = λ t room y o.
-        let h : Holds idBytes false names marks cap x k = f .hit k e in
+        let h : Holds width false names marks cap x k = f .hit k e in
         byCases (eqb k own)
         (λ b.
         let s : levels′ ≡ levels = q ∙ ap (λ (c : Bool). cond c levels (set levels k 1)) b in
-        let i : x ≡ y = sym (h .is) ∙ ap (idOf idBytes names) (eqb-true k own b) ∙ o .is in
-        subst (λ (l : List ℕ). Stains names marks cap levels l (Beside y (x ∷ []))) (sym s)
+        let i : x ≡ y = sym (h .is) ∙ ap (idOf width names) (eqb-true k own b) ∙ o .is in
+        subst (λ (l : List ℕ). Stains width names marks cap levels l (Beside y (x ∷ []))) (sym s)
         (stains-not (Beside y (x ∷ [])) (λ z j g m. m .other (sym i ∙ sym (List·Memᴰ·eq-of-singleton (m .one))))))
         (λ b.
         let s : levels′ ≡ set levels k 1 = q ∙ ap (λ (c : Bool). cond c levels (set levels k 1)) b in
-        subst (λ (l : List ℕ). Stains names marks cap levels l (Beside y (x ∷ []))) (sym s)
+        subst (λ (l : List ℕ). Stains width names marks cap levels l (Beside y (x ∷ []))) (sym s)
         (stains-slot levels k (omega (arith, h .low)) t h (λ i. eqb-false k own b (t .once k own (h .low) (o .low) (h .alive) (o .alive) (h .is ∙ sym i ∙ sym (o .is))))));
   }
 
-  id-missing : {levels : List ℕ} → ((k : ℕ) → r ≡ Found k → ⊥) → StainsId names marks levels levels cap own x
+  id-missing : {levels : List ℕ} → ((k : ℕ) → r ≡ Found k → ⊥) → StainsId width names marks levels levels cap own x
   id-missing n = record {
     right = λ t room y o. stains-not (Beside y (x ∷ []))
-        (λ z k g m. n k (f .all t k (subst (λ (a : Id). Holds idBytes false names marks cap a k) (List·Memᴰ·eq-of-singleton (m .one)) g)));
+        (λ z k g m. n k (f .all t k (subst (λ (a : Id). Holds width false names marks cap a k) (List·Memᴰ·eq-of-singleton (m .one)) g)));
   }
 
-  pub id-vacant : {levels : List ℕ} (j : ℕ) → r ≡ Vacant j → StainsId names marks levels levels cap own x
+  pub id-vacant : {levels : List ℕ} (j : ℕ) → r ≡ Vacant j → StainsId width names marks levels levels cap own x
   id-vacant j e = id-missing (λ k q. let z : _≡_ {A = ℕ} 0 1 = cc in absurd (omega arith))
 
-  pub id-full : {levels : List ℕ} → r ≡ Full → StainsId names marks levels levels cap own x
+  pub id-full : {levels : List ℕ} → r ≡ Full → StainsId width names marks levels levels cap own x
   id-full e = id-missing (λ k q. let z : _≡_ {A = ℕ} 0 1 = cc in absurd (omega arith))
 
 -- ---- the parents of a header
@@ -122,30 +122,30 @@ beside-cases : {y : Id} (xs : List Id) {ys : List Id} (z : Id) → Beside y (xs 
 beside-cases xs z q = ⊎-elim (λ i. inl (record { one = i; other = q .other })) (λ i. inr (record { one = i; other = q .other })) (List·Memᴰ·append-cases xs (q .one))
 
 -- a loop over the n parents of h, after i of them
-pub record Passing (h : Header) (names marks levels₀ levels : List ℕ) (cap own n i : ℕ) : Type 0 where
+pub record Passing (width : ℕ) (h : Header) (names marks levels₀ levels : List ℕ) (cap own n i : ℕ) : Type 0 where
   pub upto : i ≤ n
   pub long : length levels ≡ length levels₀
-  pub so-far : h .tree ≡ true → n ≡ length (h .ids) → Table idBytes false names marks cap → cap ≤ length levels₀ → (y : Id) → Holds idBytes false names marks cap y own
-      → Stains names marks cap levels₀ levels (Beside y (take i (h .ids)))
+  pub so-far : h .tree ≡ true → n ≡ length (h .ids) → Table width false names marks cap → cap ≤ length levels₀ → (y : Id) → Holds width false names marks cap y own
+      → Stains width names marks cap levels₀ levels (Beside y (take i (h .ids)))
 
-pub passing-first : (h : Header) (names marks levels : List ℕ) (cap own n : ℕ) → Passing h names marks levels levels cap own n 0
-passing-first h names marks levels cap own n = record { upto = omega arith; long = refl; so-far = λ g e t room y o. stains-not (Beside y []) (λ z k j m. List·Memᴰ·not-nil (m .one)) }
+pub passing-first : (width : ℕ) (h : Header) (names marks levels : List ℕ) (cap own n : ℕ) → Passing width h names marks levels levels cap own n 0
+passing-first width h names marks levels cap own n = record { upto = omega arith; long = refl; so-far = λ g e t room y o. stains-not (Beside y []) (λ z k j m. List·Memᴰ·not-nil (m .one)) }
 
-pub passing-next : {names marks levels₀ levels levels′ : List ℕ} {cap own n i : ℕ} {x : Id} (b : List ℕ) (z : ObjectId) → Passing (header idBytes b) names marks levels₀ levels cap own n i → i < n
-    → z .bytes ≡ parentIdAt b i → x ≡ idIn idBytes (z .bytes) → StainsId names marks levels levels′ cap own x → length levels′ ≡ length levels → Passing (header idBytes b) names marks levels₀ levels′ cap own n (i + 1)
-passing-next {names} {marks} {levels₀} {levels} {levels′} {cap} {own} {n} {i} {x} b z v l give e o k = record {
+pub passing-next : {width : ℕ} → width ≤ idRoom → {names marks levels₀ levels levels′ : List ℕ} {cap own n i : ℕ} {x : Id} (b : List ℕ) (z : ObjectId) → Passing width (header width b) names marks levels₀ levels cap own n i → i < n
+    → z .bytes ≡ parentIdAt width b i → x ≡ idIn width (z .bytes) → StainsId width names marks levels levels′ cap own x → length levels′ ≡ length levels → Passing width (header width b) names marks levels₀ levels′ cap own n (i + 1)
+passing-next {width} small {names} {marks} {levels₀} {levels} {levels′} {cap} {own} {n} {i} {x} b z v l give e o k = record {
   upto = omega arith;
   long = k ∙ v .long;
   so-far = λ g q t room y h.
-      let xs = header idBytes b .ids in
-      let is : x ≡ getD xs i [] = e ∙ ap (idIn idBytes) give ∙ parent-right b i g (omega arith) in
-      subst (λ (ys : List Id). Stains names marks cap levels₀ levels′ (Beside y ys)) (sym (one-more xs i (omega arith) ∙ ap (λ (u : Id). take i xs ++ (u ∷ [])) (sym is)))
+      let xs = header width b .ids in
+      let is : x ≡ getD xs i [] = e ∙ ap (idIn width) give ∙ parent-right width small b i g (omega arith) in
+      subst (λ (ys : List Id). Stains width names marks cap levels₀ levels′ (Beside y ys)) (sym (one-more xs i (omega arith) ∙ ap (λ (u : Id). take i xs ++ (u ∷ [])) (sym is)))
       (stains-then (Beside y (take i xs ++ (x ∷ []))) (v .so-far g q t room y h) (o .right t (omega (arith, v .long)) y h) beside-more (beside-cases (take i xs)));
 }
 
-pub passing-last : {h : Header} {names marks levels₀ levels : List ℕ} {cap own n i : ℕ} → Passing h names marks levels₀ levels cap own n i → n ≤ i → StainsParents h names marks levels₀ levels cap own n
-passing-last {h} {names} {marks} {levels₀} {levels} {cap} {own} {n} {i} v l = record {
-  right = λ g q t room y o. subst (λ (ys : List Id). Stains names marks cap levels₀ levels (Beside y ys)) (take-all i (h .ids) (omega arith)) (v .so-far g q t room y o);
+pub passing-last : {width : ℕ} {h : Header} {names marks levels₀ levels : List ℕ} {cap own n i : ℕ} → Passing width h names marks levels₀ levels cap own n i → n ≤ i → StainsParents width h names marks levels₀ levels cap own n
+passing-last {width} {h} {names} {marks} {levels₀} {levels} {cap} {own} {n} {i} v l = record {
+  right = λ g q t room y o. subst (λ (ys : List Id). Stains width names marks cap levels₀ levels (Beside y ys)) (take-all i (h .ids) (omega arith)) (v .so-far g q t room y o);
 }
 
 -- ---- a commit
@@ -160,62 +160,62 @@ no-links : (w : World) (x : Id) → (Readable w x → ⊥) → links w x ≡ []
 unfolding links Readable
 no-links w x h = no-parents (fromStore (w .store x)) h
 
-module _ {s names : List ℕ} (marks levels : List ℕ) (cap : ℕ) {own : ℕ} {x : Id} {b : List ℕ} (e : x ≡ idOf idBytes names own) (f : GivesBody idBytes s x b) where
+module _ {width : ℕ} {s names : List ℕ} (marks levels : List ℕ) (cap : ℕ) {own : ℕ} {x : Id} {b : List ℕ} (e : x ≡ idOf width names own) (f : GivesBody width s x b) where
   -- the body in hand is that of the slot
-  in-hand : {y : Id} → Holds idBytes false names marks cap y own → GivesBody idBytes s y b
-  in-hand o = subst (λ (z : Id). GivesBody idBytes s z b) (e ∙ o .is) f
+  in-hand : {y : Id} → Holds width false names marks cap y own → GivesBody width s y b
+  in-hand o = subst (λ (z : Id). GivesBody width s z b) (e ∙ o .is) f
 
-  stains-none : ((y : Id) → GivesBody idBytes s y b → storeOk idBytes s ≡ true → (g : List ℕ) → Readable (worldOf s g) y → ⊥) → StainsCommit s names marks levels levels cap own
+  stains-none : ((y : Id) → GivesBody width s y b → storeOk width s ≡ true → (g : List ℕ) → Readable (worldOf width s g) y → ⊥) → StainsCommit width s names marks levels levels cap own
   stains-none bars = record {
-    right = λ ok g t room y o. stains-not (Beside y (links (worldOf s g) y))
-        (λ z k h m. List·Memᴰ·not-nil (subst (λ (l : List Id). Mem z l) (no-links (worldOf s g) y (bars y (in-hand o) ok g)) (m .one)));
+    right = λ ok g t room y o. stains-not (Beside y (links (worldOf width s g) y))
+        (λ z k h m. List·Memᴰ·not-nil (subst (λ (l : List Id). Mem z l) (no-links (worldOf width s g) y (bars y (in-hand o) ok g)) (m .one)));
   }
 
-  pub commit-bad : readingOf (header idBytes b) ≡ Bad → StainsCommit s names marks levels levels cap own
+  pub commit-bad : readingOf (header width b) ≡ Bad → StainsCommit width s names marks levels levels cap own
   commit-bad d = stains-none (λ y i ok g. stored-bad i ok g d)
 
-  pub commit-crowded : readingOf (header idBytes b) ≡ Crowded → StainsCommit s names marks levels levels cap own
+  pub commit-crowded : readingOf (header width b) ≡ Crowded → StainsCommit width s names marks levels levels cap own
   commit-crowded d = stains-none (λ y i ok g. stored-crowded i ok g d)
 
-  pub commit-good : {levels′ : List ℕ} (n : ℕ) (u : Stamp) → readingOf (header idBytes b) ≡ AsReadable n u → StainsParents (header idBytes b) names marks levels levels′ cap own n
-      → StainsCommit s names marks levels levels′ cap own
+  pub commit-good : {levels′ : List ℕ} (n : ℕ) (u : Stamp) → readingOf (header width b) ≡ AsReadable n u → StainsParents width (header width b) names marks levels levels′ cap own n
+      → StainsCommit width s names marks levels levels′ cap own
   commit-good {levels′} n u d p = record {
     right = λ ok g t room y o.
         let i = in-hand o in
         let q = stored-good i ok g n u d in
-        subst (λ (l : List Id). Stains names marks cap levels levels′ (Beside y l)) (sym (stored-links i ok g n u d)) (p .right (q .tree) (q .count) t room y o);
+        subst (λ (l : List Id). Stains width names marks cap levels levels′ (Beside y l)) (sym (stored-links i ok g n u d)) (p .right (q .tree) (q .count) t room y o);
   }
 
 -- ---- where it has both marks
 
-module _ {names marks : List ℕ} (cap : ℕ) {own m : ℕ} {b : Bool} (e : m ≡ getD marks own 0) (f : b ≡ frontier m) where
-  held : {y : Id} → Table idBytes false names marks cap → Holds idBytes false names marks cap y own → bothIn names marks cap y ≡ b
+module _ {width : ℕ} {names marks : List ℕ} (cap : ℕ) {own m : ℕ} {b : Bool} (e : m ≡ getD marks own 0) (f : b ≡ frontier m) where
+  held : {y : Id} → Table width false names marks cap → Holds width false names marks cap y own → bothIn width names marks cap y ≡ b
   held t o = ap frontier (mark-held t own o ∙ sym e) ∙ sym f
 
-  pub at-both : {s levels levels′ : List ℕ} → b ≡ true → StainsCommit s names marks levels levels′ cap own → StainsAt s names marks levels levels′ cap own
+  pub at-both : {s levels levels′ : List ℕ} → b ≡ true → StainsCommit width s names marks levels levels′ cap own → StainsAt width s names marks levels levels′ cap own
   at-both {s} i c = record {
-    right = λ ok g t room y o. stains-as (Below (worldOf s g) (bothIn names marks cap) y) (c .right ok g t room y o)
+    right = λ ok g t room y o. stains-as (Below (worldOf width s g) (bothIn width names marks cap) y) (c .right ok g t room y o)
         (λ z k. record { both = held t o ∙ i; parent = k .one; other = k .other })
         (λ z k. record { one = k .parent; other = k .other });
   }
 
-  pub at-other : {s levels : List ℕ} → b ≡ false → StainsAt s names marks levels levels cap own
-  at-other {s} i = record { right = λ ok g t room y o. stains-not (Below (worldOf s g) (bothIn names marks cap) y) (λ z k h q. clash (q .both) (held t o ∙ i)) }
+  pub at-other : {s levels : List ℕ} → b ≡ false → StainsAt width s names marks levels levels cap own
+  at-other {s} i = record { right = λ ok g t room y o. stains-not (Below (worldOf width s g) (bothIn width names marks cap) y) (λ z k h q. clash (q .both) (held t o ∙ i)) }
 
 -- ---- the commits of the line
 
 -- a loop over the line, after i places
-pub record Lining (s : List ℕ) (m : Lent) (levels₀ levels : List ℕ) (cap n i : ℕ) : Type 0 where
+pub record Lining (width : ℕ) (s : List ℕ) (m : Lent) (levels₀ levels : List ℕ) (cap n i : ℕ) : Type 0 where
   pub upto : i ≤ n
   pub long : length levels ≡ length levels₀
-  pub so-far : storeOk idBytes s ≡ true → (g : List ℕ) (l : List Id) → Lists false cap 0 m n l → cap ≤ length levels₀
-      → Stains (m .names) (m .marks) cap levels₀ levels (BelowFirst (worldOf s g) (bothIn (m .names) (m .marks) cap) l i)
+  pub so-far : storeOk width s ≡ true → (g : List ℕ) (l : List Id) → Lists width false cap 0 m n l → cap ≤ length levels₀
+      → Stains width (m .names) (m .marks) cap levels₀ levels (BelowFirst (worldOf width s g) (bothIn width (m .names) (m .marks) cap) l i)
 
-pub lining-first : (s : List ℕ) (m : Lent) (levels : List ℕ) (cap n : ℕ) → Lining s m levels levels cap n 0
-lining-first s m levels cap n = record {
+pub lining-first : (width : ℕ) (s : List ℕ) (m : Lent) (levels : List ℕ) (cap n : ℕ) → Lining width s m levels levels cap n 0
+lining-first width s m levels cap n = record {
   upto = omega arith;
   long = refl;
-  so-far = λ ok g l h room. stains-not (BelowFirst (worldOf s g) (bothIn (m .names) (m .marks) cap) l 0) (λ z k o q. absurd (omega (arith, q .low)));
+  so-far = λ ok g l h room. stains-not (BelowFirst (worldOf width s g) (bothIn width (m .names) (m .marks) cap) l 0) (λ z k o q. absurd (omega (arith, q .low)));
 }
 
 module _ {w : World} {common : Id → Bool} {l : List Id} {i : ℕ} where
@@ -229,21 +229,21 @@ module _ {w : World} {common : Id → Bool} {l : List Id} {i : ℕ} where
       (λ h. inr (subst (λ (j : ℕ). Below w common (getD l j []) z) h (q .below)))
       (last-place (q .place) i (omega (arith, q .low)))
 
-pub lining-next : {s : List ℕ} {m : Lent} {levels₀ levels levels′ : List ℕ} {cap n i slot : ℕ} → Lining s m levels₀ levels cap n i → i < n → slot ≡ getD (m .line) i 0
-    → StainsAt s (m .names) (m .marks) levels levels′ cap slot → length levels′ ≡ length levels → Lining s m levels₀ levels′ cap n (i + 1)
-lining-next {s} {m} {levels₀} {levels} {levels′} {cap} {n} {i} {slot} v l e o k = record {
+pub lining-next : {width : ℕ} {s : List ℕ} {m : Lent} {levels₀ levels levels′ : List ℕ} {cap n i slot : ℕ} → Lining width s m levels₀ levels cap n i → i < n → slot ≡ getD (m .line) i 0
+    → StainsAt width s (m .names) (m .marks) levels levels′ cap slot → length levels′ ≡ length levels → Lining width s m levels₀ levels′ cap n (i + 1)
+lining-next {width} {s} {m} {levels₀} {levels} {levels′} {cap} {n} {i} {slot} v l e o k = record {
   upto = omega arith;
   long = k ∙ v .long;
   so-far = λ ok g ids h room.
       let z : i ≡ 0 + i = omega arith in
-      let in-it : Holds idBytes false (m .names) (m .marks) cap (getD ids i []) slot = subst (λ (j : ℕ). Holds idBytes false (m .names) (m .marks) cap (getD ids i []) j) (sym (e ∙ ap (λ (j : ℕ). getD (m .line) j 0) z)) (h .slots i l) in
-      stains-then (BelowFirst (worldOf s g) (bothIn (m .names) (m .marks) cap) ids (i + 1)) (v .so-far ok g ids h room) (o .right ok g (h .table) (omega (arith, v .long)) (getD ids i []) in-it)
+      let in-it : Holds width false (m .names) (m .marks) cap (getD ids i []) slot = subst (λ (j : ℕ). Holds width false (m .names) (m .marks) cap (getD ids i []) j) (sym (e ∙ ap (λ (j : ℕ). getD (m .line) j 0) z)) (h .slots i l) in
+      stains-then (BelowFirst (worldOf width s g) (bothIn width (m .names) (m .marks) cap) ids (i + 1)) (v .so-far ok g ids h room) (o .right ok g (h .table) (omega (arith, v .long)) (getD ids i []) in-it)
       below-more below-cases;
 }
 
-pub lining-last : {s : List ℕ} {m : Lent} {levels₀ levels : List ℕ} {cap n i : ℕ} → Lining s m levels₀ levels cap n i → n ≤ i → StainsAll s m levels₀ levels cap n
-lining-last {s} {m} {levels₀} {levels} {cap} {n} {i} v l = record {
+pub lining-last : {width : ℕ} {s : List ℕ} {m : Lent} {levels₀ levels : List ℕ} {cap n i : ℕ} → Lining width s m levels₀ levels cap n i → n ≤ i → StainsAll width s m levels₀ levels cap n
+lining-last {width} {s} {m} {levels₀} {levels} {cap} {n} {i} v l = record {
   right = λ ok g ids h room.
       let e : i ≡ n = omega (arith, v .upto) in
-      subst (λ (j : ℕ). Stains (m .names) (m .marks) cap levels₀ levels (BelowFirst (worldOf s g) (bothIn (m .names) (m .marks) cap) ids j)) e (v .so-far ok g ids h room);
+      subst (λ (j : ℕ). Stains width (m .names) (m .marks) cap levels₀ levels (BelowFirst (worldOf width s g) (bothIn width (m .names) (m .marks) cap) ids j)) e (v .so-far ok g ids h room);
 }

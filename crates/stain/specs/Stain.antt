@@ -6,7 +6,7 @@ use mathlib.Core.Bool.{Bool, true, false, cond}
 use mathlib.Core.List.{List, [], _∷_}
 use lib.ListN.{length, getD, set}
 use lib.Dec.{eqb}
-use Rattle.hash.specs.Bytes.{Id, idBytes}
+use Rattle.hash.specs.Bytes.{Id}
 use Rattle.object.specs.Header.{Header}
 use Rattle.odb.specs.Store.{storeOk}
 use Rattle.hashtable.specs.Marks.{frontier}
@@ -24,10 +24,10 @@ abbrev pub isStained : List ℕ → ℕ → Bool
 isStained levels k = eqb (getD levels k 0) 1
 
 -- the slots of ids of which Q holds are stained now; those of other ids are as they were
-pub record Stains (names marks : List ℕ) (cap : ℕ) (levels levels′ : List ℕ) (Q : Id → Type 0) : Type 0 where
+pub record Stains (width : ℕ) (names marks : List ℕ) (cap : ℕ) (levels levels′ : List ℕ) (Q : Id → Type 0) : Type 0 where
   pub keeps : (k : ℕ) → isStained levels k ≡ true → isStained levels′ k ≡ true
-  pub only : (z : Id) (k : ℕ) → Holds idBytes false names marks cap z k → isStained levels′ k ≡ true → (isStained levels k ≡ true) ⊎ Q z
-  pub does : (z : Id) (k : ℕ) → Holds idBytes false names marks cap z k → Q z → isStained levels′ k ≡ true
+  pub only : (z : Id) (k : ℕ) → Holds width false names marks cap z k → isStained levels′ k ≡ true → (isStained levels k ≡ true) ⊎ Q z
+  pub does : (z : Id) (k : ℕ) → Holds width false names marks cap z k → Q z → isStained levels′ k ≡ true
 
 -- z is one of xs, and is not y
 pub record Beside (y : Id) (xs : List Id) (z : Id) : Type 0 where
@@ -35,23 +35,23 @@ pub record Beside (y : Id) (xs : List Id) (z : Id) : Type 0 where
   pub other : y ≡ z → ⊥
 
 -- what `stain_id` does, where y stands in the slot `own`
-pub record StainsId (names marks levels levels′ : List ℕ) (cap own : ℕ) (x : Id) : Type 0 where
-  pub right : Table idBytes false names marks cap → cap ≤ length levels → (y : Id) → Holds idBytes false names marks cap y own
-      → Stains names marks cap levels levels′ (Beside y (x ∷ []))
+pub record StainsId (width : ℕ) (names marks levels levels′ : List ℕ) (cap own : ℕ) (x : Id) : Type 0 where
+  pub right : Table width false names marks cap → cap ≤ length levels → (y : Id) → Holds width false names marks cap y own
+      → Stains width names marks cap levels levels′ (Beside y (x ∷ []))
 
 -- what `stain_parents` does with the parents of a header with a good tree line, of which there are n
-pub record StainsParents (h : Header) (names marks levels levels′ : List ℕ) (cap own n : ℕ) : Type 0 where
-  pub right : h .tree ≡ true → n ≡ length (h .ids) → Table idBytes false names marks cap → cap ≤ length levels → (y : Id) → Holds idBytes false names marks cap y own
-      → Stains names marks cap levels levels′ (Beside y (h .ids))
+pub record StainsParents (width : ℕ) (h : Header) (names marks levels levels′ : List ℕ) (cap own n : ℕ) : Type 0 where
+  pub right : h .tree ≡ true → n ≡ length (h .ids) → Table width false names marks cap → cap ≤ length levels → (y : Id) → Holds width false names marks cap y own
+      → Stains width names marks cap levels levels′ (Beside y (h .ids))
 
 -- what `stain_commit` does in a good store
-pub record StainsCommit (s names marks levels levels′ : List ℕ) (cap own : ℕ) : Type 0 where
-  pub right : storeOk idBytes s ≡ true → (g : List ℕ) → Table idBytes false names marks cap → cap ≤ length levels → (y : Id) → Holds idBytes false names marks cap y own
-      → Stains names marks cap levels levels′ (Beside y (links (worldOf s g) y))
+pub record StainsCommit (width : ℕ) (s names marks levels levels′ : List ℕ) (cap own : ℕ) : Type 0 where
+  pub right : storeOk width s ≡ true → (g : List ℕ) → Table width false names marks cap → cap ≤ length levels → (y : Id) → Holds width false names marks cap y own
+      → Stains width names marks cap levels levels′ (Beside y (links (worldOf width s g) y))
 
 -- the id x has the marks of both searches
-abbrev pub bothIn : List ℕ → List ℕ → ℕ → Id → Bool
-bothIn names marks cap x = frontier (markFor idBytes false names marks cap x)
+abbrev pub bothIn : ℕ → List ℕ → List ℕ → ℕ → Id → Bool
+bothIn width names marks cap x = frontier (markFor width false names marks cap x)
 
 -- z is a parent of the commit y, of which `common` holds, and is not y
 pub record Below (w : World) (common : Id → Bool) (y z : Id) : Type 0 where
@@ -60,9 +60,9 @@ pub record Below (w : World) (common : Id → Bool) (y z : Id) : Type 0 where
   pub other : y ≡ z → ⊥
 
 -- what `stain_at` does
-pub record StainsAt (s names marks levels levels′ : List ℕ) (cap own : ℕ) : Type 0 where
-  pub right : storeOk idBytes s ≡ true → (g : List ℕ) → Table idBytes false names marks cap → cap ≤ length levels → (y : Id) → Holds idBytes false names marks cap y own
-      → Stains names marks cap levels levels′ (Below (worldOf s g) (bothIn names marks cap) y)
+pub record StainsAt (width : ℕ) (s names marks levels levels′ : List ℕ) (cap own : ℕ) : Type 0 where
+  pub right : storeOk width s ≡ true → (g : List ℕ) → Table width false names marks cap → cap ≤ length levels → (y : Id) → Holds width false names marks cap y own
+      → Stains width names marks cap levels levels′ (Below (worldOf width s g) (bothIn width names marks cap) y)
 
 -- the same for one of the first k of a list
 pub record BelowFirst (w : World) (common : Id → Bool) (l : List Id) (k : ℕ) (z : Id) : Type 0 where
@@ -71,6 +71,6 @@ pub record BelowFirst (w : World) (common : Id → Bool) (l : List Id) (k : ℕ)
   pub below : Below w common (getD l place []) z
 
 -- what `stain_all` does, where the memory reads as a search
-pub record StainsAll (s : List ℕ) (m : Lent) (levels levels′ : List ℕ) (cap n : ℕ) : Type 0 where
-  pub right : storeOk idBytes s ≡ true → (g : List ℕ) (l : List Id) → Lists false cap 0 m n l → cap ≤ length levels
-      → Stains (m .names) (m .marks) cap levels levels′ (BelowFirst (worldOf s g) (bothIn (m .names) (m .marks) cap) l n)
+pub record StainsAll (width : ℕ) (s : List ℕ) (m : Lent) (levels levels′ : List ℕ) (cap n : ℕ) : Type 0 where
+  pub right : storeOk width s ≡ true → (g : List ℕ) (l : List Id) → Lists width false cap 0 m n l → cap ≤ length levels
+      → Stains width (m .names) (m .marks) cap levels levels′ (BelowFirst (worldOf width s g) (bothIn width (m .names) (m .marks) cap) l n)

@@ -8,13 +8,13 @@ use hashtable::table::Slot;
 use object::Reading;
 ghost use mathlib.Core.Path.{_≡_};
 ghost use lib.ListN.{getD};
-ghost use Rattle.hash.specs.Bytes.{idBytes};
 ghost use Rattle.hashtable.specs.Marks.{frontier};
 ghost use Rattle.object.specs.Header.{header};
 ghost use Rattle.reach.specs.Memory.{lent};
 ghost use Rattle.hashtable.specs.Table.{cleared};
 ghost use lib.Dec.{eqb};
 ghost use Rattle.stain.specs.Stain.{stainedAt, StainsId, StainsParents, StainsCommit, StainsAt, StainsAll};
+ghost use Rattle.hash.specs.Bytes.{widthOf};
 
 // The slot at place k of the line; 0 past the end.
 pub fn slot_at(line: &[u32], k: usize) -> u32
@@ -67,10 +67,18 @@ fn stain_slot(levels: &mut [u32], slot: usize, own: usize)
 }
 
 // Stains an id of the table, unless it stands in the slot `own`.
-fn stain_id(names: &[u8], marks: &[u8], levels: &mut [u32], cap: usize, own: usize, id: &[u8])
-    ensures { λ r. ⌜ StainsId (now (names .entry)) (now (marks .entry)) (now (levels .entry)) (now (levels .exit)) cap own (now (id .entry)) ⌝ }
+fn stain_id(
+    kind: Kind,
+    names: &[u8],
+    marks: &[u8],
+    levels: &mut [u32],
+    cap: usize,
+    own: usize,
+    id: &[u8],
+)
+    ensures { λ r. ⌜ StainsId (widthOf kind) (now (names .entry)) (now (marks .entry)) (now (levels .entry)) (now (levels .exit)) cap own (now (id .entry)) ⌝ }
 {
-    let s = table::find_slot(Kind::Sha1, names, marks, cap, false, id);
+    let s = table::find_slot(kind, names, marks, cap, false, id);
     match s {
         Slot::Found(k) => stain_slot(levels, k, own),
         Slot::Vacant(_) => {}
@@ -80,6 +88,7 @@ fn stain_id(names: &[u8], marks: &[u8], levels: &mut [u32], cap: usize, own: usi
 
 // Stains the ids of the first `count` parent lines of a body, which a good tree line stands before, but not the slot `own`.
 fn stain_parents(
+    kind: Kind,
     names: &[u8],
     marks: &[u8],
     levels: &mut [u32],
@@ -88,18 +97,19 @@ fn stain_parents(
     body: &[u8],
     count: usize,
 )
-    ensures { λ r. ⌜ StainsParents (header idBytes (now (body .entry))) (now (names .entry)) (now (marks .entry)) (now (levels .entry)) (now (levels .exit)) cap own count ⌝ }
+    ensures { λ r. ⌜ StainsParents (widthOf kind) (header (widthOf kind) (now (body .entry))) (now (names .entry)) (now (marks .entry)) (now (levels .entry)) (now (levels .exit)) cap own count ⌝ }
 {
     let mut i = 0;
     while i < count {
-        let id = reading::body_parent(body, i);
+        let id = reading::body_parent(kind, body, i);
         stain_id(
+            kind,
             names,
             marks,
             levels,
             cap,
             own,
-            object::id_slice(Kind::Sha1, &id.bytes),
+            object::id_slice(kind, &id.bytes),
         );
         i += 1;
     }
@@ -107,6 +117,7 @@ fn stain_parents(
 
 // Stains the parents of the commit in the slot `own`, but not itself.
 fn stain_commit(
+    kind: Kind,
     names: &[u8],
     marks: &[u8],
     levels: &mut [u32],
@@ -114,11 +125,12 @@ fn stain_commit(
     own: usize,
     store: &[u8],
 )
-    ensures { λ r. ⌜ StainsCommit (now (store .entry)) (now (names .entry)) (now (marks .entry)) (now (levels .entry)) (now (levels .exit)) cap own ⌝ }
+    ensures { λ r. ⌜ StainsCommit (widthOf kind) (now (store .entry)) (now (names .entry)) (now (marks .entry)) (now (levels .entry)) (now (levels .exit)) cap own ⌝ }
 {
-    let body = reading::stored_body(Kind::Sha1, store, table::id_of(Kind::Sha1, names, own));
-    match object::readable(Kind::Sha1, body) {
+    let body = reading::stored_body(kind, store, table::id_of(kind, names, own));
+    match object::readable(kind, body) {
         Reading::Readable { parents, .. } => stain_parents(
+            kind,
             names,
             marks,
             levels,
@@ -133,17 +145,26 @@ fn stain_commit(
 }
 
 // The same where the slot has both marks; else nothing is changed.
-fn stain_at(names: &[u8], marks: &[u8], levels: &mut [u32], cap: usize, own: usize, store: &[u8])
-    ensures { λ r. ⌜ StainsAt (now (store .entry)) (now (names .entry)) (now (marks .entry)) (now (levels .entry)) (now (levels .exit)) cap own ⌝ }
+fn stain_at(
+    kind: Kind,
+    names: &[u8],
+    marks: &[u8],
+    levels: &mut [u32],
+    cap: usize,
+    own: usize,
+    store: &[u8],
+)
+    ensures { λ r. ⌜ StainsAt (widthOf kind) (now (store .entry)) (now (names .entry)) (now (marks .entry)) (now (levels .entry)) (now (levels .exit)) cap own ⌝ }
 {
     let m = table::mark_of(marks, own);
     if has_both(m) {
-        stain_commit(names, marks, levels, cap, own, store);
+        stain_commit(kind, names, marks, levels, cap, own, store);
     }
 }
 
 // Each commit of the line's first n that has both marks stains its parents, but not itself.
 pub fn stain_all(
+    kind: Kind,
     names: &[u8],
     marks: &[u8],
     levels: &mut [u32],
@@ -152,12 +173,12 @@ pub fn stain_all(
     store: &[u8],
     n: usize,
 )
-    ensures { λ r. ⌜ StainsAll (now (store .entry)) (lent (now (names .entry)) (now (marks .entry)) (now (line .entry))) (now (levels .entry)) (now (levels .exit)) cap n ⌝ }
+    ensures { λ r. ⌜ StainsAll (widthOf kind) (now (store .entry)) (lent (now (names .entry)) (now (marks .entry)) (now (line .entry))) (now (levels .entry)) (now (levels .exit)) cap n ⌝ }
 {
     let mut i = 0;
     while i < n {
         let slot = slot_at(line, i);
-        stain_at(names, marks, levels, cap, slot as usize, store);
+        stain_at(kind, names, marks, levels, cap, slot as usize, store);
         i += 1;
     }
 }

@@ -8,8 +8,9 @@ use mathlib.Core.List.{List, [], _∷_, map}
 use native.Mathlib.Omega.{arith}
 use lib.ListN.{getD}
 use lib.IntN.{ℤ, pos}
-use Rattle.hash.specs.Bytes.{Id}
+use Rattle.hash.specs.Bytes.{Id, widthOf}
 use Rattle.hash.proofs.Tests.{clash}
+use Rattle.hash.proofs.Widths.{width-most}
 use Rattle.hashtable.specs.Table.{idOf}
 use Rattle.hashtable.proofs.TableIds.{width-of}
 use Rattle.date.specs.declared.Seconds.{Seconds}
@@ -21,14 +22,14 @@ use Rattle.revwalk.specs.Order.{In}
 use Rattle.revwalk.specs.Queue as queue
 use Rattle.revwalk.proofs.QueueSlots.{pop-gone, pop-low}
 use Rattle.walk.specs.State.{State, withQueue}
+use Rattle.state.specs.declared.Fixed.{Fixed}
 use Rattle.state.specs.declared.Record.{Record}
-use Rattle.state.specs.Reads.{Shape, entryOf, waiting, Reads}
+use Rattle.state.specs.Reads.{Shape, memoryWidth, entryOf, waiting, Reads}
 use Rattle.state.specs.Shapes.{requeued}
 use Rattle.state.specs.Steps.{mem, NotWaiting, LineKept, Taken, Pops}
 use Rattle.state.proofs.Entries.{Split, split, none-left}
 use Rattle.state.proofs.States.{not-failed}
 use Rattle.state.proofs.Queueing.{requeue}
-use Rattle.hash.specs.Bytes.{idBytes}
 
 not-found : (b : Bool) → not b ≡ true → b ≡ false
 not-found true e = sym e
@@ -39,24 +40,24 @@ pops-line o = record { long = o .long; kept = o .kept }
 
 module _ {r : Record} {names : List ℕ} {times : List ℤ} {line line′ : List ℕ} {p : Popped} (o : queue.Pops (r .queue) times line line′ p) where
   module _ {marks : List ℕ} {sh : Shape} {st : State} (g : Reads r (mem names marks times line) sh st) where
-    slots-split : (x : Id) (t : ℤ) (l : List (Id × ℤ)) → st .queue ≡ (x, t) ∷ l → Split (entryOf (sh .timed) names times) (waiting r (mem names marks times line)) (x, t) l
-    slots-split x t l e = split (entryOf (sh .timed) names times) (waiting r (mem names marks times line)) (x, t) l (sym (g .queue) ∙ e)
+    slots-split : (x : Id) (t : ℤ) (l : List (Id × ℤ)) → st .queue ≡ (x, t) ∷ l → Split (entryOf (memoryWidth sh) (sh .timed) names times) (waiting r (mem names marks times line)) (x, t) l
+    slots-split x t l e = split (entryOf (memoryWidth sh) (sh .timed) names times) (waiting r (mem names marks times line)) (x, t) l (sym (g .queue) ∙ e)
 
     found-some : (x : Id) (t : ℤ) (l : List (Id × ℤ)) → st .queue ≡ (x, t) ∷ l → p .found ≡ true
-    found-some x t l e = let w = slots-split x t l e in o .some (g .good) (w .slot) (w .others) (w .is) .found
+    found-some x t l e = let s = slots-split x t l e in o .some (g .good) (s .slot) (s .others) (s .is) .found
 
     found-none : st .queue ≡ [] → p .found ≡ false
-    found-none e = o .none (g .good) (none-left (entryOf (sh .timed) names times) (waiting r (mem names marks times line)) (sym (g .queue) ∙ e))
+    found-none e = o .none (g .good) (none-left (entryOf (memoryWidth sh) (sh .timed) names times) (waiting r (mem names marks times line)) (sym (g .queue) ∙ e))
 
     module _ (x : Id) (t : ℤ) (l : List (Id × ℤ)) (e : st .queue ≡ (x, t) ∷ l) where
-      parts : Split (entryOf (sh .timed) names times) (waiting r (mem names marks times line)) (x, t) l
+      parts : Split (entryOf (memoryWidth sh) (sh .timed) names times) (waiting r (mem names marks times line)) (x, t) l
       parts = slots-split x t l e
 
       took : queue.Took (r .queue) times (parts .slot) (parts .others) line′ p
       took = o .some (g .good) (parts .slot) (parts .others) (parts .is)
 
-      entry : entryOf (sh .timed) names times (p .slot) ≡ (x, t)
-      entry = ap (entryOf (sh .timed) names times) (took .slot) ∙ parts .first
+      entry : entryOf (memoryWidth sh) (sh .timed) names times (p .slot) ≡ (x, t)
+      entry = ap (entryOf (memoryWidth sh) (sh .timed) names times) (took .slot) ∙ parts .first
 
       others-in : (s : ℕ) → In s (parts .others) → In s (waiting r (mem names marks times line))
       unfolding In
@@ -73,7 +74,7 @@ module _ {r : Record} {names : List ℕ} {times : List ℤ} {line line′ : List
       unfolding withQueue
       left =
           requeue g (p .queue) line′ (r .kept) (st .kept) (r .admitted) (st .admitted) l (o .same) (o .long) (took .good) (g .kept) (g .admitted) (omega (arith, o .next, g .numbers))
-          (sym (parts .rest) ∙ ap (map (entryOf (sh .timed) names times)) (sym (took .list)))
+          (sym (parts .rest) ∙ ap (map (entryOf (memoryWidth sh) (sh .timed) names times)) (sym (took .list)))
           (λ s h. g .waits-seen s (others-in s (subst (In s) (took .list) h)))
           (λ f. clash f failed)
 
@@ -85,11 +86,11 @@ module _ {r : Record} {names : List ℕ} {times : List ℤ} {line line′ : List
         apart = pop-gone o (g .good) (took .found);
       }
 
-      pub taken : {b : ObjectId} {v : Seconds} → b .bytes ≡ padded (idOf idBytes names (p .slot)) → v .0 ≡ getD times (p .slot) (pos 0)
+      pub taken : {b : ObjectId} {v : Seconds} → b .bytes ≡ padded (idOf (memoryWidth sh) names (p .slot)) → v .0 ≡ getD times (p .slot) (pos 0)
           → Taken names marks times line′ sh st x t l (record { found = true; slot = p .slot; id = b; seconds = v; rest = requeued r (p .queue) (r .kept) (r .admitted) })
       taken c v = record {
         found = refl;
-        id = ap (idIn idBytes) c ∙ id-in idBytes (idOf idBytes names (p .slot)) (width-of (p .slot) (g .table .sized) (slot .low)) (omega arith) ∙ slot .holds;
+        id = ap (idIn (memoryWidth sh)) c ∙ id-in (memoryWidth sh) (idOf (memoryWidth sh) names (p .slot)) (width-of (p .slot) (g .table .sized) (slot .low)) (width-most (sh .fixed .kind)) ∙ slot .holds;
         seconds = λ h. v ∙ (ap (λ (b : Bool). cond b (getD times (p .slot) (pos 0)) (pos 0)) (sym h) ∙ ap (λ (y : Id × ℤ). y .1) entry);
         failed = failed;
         reads = left;
@@ -97,13 +98,13 @@ module _ {r : Record} {names : List ℕ} {times : List ℤ} {line line′ : List
         entry = entry;
       }
 
-  pub pops-some : {b : ObjectId} {v : Seconds} → not (p .found) ≡ false → b .bytes ≡ padded (idOf idBytes names (p .slot)) → v .0 ≡ getD times (p .slot) (pos 0)
+  pub pops-some : {b : ObjectId} {v : Seconds} → not (p .found) ≡ false → b .bytes ≡ padded (idOf (widthOf (r .fixed .kind)) names (p .slot)) → v .0 ≡ getD times (p .slot) (pos 0)
       → Pops r names times line line′ (record { found = true; slot = p .slot; id = b; seconds = v; rest = requeued r (p .queue) (r .kept) (r .admitted) })
   pops-some f c v = record {
     for-line = pops-line o;
     still = λ e. clash refl e;
     none = λ marks sh st g e. clash (ap not (found-none g e)) f;
-    some = λ marks sh st x t l g e. taken g x t l e c v;
+    some = λ marks sh st x t l g e. taken g x t l e (c ∙ ap (λ (f : Fixed). padded (idOf (widthOf (f .kind)) names (p .slot))) (g .fixed)) v;
   }
 
   pub pops-none : {s : ℕ} {b : ObjectId} {v : Seconds} → not (p .found) ≡ true → Pops r names times line line′ (record { found = false; slot = s; id = b; seconds = v; rest = r })

@@ -20,8 +20,9 @@ use Rattle.revwalk.proofs.QueueSorts.{in-insert}
 use Rattle.walk.specs.State.{State, queued}
 use Rattle.walk.specs.Next.{dropped}
 use Rattle.state.specs.declared.Record.{Record}
-use Rattle.state.specs.Reads.{Shape, entryOf, waiting, Reads}
-use Rattle.state.specs.Shapes.{beforeOf, joins, backTo, requeued}
+use Rattle.state.specs.Reads.{Shape, memoryWidth, entryOf, waiting, Reads}
+use Rattle.state.specs.declared.Waiting.{Waiting}
+use Rattle.state.specs.Shapes.{beforeOf, joins, backTo, requeued, waitingIn}
 use Rattle.state.specs.Steps.{mem, NotWaiting, LineKept, Waits, Drops}
 use Rattle.state.proofs.Entries.{map-insert}
 use Rattle.state.proofs.States.{Elsewhere, agrees-likewise, elsewhere, elsewhere-waiting}
@@ -41,7 +42,7 @@ changed st l c n = record {
 module _ {r : Record} {names marks : List ℕ} {times : List ℤ} {line : List ℕ} {sh : Shape} {st : State} (g : Reads r (mem names marks times line) sh st) where
   -- ---- another queue
   pub requeue : (q : Queue) (line′ : List ℕ) (c c′ : Bool) (n n′ : ℕ) (l : List (Id × ℤ)) → Alike (r .queue) q → length line′ ≡ length line → GoodQueue q times line′
-      → c′ ≡ c → n′ ≡ n → q .next ≤ n + cond c 0 1 → l ≡ map (entryOf (sh .timed) names times) (slotsOf q times line′)
+      → c′ ≡ c → n′ ≡ n → q .next ≤ n + cond c 0 1 → l ≡ map (entryOf (memoryWidth sh) (sh .timed) names times) (slotsOf q times line′)
       → ((s : ℕ) → In s (slotsOf q times line′) → seen (getD marks s 0) ≡ true) → (r .failed ≡ true → slotsOf q times line′ ≡ [])
       → Reads (requeued r q c n) (mem names marks times line′) sh (changed st l c′ n′)
   requeue q line′ c c′ n n′ l a long good ec en next el seens empty = record {
@@ -72,14 +73,14 @@ module _ {r : Record} {names marks : List ℕ} {times : List ℤ} {line : List �
   orders true w a b = refl
   orders false w a b = refl
 
-  before-entry : (a b : ℕ) → before (r .queue) times a b ≡ beforeOf sh (entryOf (sh .timed) names times a .1) (entryOf (sh .timed) names times b .1)
+  before-entry : (a b : ℕ) → before (r .queue) times a b ≡ beforeOf sh (entryOf (memoryWidth sh) (sh .timed) names times a .1) (entryOf (memoryWidth sh) (sh .timed) names times b .1)
   unfolding before beforeOf
   before-entry a b = let p = g .timed in let q = g .newest in rw (p, q) (orders (sh .timed) (sh .newest) a b)
 
-  pub insert-entry : (slot : ℕ) → map (entryOf (sh .timed) names times) (insertBy (before (r .queue) times) slot (slotsOf (r .queue) times line)) ≡ queued (beforeOf sh) (entryOf (sh .timed) names times slot) (st .queue)
+  pub insert-entry : (slot : ℕ) → map (entryOf (memoryWidth sh) (sh .timed) names times) (insertBy (before (r .queue) times) slot (slotsOf (r .queue) times line)) ≡ queued (beforeOf sh) (entryOf (memoryWidth sh) (sh .timed) names times slot) (st .queue)
   insert-entry slot =
-      map-insert (entryOf (sh .timed) names times) (before (r .queue) times) (beforeOf sh) slot (before-entry slot) (slotsOf (r .queue) times line)
-      ∙ ap (queued (beforeOf sh) (entryOf (sh .timed) names times slot)) (sym (g .queue))
+      map-insert (entryOf (memoryWidth sh) (sh .timed) names times) (before (r .queue) times) (beforeOf sh) slot (before-entry slot) (slotsOf (r .queue) times line)
+      ∙ ap (queued (beforeOf sh) (entryOf (memoryWidth sh) (sh .timed) names times slot)) (sym (g .queue))
 
   -- ---- a slot joins
   few : (b : Bool) → cond b 0 1 ≤ 1
@@ -88,14 +89,14 @@ module _ {r : Record} {names marks : List ℕ} {times : List ℤ} {line : List �
 
   pub join : {slot : ℕ} {l line′ : List ℕ} {q : Queue} (x : Id) (c c′ : Bool) (n n′ : ℕ) (es : List (Id × ℤ)) → Joins (r .queue) times slot l line line′ q
       → r .failed ≡ false → NotWaiting r (mem names marks times line) sh x slot → r .admitted + 2 < 4294967296
-      → c′ ≡ c → n′ ≡ n → r .queue .next + 1 ≤ n + cond c 0 1 → es ≡ map (entryOf (sh .timed) names times) l
+      → c′ ≡ c → n′ ≡ n → r .queue .next + 1 ≤ n + cond c 0 1 → es ≡ map (entryOf (memoryWidth sh) (sh .timed) names times) l
       → ((s : ℕ) → In s l → (s ≡ slot) ⊎ In s (slotsOf (r .queue) times line))
       → Reads (requeued r q c n) (mem names marks times line′) sh (changed st es c′ n′)
   join {slot} {l} {line′} {q} x c c′ n n′ es j f w b ec en next el members =
       let low : slot < r .queue .cap = subst (λ (k : ℕ). slot < k) (sym (g .cap)) (w .low) in
       let d = j .joined (g .good) low (w .apart) (omega (arith, g .numbers, few (r .kept))) in
       requeue q line′ c c′ n n′ es (j .same) (j .long) (d .good) ec en (omega (arith, j .next))
-      (el ∙ ap (map (entryOf (sh .timed) names times)) (sym (d .list)))
+      (el ∙ ap (map (entryOf (memoryWidth sh) (sh .timed) names times)) (sym (d .list)))
       (λ s h. ⊎-elim (λ e. ap (λ (k : ℕ). seen (getD marks k 0)) e ∙ w .marked) (g .waits-seen s) (members s (subst (In s) (d .list) h)))
       (λ e. clash e f)
 
@@ -119,7 +120,7 @@ module _ (times : List ℤ) (slot : ℕ) (v : ℤ) where
   stored-this false h = refl
 
   module _ {r : Record} {names marks line : List ℕ} {sh : Shape} {st : State} (g : Reads r (mem names marks times line) sh st) (b : Bool) (n : In slot (waiting r (mem names marks times line)) → ⊥) where
-    stores : Elsewhere r (mem names marks times line) (mem names marks (stored b) line) (sh .cap)
+    stores : Elsewhere (memoryWidth sh) r (mem names marks times line) (mem names marks (stored b) line) (sh .cap)
     stores = record {
       sized = g .table .sized;
       for-times = omega (arith, length-stored b, g .for-times);
@@ -155,7 +156,7 @@ module _ {r : Record} (times : List ℤ) {line line′ : List ℕ} {slot : ℕ} 
       let g′ = stored-reads times slot v g t (w .apart) in
       let w′ = stored-waiting times slot v g t (w .apart) w in
       let there : cond (sh .timed) (getD (cond t (set times slot v) times) slot (pos 0)) (pos 0) ≡ cond (sh .timed) v (pos 0) = subst (λ (s : Bool). cond s (getD (cond t (set times slot v) times) slot (pos 0)) (pos 0) ≡ cond s v (pos 0)) (g .timed) (stored-this times slot v t (omega (arith, w .low, g .for-times))) in
-      let entry : entryOf (sh .timed) names (cond t (set times slot v) times) slot ≡ (x, cond (sh .timed) v (pos 0)) = ap {B = Id × ℤ} (λ (y : Id). (y, cond (sh .timed) (getD (cond t (set times slot v) times) slot (pos 0)) (pos 0))) (w .holds) ∙ ap {B = Id × ℤ} (λ (u : ℤ). (x, u)) there in
+      let entry : entryOf (memoryWidth sh) (sh .timed) names (cond t (set times slot v) times) slot ≡ (x, cond (sh .timed) v (pos 0)) = ap {B = Id × ℤ} (λ (y : Id). (y, cond (sh .timed) (getD (cond t (set times slot v) times) slot (pos 0)) (pos 0))) (w .holds) ∙ ap {B = Id × ℤ} (λ (u : ℤ). (x, u)) there in
       join g′ x (r .kept) (st .kept) (r .admitted + 1) (suc (st .admitted)) (queued (beforeOf sh) (x, cond (sh .timed) v (pos 0)) (st .queue)) j f w′ b (g .kept) (omega (arith, g .admitted)) (omega (arith, g .numbers))
       (ap (λ (y : Id × ℤ). queued (beforeOf sh) y (st .queue)) (sym entry) ∙ sym (insert-entry g′ slot))
       (λ s h. in-insert (before (r .queue) (cond t (set times slot v) times)) slot s (slotsOf (r .queue) (cond t (set times slot v) times) line) h)
@@ -183,19 +184,23 @@ waits-not n = record {
   joined = λ names marks sh st x g f w c b. absurd (n sh (w .low) c b);
 }
 
+-- what waits in a record stands for the record
+pub waits-of : {r : Record} {w : Waiting} {times times′ : List ℤ} {line line′ : List ℕ} {slot : ℕ} {v : ℤ} {r′ : Record} → waitingIn r w ≡ r → Waits (waitingIn r w) times times′ line line′ slot v r′ → Waits r times times′ line line′ slot v r′
+waits-of {times = times} {times′ = times′} {line = line} {line′ = line′} {slot = slot} {v = v} {r′ = r′} e h = subst (λ (z : Record). Waits z times times′ line line′ slot v r′) e h
+
 -- ---- drop_graph
 
 module _ {r : Record} {times : List ℤ} {line line′ : List ℕ} {slot : ℕ} {q : Queue} (j : PutsBack (r .queue) times slot line line′ q) where
   module _ {names marks : List ℕ} {sh : Shape} {st : State} (g : Reads r (mem names marks times line) sh st) where
-    back-entry : map (entryOf (sh .timed) names times) (cond (r .queue .timed) (insertBy (before (r .queue) times) slot (slotsOf (r .queue) times line)) (slot ∷ slotsOf (r .queue) times line)) ≡ backTo sh (entryOf (sh .timed) names times slot) (st .queue)
+    back-entry : map (entryOf (memoryWidth sh) (sh .timed) names times) (cond (r .queue .timed) (insertBy (before (r .queue) times) slot (slotsOf (r .queue) times line)) (slot ∷ slotsOf (r .queue) times line)) ≡ backTo sh (entryOf (memoryWidth sh) (sh .timed) names times slot) (st .queue)
     unfolding backTo
     back-entry =
-        ap (λ (b : Bool). map (entryOf (sh .timed) names times) (cond b (insertBy (before (r .queue) times) slot (slotsOf (r .queue) times line)) (slot ∷ slotsOf (r .queue) times line))) (g .timed)
+        ap (λ (b : Bool). map (entryOf (memoryWidth sh) (sh .timed) names times) (cond b (insertBy (before (r .queue) times) slot (slotsOf (r .queue) times line)) (slot ∷ slotsOf (r .queue) times line))) (g .timed)
         ∙ go (sh .timed)
       where
-        go : (t : Bool) → map (entryOf (sh .timed) names times) (cond t (insertBy (before (r .queue) times) slot (slotsOf (r .queue) times line)) (slot ∷ slotsOf (r .queue) times line)) ≡ cond t (queued (beforeOf sh) (entryOf (sh .timed) names times slot) (st .queue)) (entryOf (sh .timed) names times slot ∷ st .queue)
+        go : (t : Bool) → map (entryOf (memoryWidth sh) (sh .timed) names times) (cond t (insertBy (before (r .queue) times) slot (slotsOf (r .queue) times line)) (slot ∷ slotsOf (r .queue) times line)) ≡ cond t (queued (beforeOf sh) (entryOf (memoryWidth sh) (sh .timed) names times slot) (st .queue)) (entryOf (memoryWidth sh) (sh .timed) names times slot ∷ st .queue)
         go true = insert-entry g slot
-        go false = ap (λ (l : List (Id × ℤ)). entryOf (sh .timed) names times slot ∷ l) (sym (g .queue))
+        go false = ap (λ (l : List (Id × ℤ)). entryOf (memoryWidth sh) (sh .timed) names times slot ∷ l) (sym (g .queue))
 
     back-in : (t : Bool) (s : ℕ) → In s (cond t (insertBy (before (r .queue) times) slot (slotsOf (r .queue) times line)) (slot ∷ slotsOf (r .queue) times line)) → (s ≡ slot) ⊎ In s (slotsOf (r .queue) times line)
     unfolding In
@@ -203,7 +208,7 @@ module _ {r : Record} {times : List ℤ} {line line′ : List ℕ} {slot : ℕ} 
     back-in false s h = h
 
   drops-back : (names marks : List ℕ) (sh : Shape) (st : State) (x : Id) (t : ℤ) → Reads r (mem names marks times line) sh st → r .failed ≡ false → r .kept ≡ true
-      → NotWaiting r (mem names marks times line) sh x slot → entryOf (sh .timed) names times slot ≡ (x, t) → r .admitted + 2 < 4294967296
+      → NotWaiting r (mem names marks times line) sh x slot → entryOf (memoryWidth sh) (sh .timed) names times slot ≡ (x, t) → r .admitted + 2 < 4294967296
       → Reads (requeued r q false (r .admitted)) (mem names marks times line′) sh (dropped (backTo sh (x, t) (st .queue)) st)
   unfolding dropped
   drops-back names marks sh st x t g f k w e b =

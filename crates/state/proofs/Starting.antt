@@ -18,9 +18,9 @@ use Rattle.state.specs.declared.Fixed.{Fixed}
 use Rattle.state.specs.Reads.{entryOf, waiting, Reads}
 use Rattle.state.specs.Shapes.{freshRecord}
 use Rattle.state.specs.Steps.{mem, Lent, Starts}
-use Rattle.hash.specs.Bytes.{idBytes}
+use Rattle.hash.specs.Bytes.{widthOf}
 
-module _ (timed newest : Bool) (fixed : Fixed) {names marks : List ℕ} {times : List ℤ} {line : List ℕ} {cap : ℕ} (l : Lent names marks times line cap) where
+module _ (timed newest : Bool) (fixed : Fixed) {names marks : List ℕ} {times : List ℤ} {line : List ℕ} {cap : ℕ} (l : Lent (widthOf (fixed .kind)) names marks times line cap) where
   none-waits : waiting (freshRecord timed newest cap fixed) (mem names (cleared cap marks) times line) ≡ []
   none-waits = emptied-list (freshRecord timed newest cap fixed .queue) times line refl
 
@@ -37,12 +37,12 @@ module _ (timed newest : Bool) (fixed : Fixed) {names marks : List ℕ} {times :
     fixed = refl;
     for-times = l .for-times;
     for-line = l .for-line;
-    table = cleared-table idBytes false (record { for-marks = l .for-marks; for-names = l .for-names });
+    table = cleared-table (widthOf (fixed .kind)) false (record { for-marks = l .for-marks; for-names = l .for-names });
     good = emptied (freshRecord timed newest cap fixed .queue) times line refl refl (omega (arith, l .for-line));
-    queue = sym (ap (map (entryOf timed names times)) none-waits);
+    queue = sym (ap (map (entryOf (widthOf (fixed .kind)) timed names times)) none-waits);
     waits-seen = λ s h. absurd (none-in s h);
     numbers = omega arith;
-    seen-is = λ x. sym (ap seen (cleared-mark idBytes false names marks cap x) ∙ seen-0);
+    seen-is = λ x. sym (ap seen (cleared-mark (widthOf (fixed .kind)) false names marks cap x) ∙ seen-0);
     frontier-is = λ x. refl;
     only-seen = λ p k h a. clash a (nothing-live false (cleared cap marks) cap (cleared-low cap marks) k h);
     failed-empty = λ f. clash f refl;

@@ -14,7 +14,8 @@ use Rattle.revwalk.specs.Queue.{GoodQueue, slotsOf}
 use Rattle.walk.specs.State.{State}
 use Rattle.state.specs.declared.Fixed.{Fixed}
 use Rattle.state.specs.declared.Record.{Record}
-use Rattle.hash.specs.Bytes.{idBytes}
+use Rattle.hash.specs.Bytes.{widthOf}
+use Rattle.hash.specs.declared.Kind.the-variants.{Sha1}
 
 -- the lent buffers that a state stands in
 pub record Memory : Type 0 where
@@ -30,9 +31,13 @@ pub record Shape : Type 0 where
   pub cap : ℕ
   pub fixed : Fixed
 
+-- the width of the ids in a walk's memory
+abbrev pub memoryWidth : Shape → ℕ
+memoryWidth sh = widthOf (sh .fixed .kind)
+
 -- a waiting slot as an entry of the model's queue: its id, and by time the seconds it was queued with
-abbrev pub entryOf : Bool → List ℕ → List ℤ → ℕ → Id × ℤ
-entryOf timed names times s = (idOf idBytes names s, cond timed (getD times s (pos 0)) (pos 0))
+abbrev pub entryOf : ℕ → Bool → List ℕ → List ℤ → ℕ → Id × ℤ
+entryOf w timed names times s = (idOf w names s, cond timed (getD times s (pos 0)) (pos 0))
 
 -- the slots that wait, in order
 abbrev pub waiting : Record → Memory → List ℕ
@@ -47,16 +52,16 @@ pub record Reads (r : Record) (m : Memory) (sh : Shape) (st : State) : Type 0 wh
   pub fixed : r .fixed ≡ sh .fixed
   pub for-times : sh .cap ≤ length (m .times)
   pub for-line : 5 * sh .cap ≤ length (m .line)
-  pub table : Table idBytes (r .painted) (m .names) (m .marks) (sh .cap)
+  pub table : Table (memoryWidth sh) (r .painted) (m .names) (m .marks) (sh .cap)
   pub good : GoodQueue (r .queue) (m .times) (m .line)
   -- the queue, in order, with its queued seconds; a waiting id is seen
-  pub queue : st .queue ≡ map (entryOf (sh .timed) (m .names) (m .times)) (waiting r m)
+  pub queue : st .queue ≡ map (entryOf (memoryWidth sh) (sh .timed) (m .names) (m .times)) (waiting r m)
   pub waits-seen : (s : ℕ) → In s (waiting r m) → seen (getD (m .marks) s 0) ≡ true
   -- the numbers given to queued slots stay small
   pub numbers : r .queue .next ≤ r .admitted + cond (r .kept) 0 1
   -- the seen and the frontier
-  pub seen-is : (x : Id) → st .seen x ≡ has idBytes (r .painted) (m .names) (m .marks) (sh .cap) seen x
-  pub frontier-is : (x : Id) → st .frontier x ≡ (r .painted && not (r .failed) && has idBytes (r .painted) (m .names) (m .marks) (sh .cap) frontier x)
+  pub seen-is : (x : Id) → st .seen x ≡ has (memoryWidth sh) (r .painted) (m .names) (m .marks) (sh .cap) seen x
+  pub frontier-is : (x : Id) → st .frontier x ≡ (r .painted && not (r .failed) && has (memoryWidth sh) (r .painted) (m .names) (m .marks) (sh .cap) frontier x)
   -- before painting a live slot is seen, and not in the frontier, whatever else its mark holds
   pub only-seen : r .painted ≡ false → (k : ℕ) → k < sh .cap → liveAt false (m .marks) k ≡ true → (seen (getD (m .marks) k 0) ≡ true) × (frontier (getD (m .marks) k 0) ≡ false)
   -- after a refused painting nothing waits
@@ -79,7 +84,7 @@ closedRecord = record {
   painted = false;
   failed = false;
   kept = false;
-  fixed = record { layout = record { fan = 0; ids = 0; rows = 0; edge = 0; edges = 0; count = 0; levels = false } };
+  fixed = record { layout = record { fan = 0; ids = 0; rows = 0; edge = 0; edges = 0; count = 0; levels = false }; kind = Sha1 };
   queue = record { timed = false; newest = false; cap = 0; head = 0; count = 0; next = 0 };
   admitted = 0;
   struck = 0;

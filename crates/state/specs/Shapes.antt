@@ -3,7 +3,8 @@ use Prim.Native.Nat.{ℕ, suc}
 use mathlib.Core.Bool.{Bool, true, false, cond, _&&_, _||_}
 use mathlib.Core.List.{List, _∷_}
 use lib.IntN.{ℤ, pos}
-use Rattle.hash.specs.Bytes.{Id, idBytes}
+use Rattle.hash.specs.Bytes.{Id, widthOf}
+use Rattle.hash.specs.declared.Kind.{Kind}
 use Rattle.commitgraph.specs.Graph.{layoutOf}
 use Rattle.revwalk.specs.Order.{sooner}
 use Rattle.revwalk.specs.declared.queue.Queue.{Queue}
@@ -13,6 +14,7 @@ use Rattle.walk.specs.State.{State, queued}
 use Rattle.walk.specs.Opening.{Input, P}
 use Rattle.state.specs.declared.Fixed.{Fixed}
 use Rattle.state.specs.declared.Record.{Record}
+use Rattle.state.specs.declared.Waiting.{Waiting}
 use Rattle.state.specs.Reads.{Shape}
 
 -- whether a commit queued with a seconds leaves the queue before one that already waits with b: in a queue without times never
@@ -21,16 +23,16 @@ beforeOf sh a b = cond (sh .timed) (sooner (sh .newest) a b) false
 
 -- ---- the shape of a walk with given settings
 
--- what an opening finds in the graph file g
-abbrev pub fixedOf : List ℕ → Fixed
-fixedOf g = record { layout = layoutOf idBytes g }
+-- what an opening finds in the graph file g, and the kind of its ids
+abbrev pub fixedOf : Kind → List ℕ → Fixed
+fixedOf kind g = record { layout = layoutOf (widthOf kind) g; kind = kind }
 
 abbrev pub shapeFor : Settings → ℕ → Fixed → Shape
 shapeFor s n f = record { timed = byTime s; newest = byTime s && newestFirst (s .sorting); cap = n; fixed = f }
 
 -- the shape that an opening with the input i fixes
 abbrev pub shapeOf : Input → Shape
-shapeOf i = shapeFor (i .settings) (P i) (fixedOf (i .graph))
+shapeOf i = shapeFor (i .settings) (P i) (fixedOf (i .settings .kind) (i .graph))
 
 -- ---- the steps of a state
 
@@ -64,6 +66,10 @@ requeued r q k n = record {
   admitted = n;
   struck = r .struck;
 }
+
+-- the same record with these that wait
+abbrev pub waitingIn : Record → Waiting → Record
+waitingIn r w = requeued r (w .queue) (r .kept) (w .admitted)
 
 -- the record of a walk that has just been opened, with no tip taken
 abbrev pub freshRecord : Bool → Bool → ℕ → Fixed → Record

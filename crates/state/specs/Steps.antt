@@ -6,7 +6,7 @@ use mathlib.Core.Bool.{Bool, true, false, cond, _||_}
 use mathlib.Core.List.{List, [], _∷_, List·Memᴰ}
 use lib.ListN.{length, getD}
 use lib.IntN.{ℤ, pos}
-use Rattle.hash.specs.Bytes.{Id, idBytes}
+use Rattle.hash.specs.Bytes.{Id, widthOf}
 use Rattle.hashtable.specs.Marks.{seen}
 use Rattle.hashtable.specs.Table.{idOf, cleared}
 use Rattle.object.specs.Ids.{idIn}
@@ -17,7 +17,7 @@ use Rattle.state.specs.declared.Fixed.{Fixed}
 use Rattle.state.specs.declared.Record.{Record}
 use Rattle.state.specs.declared.Seen.{Seen}
 use Rattle.state.specs.declared.Next.{Next}
-use Rattle.state.specs.Reads.{Memory, Shape, entryOf, waiting, Reads, Universe}
+use Rattle.state.specs.Reads.{Memory, Shape, memoryWidth, entryOf, waiting, Reads, Universe}
 use Rattle.state.specs.Shapes.{beforeOf, joins, backTo, freshRecord}
 
 abbrev pub mem : List ℕ → List ℕ → List ℤ → List ℕ → Memory
@@ -26,7 +26,7 @@ mem names marks times line = record { names = names; marks = marks; times = time
 -- slot s holds the id x, which is seen and does not wait
 pub record NotWaiting (r : Record) (m : Memory) (sh : Shape) (x : Id) (s : ℕ) : Type 0 where
   pub low : s < sh .cap
-  pub holds : idOf idBytes (m .names) s ≡ x
+  pub holds : idOf (memoryWidth sh) (m .names) s ≡ x
   pub marked : seen (getD (m .marks) s 0) ≡ true
   pub apart : In s (waiting r m) → ⊥
 
@@ -49,7 +49,7 @@ pub record Sees (r : Record) (names marks names′ marks′ : List ℕ) (x : Id)
   pub long-marks : length marks′ ≡ length marks
   pub still : a .fresh ≡ false → (names′ ≡ names) × (marks′ ≡ marks) × (a .slot ≡ 0)
   pub old : (times : List ℤ) (line : List ℕ) (sh : Shape) (st : State) → Reads r (mem names marks times line) sh st → (st .frontier x || st .seen x) ≡ true → a .fresh ≡ false
-  pub new : (times : List ℤ) (line : List ℕ) (sh : Shape) (st : State) → Reads r (mem names marks times line) sh st → r .failed ≡ false → length x ≡ idBytes
+  pub new : (times : List ℤ) (line : List ℕ) (sh : Shape) (st : State) → Reads r (mem names marks times line) sh st → r .failed ≡ false → length x ≡ memoryWidth sh
       → (st .frontier x || st .seen x) ≡ false → (u : List Id) → Universe sh st u → List·Memᴰ x u → Entered r (mem names′ marks′ times line) sh st x a
 
 -- ---- wait
@@ -67,12 +67,12 @@ pub record Waits (r : Record) (times times′ : List ℤ) (line line′ : List �
 -- x, queued with t seconds, has left the queue, which is l now
 pub record Taken (names marks : List ℕ) (times : List ℤ) (line : List ℕ) (sh : Shape) (st : State) (x : Id) (t : ℤ) (l : List (Id × ℤ)) (n : Next) : Type 0 where
   pub found : n .found ≡ true
-  pub id : idIn idBytes (n .id .bytes) ≡ x
+  pub id : idIn (memoryWidth sh) (n .id .bytes) ≡ x
   pub seconds : sh .timed ≡ true → n .seconds .0 ≡ t
   pub failed : n .rest .failed ≡ false
   pub reads : Reads (n .rest) (mem names marks times line) sh (withQueue l st)
   pub slot : NotWaiting (n .rest) (mem names marks times line) sh x (n .slot)
-  pub entry : entryOf (sh .timed) names times (n .slot) ≡ (x, t)
+  pub entry : entryOf (memoryWidth sh) (sh .timed) names times (n .slot) ≡ (x, t)
 
 -- pop, with its answer n: the first of the queue
 pub record Pops (r : Record) (names : List ℕ) (times : List ℤ) (line line′ : List ℕ) (n : Next) : Type 0 where
@@ -89,14 +89,14 @@ pub record Drops (r : Record) (times : List ℤ) (line line′ : List ℕ) (slot
   pub for-line : LineKept r line line′
   pub failed : r′ .failed ≡ r .failed
   pub reads : (names marks : List ℕ) (sh : Shape) (st : State) (x : Id) (t : ℤ) → Reads r (mem names marks times line) sh st → r .failed ≡ false → r .kept ≡ true
-      → NotWaiting r (mem names marks times line) sh x slot → entryOf (sh .timed) names times slot ≡ (x, t) → r .admitted + 2 < 4294967296
+      → NotWaiting r (mem names marks times line) sh x slot → entryOf (memoryWidth sh) (sh .timed) names times slot ≡ (x, t) → r .admitted + 2 < 4294967296
       → Reads r′ (mem names marks times line′) sh (dropped (backTo sh (x, t) (st .queue)) st)
 
 -- ---- start
 
--- the lent buffers have room for cap slots
-pub record Lent (names marks : List ℕ) (times : List ℤ) (line : List ℕ) (cap : ℕ) : Type 0 where
-  pub for-names : idBytes * cap ≤ length names
+-- the lent buffers have room for cap slots, with ids w bytes wide
+pub record Lent (w : ℕ) (names marks : List ℕ) (times : List ℤ) (line : List ℕ) (cap : ℕ) : Type 0 where
+  pub for-names : w * cap ≤ length names
   pub for-marks : cap ≤ length marks
   pub for-times : cap ≤ length times
   pub for-line : 5 * cap ≤ length line
@@ -104,5 +104,5 @@ pub record Lent (names marks : List ℕ) (times : List ℤ) (line : List ℕ) (c
 -- start: the slots are emptied, and beside a fresh record the memory reads as a walk with no tips
 pub record Starts (marks marks′ : List ℕ) (cap : ℕ) : Type 0 where
   pub empty : marks′ ≡ cleared cap marks
-  pub reads : (timed newest : Bool) (fixed : Fixed) (names : List ℕ) (times : List ℤ) (line : List ℕ) → Lent names marks times line cap
+  pub reads : (timed newest : Bool) (fixed : Fixed) (names : List ℕ) (times : List ℤ) (line : List ℕ) → Lent (widthOf (fixed .kind)) names marks times line cap
       → Reads (freshRecord timed newest cap fixed) (mem names marks′ times line) (record { timed = timed; newest = newest; cap = cap; fixed = fixed }) emptyState

@@ -14,13 +14,15 @@ ghost use mathlib.Core.Path.{_≡_};
 ghost use mathlib.Core.Bool.{cond};
 ghost use lib.ListN.{getD, set};
 ghost use lib.IntN.{pos};
-ghost use Rattle.state.specs.Shapes.{freshRecord, requeued};
+ghost use Rattle.state.specs.Shapes.{freshRecord, requeued, waitingIn};
+ghost use Rattle.state.specs.declared.Record.{Record};
 ghost use Rattle.state.specs.Steps.{Sees, Waits, Pops, Drops, Starts};
 
-// What an opening finds in the files and fixes for all calls, so that no call finds it again: where the chunks of the commit-graph file stand.
-// (The order and the number of slots, which it fixes too, are the queue's own.)
+// What an opening finds in the files and fixes for all calls, so that no call finds it again: where the chunks of the commit-graph file stand;
+// and the kind of the ids that the walk's memory holds. (The order and the number of slots, which it fixes too, are the queue's own.)
 pub struct Fixed {
     pub layout: Layout,
+    pub kind: Kind,
 }
 
 // What a call takes and gives back (document 01: one small record of counters).
@@ -94,7 +96,9 @@ pub fn see(r: Record, names: &mut [u8], marks: &mut [u8], id: &[u8]) -> Seen
     ensures { λ a. ⌜ Sees r (now (names .entry)) (now (marks .entry)) (now (names .exit)) (now (marks .exit)) (now (id .entry)) a ⌝ }
 {
     let q = r.queue;
-    let s = table::insert(Kind::Sha1, names, marks, q.cap, r.painted, id, SEEN);
+    let fixed = r.fixed;
+    let kind = fixed.kind;
+    let s = table::insert(kind, names, marks, q.cap, r.painted, id, SEEN);
     match s {
         Slot::Vacant(k) => Seen {
             fresh: true,
@@ -137,21 +141,57 @@ fn set_time(timed: bool, times: &mut [i64], slot: u32, s: Seconds)
     }
 }
 
-// The seen id in a slot is admitted: it waits, by time with its seconds.
-pub fn wait(r: Record, times: &mut [i64], line: &mut [u32], slot: usize, s: Seconds) -> Record
-    ensures { λ a. ⌜ Waits r (now (times .entry)) (now (times .exit)) (now (line .entry)) (now (line .exit)) slot (s .0) a ⌝ }
+// What the visits of a call change of a record: its queue, and how many commits ever waited. It goes through them by itself, since a record that goes by
+// value to a function that is not compiled into its caller is copied.
+pub struct Waiting {
+    pub queue: Queue,
+    pub admitted: usize,
+}
+
+// What waits in a record.
+pub fn waiting_of(r: Record) -> Waiting
+    ensures { λ a. ⌜ waitingIn r a ≡ r ⌝ }
 {
-    let q = r.queue;
-    let admitted = r.admitted;
+    let queue = r.queue;
+    Waiting {
+        queue,
+        admitted: r.admitted,
+    }
+}
+
+// The record with these that wait.
+pub fn with_waiting(r: Record, w: Waiting) -> Record
+    ensures { λ a. ⌜ a ≡ waitingIn r w ⌝ }
+{
+    with_queue(r, w.queue, r.kept, w.admitted)
+}
+
+// The seen id in a slot is admitted: it waits, by time with its seconds.
+pub fn lengthen(w: Waiting, times: &mut [i64], line: &mut [u32], slot: usize, s: Seconds) -> Waiting
+    ensures { λ a. ⌜ ((r : Record) → Waits (waitingIn r w) (now (times .entry)) (now (times .exit)) (now (line .entry)) (now (line .exit)) slot (s .0) (waitingIn r a)) ⌝ }
+{
+    let q = w.queue;
+    let admitted = w.admitted;
     if MOST < slot {
-        return r;
+        return w;
     }
     if MOST < admitted {
-        return r;
+        return w;
     }
     set_time(q.timed, times, slot as u32, s);
     let longer = queue::push(q, line, times, slot as u32);
-    with_queue(r, longer, r.kept, admitted + 1)
+    Waiting {
+        queue: longer,
+        admitted: admitted + 1,
+    }
+}
+
+// The same with the record, in which it waits.
+pub fn wait(r: Record, times: &mut [i64], line: &mut [u32], slot: usize, s: Seconds) -> Record
+    ensures { λ a. ⌜ Waits r (now (times .entry)) (now (times .exit)) (now (line .entry)) (now (line .exit)) slot (s .0) a ⌝ }
+{
+    let longer = lengthen(waiting_of(r), times, line, slot, s);
+    with_waiting(r, longer)
 }
 
 fn wide(x: u32) -> usize
@@ -175,7 +215,9 @@ pub fn pop(r: Record, names: &[u8], times: &[i64], line: &mut [u32]) -> Next
         };
     }
     let slot = wide(p.slot);
-    let id = object::id_of(table::id_of(Kind::Sha1, names, slot));
+    let fixed = r.fixed;
+    let kind = fixed.kind;
+    let id = object::id_of(table::id_of(kind, names, slot));
     let seconds = revwalk::seconds_of(times, p.slot);
     let rest = with_queue(r, p.queue, r.kept, r.admitted);
     Next {

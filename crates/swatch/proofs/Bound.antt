@@ -14,7 +14,7 @@ use Rattle.walk.specs.declared.Refusal.{Refusal}
 use Rattle.walk.specs.declared.Refusal.the-variants.{InputTooLarge}
 use Rattle.walk.specs.Refusals.{numberOf}
 use Rattle.walk.specs.State.{State}
-use Rattle.walk.specs.Opening.{Input, Lengths, P, roomFor, Opening, closed, opened, openWalk}
+use Rattle.walk.specs.Opening.{Input, widthIn, Lengths, P, roomFor, Opening, closed, opened, openWalk}
 use Rattle.walk.specs.Next.{Kind, end, refused, handed, Answer}
 use Rattle.walk.specs.Calls.{answerAt, answers}
 use Rattle.walk.specs.Reach.{Mem}
@@ -67,11 +67,11 @@ lines-short (a ∷ l) h =
     go true m = omega arith
     go false m = m
 
-answers-short : (i : Input) (st : State) → openWalk i true ≡ opened st → (n : ℕ) → length (linesOf (answers i n)) ≤ 45 * n
+answers-short : (i : Input) (st : State) → widthIn i ≡ idBytes → openWalk i true ≡ opened st → (n : ℕ) → length (linesOf (answers i n)) ≤ 45 * n
 unfolding AllNumbers
-answers-short i st e n =
+answers-short i st q e n =
     let s = lines-short (answers i n) (λ a m.
-    line-short (a .kind) (length (a .parents)) (λ x d. universe-wide i (open-accepted i st e) x (all-told i st e n a m .id-in x d)) (omega (arith, all-numbers i n a m .parents-in))) in
+    line-short (a .kind) (length (a .parents)) (λ x d. universe-wide i (open-accepted i st e) x (all-told i st e n a m .id-in x d) ∙ q) (omega (arith, all-numbers i n a m .parents-in))) in
     omega (arith, s, ap length (answers-at i n) ∙ length-upTo (answerAt i) n)
 
 -- ---- the input
@@ -83,12 +83,12 @@ places-few b h =
     byCases (ltb (length b) idBytes) (λ a. rw a (omega arith)) (λ a. rw a (simp length-drop (omega arith)))
 
 text-of-fits : (b : List ℕ) (room : Bool) → length b ≤ mostBytes → length (textOf (inputIn b) (openWalk (inputIn b) room)) ≤ mostBytes
-unfolding textOf
+unfolding textOf inputIn
 text-of-fits b room h = go (openWalk (inputIn b) room) refl
   where
     go : (o : Opening) → openWalk (inputIn b) room ≡ o → length (textOf (inputIn b) o) ≤ mostBytes
     go (closed r) e = omega (arith, refusal-short r)
-    go (opened st) e = omega (arith, answers-short (inputIn b) st (true-open (inputIn b) room st e) (P (inputIn b) + 2), places-few b h)
+    go (opened st) e = omega (arith, answers-short (inputIn b) st refl (true-open (inputIn b) room st e) (P (inputIn b) + 2), places-few b h)
 
 pub text-fits : (b : List ℕ) (l : Lengths) → length (text b l) ≤ mostBytes
 unfolding text

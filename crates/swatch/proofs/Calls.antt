@@ -8,7 +8,7 @@ use Rattle.walk.specs.declared.Outcome.the-variants.{Commit, End, Refused}
 use Rattle.walk.specs.Given.{Given, given, callsAfter}
 use Rattle.traverse.specs.Contract.{OfPaper}
 
-pub few-parents : {a : Given} {b b′ : List ℕ} → OfPaper a b b′ → a .info .parents < 1000
+pub few-parents : {w : ℕ} {a : Given} {b b′ : List ℕ} → OfPaper w a b b′ → a .info .parents < 1000
 unfolding given
 few-parents p = omega (arith, p .few, ap (λ (q : Given). q .info .parents) (p .is))
 

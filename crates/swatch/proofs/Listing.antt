@@ -7,7 +7,11 @@ use mathlib.Core.List.{List, [], _++_, append-assoc, append-nil}
 use native.Mathlib.Omega.{arith}
 use lib.ListN.{length}
 use Rattle.walk.specs.State.{Walk, State}
-use Rattle.walk.specs.Opening.{Input, walkOf, roomFor, Opening, opened, openWalk}
+use Rattle.hash.specs.Bytes.{Id}
+use Rattle.hash.proofs.Widths.{width-most}
+use Rattle.walk.specs.Reach.{Mem}
+use Rattle.walk.specs.AnyInput.{handedBy}
+use Rattle.walk.specs.Opening.{Input, widthIn, walkOf, roomFor, Opening, opened, openWalk}
 use Rattle.walk.specs.Next.{Kind, end, refused, handed, Answer, next}
 use Rattle.walk.specs.Calls.{stateOf, stateAfter, answerOn, answerAt, calls, answers}
 use Rattle.walk.specs.Given.{Given, given, outcomeOf, parentsGiven, callsAfter}
@@ -18,6 +22,7 @@ use Rattle.state.specs.declared.Record.{Record}
 use Rattle.state.specs.Reads.{Reads}
 use Rattle.state.specs.Shapes.{shapeOf}
 use Rattle.traverse.specs.Contract.{Files, Lent, inputWith, lengthsOf}
+use Rattle.traverse.proofs.Wide.{answer-wide}
 use Rattle.swatch.specs.declared.Turn.{Turn}
 use Rattle.swatch.specs.Text.{lineOf, lineGiven, isEnd, linesOf, parentsAfter}
 use Rattle.swatch.specs.Contract.{Puts, ListsCall, ListsCalls}
@@ -88,7 +93,7 @@ module _ (i : Input) (st : State) (e : openWalk i true ≡ opened st) where
   listing-next : {n : ℕ} {out₀ b₀ : List ℕ} {left : ℕ} {r : Record} {m : Lent} {out : List ℕ} {at : ℕ} {o : Given} {q : Record} {t : Turn} {m′ : Lent} {out′ : List ℕ}
       → (l : Listing i n out₀ b₀ left r m out at) → 0 < left → o ≡ given (answerAt i (l .k)) → m′ .parents ≡ parentsGiven (answerAt i (l .k)) (m .parents)
       → Reads q (m′ .memory) (shapeOf i) (stateAfter i (suc (l .k))) → t .record ≡ q → t .left ≡ callsAfter left (o .outcome)
-      → Puts out at (lineGiven (o .outcome) (o .info .id) (o .info .parents)) out′ (t .at) → Listing i n out₀ b₀ (t .left) (t .record) m′ out′ (t .at)
+      → Puts out at (lineGiven (widthIn i) (o .outcome) (o .info .id) (o .info .parents)) out′ (t .at) → Listing i n out₀ b₀ (t .left) (t .record) m′ out′ (t .at)
   unfolding given stateAfter rest
   listing-next {n} {out₀} {b₀} {left} {r} {m} {out} {at} {o} {q} {t} {m′} {out′} l h g b d s f p = record {
     k = suc (l .k);
@@ -115,8 +120,12 @@ module _ (i : Input) (st : State) (e : openWalk i true ≡ opened st) where
       is : answerAt i (l .k) ≡ a
       is = answer-next (l .k)
 
-      line-is : lineGiven (o .outcome) (o .info .id) (o .info .parents) ≡ line
-      line-is = ap (λ (y : Given). lineGiven (y .outcome) (y .info .id) (y .info .parents)) (g ∙ ap given is) ∙ given-line (a .kind) (length (a .parents))
+      -- the id is as wide as the kind says
+      wide : (x : Id) → Mem x (handedBy (a .kind)) → length x ≡ widthIn i
+      wide x d = answer-wide i (l .k) x (subst (λ (y : Answer). Mem x (handedBy (y .kind))) (sym is) d)
+
+      line-is : lineGiven (widthIn i) (o .outcome) (o .info .id) (o .info .parents) ≡ line
+      line-is = ap (λ (y : Given). lineGiven (widthIn i) (y .outcome) (y .info .id) (y .info .parents)) (g ∙ ap given is) ∙ given-line (widthIn i) (width-most (i .settings .kind)) (a .kind) (length (a .parents)) wide
 
       some-left : left ≡ suc (left - 1)
       some-left = omega arith

@@ -19,11 +19,11 @@ use Rattle.commitgraph.specs.Graph.{graphAll}
 use Rattle.walk.specs.declared.Refusal.{Refusal}
 use Rattle.walk.specs.declared.Refusal.the-variants.{InputTooLarge, PartialId, CorruptStore}
 use Rattle.walk.specs.State.{State}
-use Rattle.walk.specs.Opening.{Lengths, P, roomFor, sizesOk, wholeIds, refusal, openOr, opened, openWalk}
+use Rattle.walk.specs.Opening.{Lengths, widthIn, P, roomFor, sizesOk, wholeIds, refusal, openOr, opened, openWalk}
 use Rattle.walk.specs.Next.{Kind, end, refused, handed, Answer}
 use Rattle.walk.specs.Calls.{answerAt, answers, walkAll}
 use Rattle.walk.specs.Sums.{EndsBy, EndLaw}
-use Rattle.walk.specs.Runs.{idFor, storeOf, sample, says}
+use Rattle.walk.specs.Runs.{idFor, storeOf, sample, says, sampleWide}
 use Rattle.walk.proofs.Calls.{answers-at}
 use Rattle.walk.proofs.Whole.{end-law}
 use Rattle.traverse.proofs.Numbered.{length-upTo}
@@ -112,7 +112,7 @@ whole : (b : List ℕ) → length b ≡ idBytes → wholeIds (inputIn b) ≡ tru
 unfolding wholeIds inputIn
 whole b h = rw (eq-eqb (length (tipsIn b) % idBytes) 0 (omega (arith, tips-long b (omega arith))))
 
-no-bytes : (b : List ℕ) → length b ≡ idBytes → storeOk idBytes (inputIn b .store) ≡ false
+no-bytes : (b : List ℕ) → length b ≡ idBytes → storeOk (widthIn (inputIn b)) (inputIn b .store) ≡ false
 unfolding inputIn storeIn storeAll
 no-bytes b h = rw (le-ltb (length b) idBytes (omega arith), drop-of-length-le b {i = idBytes} (omega arith))
 
@@ -123,7 +123,7 @@ torn-store b h = rw (sizes-fine b (omega arith), whole b h, no-bytes b h)
 -- ---- all
 
 pub printed : Printed
-unfolding programLent says sample bytesAll idListAll headerAll storeAll graphAll walkAll hexDigit hex decimalIn decimal commitLine refusalLine endLine lineOf linesOf tipsIn storeIn inputIn textOf text
+unfolding programLent says sampleWide bytesAll idListAll headerAll storeAll graphAll walkAll hexDigit hex decimalIn decimal commitLine refusalLine endLine lineOf linesOf tipsIn storeIn inputIn textOf text
 printed = record {
   example = refl;
   history = refl;

@@ -3,7 +3,7 @@ use Prim.Native.Nat.{ℕ, _+_, _-_, _≤_, _<_}
 use mathlib.Core.Path.{_≡_}
 use mathlib.Core.List.{List}
 use lib.ListN.{length}
-use Rattle.hash.specs.Bytes.{setDown}
+use Rattle.hash.specs.Bytes.{widthOf, setDown}
 use Rattle.walk.specs.declared.Outcome.{Outcome}
 use Rattle.walk.specs.declared.Outcome.the-variants.{Commit, End, Refused}
 use Rattle.walk.specs.declared.Refusal.{Refusal}
@@ -32,7 +32,7 @@ pub record ListsCall (f : Files) (left : ℕ) (r : Record) (m : Lent) (out : Lis
   pub says : NextSays f r m given m′
   pub same-record : t .record ≡ given .record
   pub left-is : t .left ≡ callsAfter left (given .answer .outcome)
-  pub line : Puts out at (lineGiven (given .answer .outcome) (given .answer .info .id) (given .answer .info .parents)) out′ (t .at)
+  pub line : Puts out at (lineGiven (widthOf (f .settings .kind)) (given .answer .outcome) (given .answer .info .id) (given .answer .info .parents)) out′ (t .at)
 
 -- ---- all calls
 

@@ -5,6 +5,8 @@ use mathlib.Core.List.{List, [], _∷_, _++_}
 use lib.ListN.{length, take, drop}
 use lib.Dec.{ltb, leb}
 use Rattle.hash.specs.Bytes.{Id, idBytes}
+use Rattle.hash.specs.declared.Kind.the-variants.{Sha1}
+use Rattle.object.specs.Ids.{idIn}
 use Rattle.walk.specs.declared.Settings.{Settings}
 use Rattle.walk.specs.declared.Sorting.the-variants.{BreadthFirst}
 use Rattle.walk.specs.declared.Parents.the-variants.{All}
@@ -75,11 +77,11 @@ unfoldable pub parentsAfter : List Answer → List ℕ → List ℕ
 parentsAfter [] b = b
 parentsAfter (a ∷ rest) b = cond (isEnd (a .kind)) (parentsGiven a b) (parentsAfter rest (parentsGiven a b))
 
--- the same line, of an answer as the code gives it
-unfoldable pub lineGiven : Outcome → Id → ℕ → List ℕ
-lineGiven Commit x n = commitLine x n
-lineGiven End x n = endLine
-lineGiven (Refused r) x n = refusalLine r
+-- the same line, of an answer as the code gives it, with the id by value
+unfoldable pub lineGiven : ℕ → Outcome → Id → ℕ → List ℕ
+lineGiven w Commit x n = commitLine (idIn w x) n
+lineGiven w End x n = endLine
+lineGiven w (Refused r) x n = refusalLine r
 
 -- ---- the input
 
@@ -91,9 +93,9 @@ mostBytes = 65536
 abbrev pub emptyStore : List ℕ
 emptyStore = 0 ∷ 0 ∷ 0 ∷ 0 ∷ 0 ∷ 0 ∷ 0 ∷ 0 ∷ []
 
--- "breadth, All"
+-- "breadth, All", and ids of 20 bytes
 abbrev pub breadthAll : Settings
-breadthAll = record { sorting = BreadthFirst; parents = All }
+breadthAll = record { sorting = BreadthFirst; parents = All; kind = Sha1 }
 
 -- "reads a 20-byte tip, then a book … Under 20 bytes, all are the tip list and the book is 8 zero bytes"
 unfoldable pub tipsIn : List ℕ → List ℕ

@@ -2,6 +2,7 @@
 // number of parents on a line, each refusal on a line, and `end`. The work is one function over lent memory, `list`.
 mod put;
 
+use hash::Kind;
 use state::Record;
 use traverse::next;
 use traverse::open;
@@ -33,13 +34,14 @@ struct Turn {
     left: usize,
 }
 
-// Breadth order, all parents.
+// Breadth order, all parents, ids of 20 bytes.
 fn breadth_all() -> Settings
     ensures { λ r. ⌜ r ≡ breadthAll ⌝ }
 {
     Settings {
         sorting: Sorting::BreadthFirst,
         parents: Parents::All,
+        kind: Kind::Sha1,
     }
 }
 
@@ -79,7 +81,7 @@ fn list_call(
     let after = o.record;
     Turn {
         record: after,
-        at: put::answer(out, at, a),
+        at: put::answer(Kind::Sha1, out, at, a),
         left: walk::calls_after(left, outcome),
     }
 }
@@ -167,7 +169,7 @@ fn list_store(
         OpenOutcome::NotOpened(r) => put::refusal(out, 0, r),
         OpenOutcome::Accepted => {
             let first = o.record;
-            let calls = opening::capacity(store, none, tips, none) + 2;
+            let calls = opening::capacity(Kind::Sha1, store, none, tips, none) + 2;
             list_calls(
                 first,
                 calls,

@@ -1,10 +1,12 @@
 // Text put down at a place of a slice, where it fits. Each function answers the place after its text.
+use hash::Kind;
 use walk::Answer;
 use walk::Outcome;
 use walk::Refusal;
 ghost use mathlib.Core.Path.{_≡_};
 ghost use mathlib.Core.List.{[], _∷_};
 ghost use Prim.Native.Nat.{_+_, _/_, _%_, _<_};
+ghost use Rattle.hash.specs.Bytes.{widthOf};
 ghost use Rattle.swatch.specs.Text.{hexDigit, hex, decimal, commitLine, refusalLine, endLine, lineGiven};
 ghost use Rattle.swatch.specs.Contract.{Puts};
 
@@ -119,13 +121,13 @@ fn end(out: &mut [u8], at: usize) -> usize
 }
 
 // The line of an answer.
-pub(crate) fn answer(out: &mut [u8], at: usize, a: Answer) -> usize
-    ensures { λ r. ⌜ (a .info .parents < 1000 → Puts (now (out .entry)) at (lineGiven (a .outcome) (a .info .id) (a .info .parents)) (now (out .exit)) r) ⌝ }
+pub(crate) fn answer(kind: Kind, out: &mut [u8], at: usize, a: Answer) -> usize
+    ensures { λ r. ⌜ (a .info .parents < 1000 → Puts (now (out .entry)) at (lineGiven (widthOf kind) (a .outcome) (a .info .id) (a .info .parents)) (now (out .exit)) r) ⌝ }
 {
     let outcome = a.outcome;
     let info = a.info;
     match outcome {
-        Outcome::Commit => commit(out, at, &info.id, info.parents),
+        Outcome::Commit => commit(out, at, object::id_slice(kind, &info.id), info.parents),
         Outcome::End => end(out, at),
         Outcome::Refused(r) => refusal(out, at, r),
     }

@@ -10,8 +10,9 @@ use lib.ListN.{length, getD, set, drop, length-set}
 use lib.Dec.{ltb}
 use lib.IntN.{ℤ}
 use borrow.Author.Tests.{lt-ltb, le-ltb}
-use Rattle.hash.specs.Bytes.{Id, idBytes, ifSome}
+use Rattle.hash.specs.Bytes.{Id, ifSome}
 use Rattle.odb.specs.Store.{storeOk}
+use Rattle.object.specs.Ids.{idIn}
 use Rattle.object.specs.Header.{Header}
 use Rattle.object.specs.Read.{secondsRead}
 use Rattle.calendar.specs.Terms.{rise, goodTerms, termAt}
@@ -64,10 +65,10 @@ few-at n c (Refused r) p h = λ j. omega (arith, h j)
 
 -- ---- of one call more
 
-pub few-counts : (task : Task) (terms s : List ℕ) (n : ℕ) (c : List ℕ) (o : Outcome) (x : Id) → FewCounts n c → FewCounts (suc n) (countsBy task terms s c o x)
-few-counts tasks.Ids terms s n c o x h = λ j. omega (arith, h j)
-few-counts tasks.Feed terms s n c o x h = λ j. omega (arith, h j)
-few-counts tasks.Terms terms s n c o x h = few-at n c o (termOf terms s x) h
+pub few-counts : (w : ℕ) (task : Task) (terms s : List ℕ) (n : ℕ) (c : List ℕ) (o : Outcome) (x : Id) → FewCounts n c → FewCounts (suc n) (countsBy w task terms s c o x)
+few-counts w tasks.Ids terms s n c o x h = λ j. omega (arith, h j)
+few-counts w tasks.Feed terms s n c o x h = λ j. omega (arith, h j)
+few-counts w tasks.Terms terms s n c o x h = few-at n c o (termOf w terms s (idIn w x)) h
 
 long-at : (c : List ℕ) (o : Outcome) (p : Spot) → length (countsAfter c o p) ≡ length c
 long-at c Commit (Term k) = length-bumped c k
@@ -75,10 +76,10 @@ long-at c Commit Outside = refl
 long-at c End p = refl
 long-at c (Refused r) p = refl
 
-pub long-counts : (task : Task) (terms s c : List ℕ) (o : Outcome) (x : Id) → length (countsBy task terms s c o x) ≡ length c
-long-counts tasks.Ids terms s c o x = refl
-long-counts tasks.Feed terms s c o x = refl
-long-counts tasks.Terms terms s c o x = long-at c o (termOf terms s x)
+pub long-counts : (w : ℕ) (task : Task) (terms s c : List ℕ) (o : Outcome) (x : Id) → length (countsBy w task terms s c o x) ≡ length c
+long-counts w tasks.Ids terms s c o x = refl
+long-counts w tasks.Feed terms s c o x = refl
+long-counts w tasks.Terms terms s c o x = long-at c o (termOf w terms s (idIn w x))
 
 pub few-zeros : (n : ℕ) → FewCounts 0 (zeros n)
 few-zeros zero k = omega arith
@@ -105,9 +106,9 @@ spot-tip terms (some h) = go (h .seconds)
     go none = refl
     go (some v) = refl
 
-pub spot-read : (terms : List ℕ) {s : List ℕ} {x : Id} {r : TipRead} → ReadsTip s x r → storeOk idBytes s ≡ true → spotOf terms r ≡ termOf terms s x
+pub spot-read : {w : ℕ} (terms : List ℕ) {s : List ℕ} {x : Id} {r : TipRead} → ReadsTip w s x r → storeOk w s ≡ true → spotOf terms r ≡ termOf w terms s x
 unfolding termOf storeSeconds
-spot-read terms {s} {x} l ok = ap (spotOf terms) (tip-right l ok []) ∙ spot-tip terms (worldOf s [] .store x)
+spot-read {w} terms {s} {x} l ok = ap (spotOf terms) (tip-right l ok []) ∙ spot-tip terms (worldOf w s [] .store x)
 
 -- ---- a good list
 

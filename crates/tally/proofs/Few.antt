@@ -5,7 +5,8 @@ use mathlib.Core.Bool.{Bool, true, false, cond}
 use mathlib.Core.Option.{Option, none, some}
 use mathlib.Core.List.{List, []}
 use native.Mathlib.Omega.{arith}
-use Rattle.hash.specs.Bytes.{Id, idBytes, among, ifSome}
+use Rattle.hash.specs.Bytes.{Id, among, ifSome}
+use Rattle.object.specs.Ids.{idIn}
 use Rattle.odb.specs.Store.{storeFind}
 use Rattle.feed.specs.declared.Reading.{Reading}
 use Rattle.feed.specs.declared.Reading.the-variants.{Absent, Given}
@@ -173,7 +174,7 @@ few-by n t Commit p h = few-placed n t p h
 few-by n t End p h = few-up n (suc n) t (omega arith) h
 few-by n t (Refused r) p h = few-same n t (Refused r) h
 
-pub few-step : (task : Task) (embargoed terms s : List ℕ) (n : ℕ) (t : Tally) (o : Outcome) (x : Id) → Few n t → Few (suc n) (stepOf task embargoed terms s t o x)
-few-step tasks.Ids embargoed terms s n t o x h = few-same n t o h
-few-step tasks.Feed embargoed terms s n t o x h = few-fed n t o (feedFor idBytes (listIds embargoed) s x) (for-small idBytes (listIds embargoed) s x) h
-few-step tasks.Terms embargoed terms s n t o x h = few-by n t o (termOf terms s x) h
+pub few-step : (w : ℕ) (task : Task) (embargoed terms s : List ℕ) (n : ℕ) (t : Tally) (o : Outcome) (x : Id) → Few n t → Few (suc n) (stepOf w task embargoed terms s t o x)
+few-step w tasks.Ids embargoed terms s n t o x h = few-same n t o h
+few-step w tasks.Feed embargoed terms s n t o x h = few-fed n t o (feedFor w (listIds w embargoed) s (idIn w x)) (for-small w (listIds w embargoed) s (idIn w x)) h
+few-step w tasks.Terms embargoed terms s n t o x h = few-by n t o (termOf w terms s (idIn w x)) h

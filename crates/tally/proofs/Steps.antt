@@ -4,7 +4,7 @@ use Prim.Native.Nat.{ℕ}
 use mathlib.Core.Bool.{Bool, true, false, cond}
 use mathlib.Core.Option.{Option}
 use mathlib.Core.List.{List, []}
-use Rattle.hash.specs.Bytes.{Id, idBytes, among, ifSome}
+use Rattle.hash.specs.Bytes.{Id, among, ifSome}
 use Rattle.odb.specs.Store.{storeOk, storeFind}
 use Rattle.odb.specs.Lookup.{optionOf, TriesFind}
 use Rattle.feed.specs.declared.FeedOutcome.{FeedOutcome}
@@ -17,16 +17,16 @@ use Rattle.tally.specs.Feeds.{noReading, feedAt, feedFor, SmallIn}
 use Rattle.tally.specs.Tally.{readIn, halted, callsLeft}
 use Rattle.tally.proofs.Few.{in-small}
 
-pub feed-found : {s : List ℕ} {x : Id} {f : Bool} {b : List ℕ} → TriesFind idBytes s x f b → storeOk idBytes s ≡ true → readIn f b ≡ feedAt idBytes s x
+pub feed-found : {w : ℕ} {s : List ℕ} {x : Id} {f : Bool} {b : List ℕ} → TriesFind w s x f b → storeOk w s ≡ true → readIn f b ≡ feedAt w s x
 unfolding feedAt
-feed-found {s} {x} {f} {b} l ok = go f (l .good ok)
+feed-found {w} {s} {x} {f} {b} l ok = go f (l .good ok)
   where
-    go : (t : Bool) → optionOf t b ≡ storeFind idBytes s x → readIn t b ≡ ifSome (storeFind idBytes s x) noReading (λ c. feedOf c)
+    go : (t : Bool) → optionOf t b ≡ storeFind w s x → readIn t b ≡ ifSome (storeFind w s x) noReading (λ c. feedOf c)
     go true e = ap (λ (o : Option (List ℕ)). ifSome o noReading (λ c. feedOf c)) e
     go false e = ap (λ (o : Option (List ℕ)). ifSome o noReading (λ c. feedOf c)) e
 
 -- and they are small, whatever the store is
-pub small-found : {s : List ℕ} {x : Id} {f : Bool} {b : List ℕ} {q : FeedOutcome} → TriesFind idBytes s x f b → q ≡ readIn f b → SmallIn q
+pub small-found : {w : ℕ} {s : List ℕ} {x : Id} {f : Bool} {b : List ℕ} {q : FeedOutcome} → TriesFind w s x f b → q ≡ readIn f b → SmallIn q
 small-found {f = f} {b = b} l e = subst SmallIn (sym e) (in-small f b)
 
 -- ---- where some ids are withheld

@@ -3,7 +3,8 @@ use Prim.Native.Nat.{ℕ, _+_, _*_, _≤_}
 use mathlib.Core.Path.{_≡_}
 use mathlib.Core.Bool.{Bool, true, false, cond}
 use mathlib.Core.List.{List, [], _∷_}
-use Rattle.hash.specs.Bytes.{Id, idBytes, setDown}
+use Rattle.hash.specs.Bytes.{Id, setDown}
+use Rattle.object.specs.Ids.{idIn}
 use Rattle.odb.specs.Store.{storeOk}
 use Rattle.calendar.specs.Terms.{goodTerms}
 use Rattle.feed.specs.declared.FeedOutcome.{FeedOutcome}
@@ -48,11 +49,11 @@ reasonAfter first Commit = first
 reasonAfter first End = first
 reasonAfter first (Refused r) = reasonOr first (Refused r)
 
--- after a commit its id stands behind the n ids before it, where it fits
-abbrev pub idsAfter : List ℕ → ℕ → Outcome → Id → List ℕ
-idsAfter b n Commit x = setDown b (idBytes * n) x
-idsAfter b n End x = b
-idsAfter b n (Refused r) x = b
+-- after a commit its id, w bytes wide, stands behind the n ids before it, where it fits
+abbrev pub idsAfter : ℕ → List ℕ → ℕ → Outcome → Id → List ℕ
+idsAfter w b n Commit x = setDown b (w * n) (idIn w x)
+idsAfter w b n End x = b
+idsAfter w b n (Refused r) x = b
 
 abbrev pub noTally : Tally
 noTally = record { commits = 0; refused = 0; reason = End; feeds = noFeeds; outside = 0 }
@@ -99,23 +100,24 @@ countsAfter c Commit p = countsAt c p
 countsAfter c End p = c
 countsAfter c (Refused r) p = c
 
--- the tally after an answer that came out so and named the id x; s is the store, and the readings of the embargoed ids are withheld
-abbrev pub stepOf : Task → List ℕ → List ℕ → List ℕ → Tally → Outcome → Id → Tally
-stepOf Ids embargoed terms s t o x = counted t o (t .feeds)
-stepOf Feed embargoed terms s t o x = fedBy t o (feedFor idBytes (listIds embargoed) s x)
-stepOf Terms embargoed terms s t o x = placedBy t o (termOf terms s x)
+-- the tally after an answer that came out so and named by value the id x, w bytes wide; s is the store, and the readings of the embargoed ids are
+-- withheld
+abbrev pub stepOf : ℕ → Task → List ℕ → List ℕ → List ℕ → Tally → Outcome → Id → Tally
+stepOf w Ids embargoed terms s t o x = counted t o (t .feeds)
+stepOf w Feed embargoed terms s t o x = fedBy t o (feedFor w (listIds w embargoed) s (idIn w x))
+stepOf w Terms embargoed terms s t o x = placedBy t o (termOf w terms s (idIn w x))
 
 -- and the caller's buffer of ids
-abbrev pub idsBy : Task → List ℕ → ℕ → Outcome → Id → List ℕ
-idsBy Ids b n o x = idsAfter b n o x
-idsBy Feed b n o x = b
-idsBy Terms b n o x = b
+abbrev pub idsBy : ℕ → Task → List ℕ → ℕ → Outcome → Id → List ℕ
+idsBy w Ids b n o x = idsAfter w b n o x
+idsBy w Feed b n o x = b
+idsBy w Terms b n o x = b
 
 -- and of counts
-abbrev pub countsBy : Task → List ℕ → List ℕ → List ℕ → Outcome → Id → List ℕ
-countsBy Ids terms s c o x = c
-countsBy Feed terms s c o x = c
-countsBy Terms terms s c o x = countsAfter c o (termOf terms s x)
+abbrev pub countsBy : ℕ → Task → List ℕ → List ℕ → List ℕ → Outcome → Id → List ℕ
+countsBy w Ids terms s c o x = c
+countsBy w Feed terms s c o x = c
+countsBy w Terms terms s c o x = countsAfter c o (termOf w terms s (idIn w x))
 
 abbrev pub isRefusal : Outcome → Bool
 isRefusal Commit = false
@@ -143,15 +145,15 @@ pub record Held : Type 0 where
 abbrev pub holding : Tally → List ℕ → List ℕ → Held
 holding t b c = record { tally = t; ids = b; counts = c }
 
-abbrev pub stepped : Task → List ℕ → List ℕ → List ℕ → Held → Kind → Held
-stepped task embargoed terms s h k =
-    holding (stepOf task embargoed terms s (h .tally) (outcomeOf k) (idOfKind k)) (idsBy task (h .ids) (h .tally .commits) (outcomeOf k) (idOfKind k))
-    (countsBy task terms s (h .counts) (outcomeOf k) (idOfKind k))
+abbrev pub stepped : ℕ → Task → List ℕ → List ℕ → List ℕ → Held → Kind → Held
+stepped w task embargoed terms s h k =
+    holding (stepOf w task embargoed terms s (h .tally) (outcomeOf k) (idOfKind k)) (idsBy w task (h .ids) (h .tally .commits) (outcomeOf k) (idOfKind k))
+    (countsBy w task terms s (h .counts) (outcomeOf k) (idOfKind k))
 
 -- the step folded over a list of answers
-unfoldable pub folded : Task → List ℕ → List ℕ → List ℕ → Held → List Answer → Held
-folded task embargoed terms s h [] = h
-folded task embargoed terms s h (a ∷ rest) = folded task embargoed terms s (stepped task embargoed terms s h (a .kind)) rest
+unfoldable pub folded : ℕ → Task → List ℕ → List ℕ → List ℕ → Held → List Answer → Held
+folded w task embargoed terms s h [] = h
+folded w task embargoed terms s h (a ∷ rest) = folded w task embargoed terms s (stepped w task embargoed terms s h (a .kind)) rest
 
 -- ---- how great the numbers are
 
@@ -167,8 +169,8 @@ abbrev pub Low : Tally → Type 0
 Low t = Few 4294967296 t
 
 -- what a step is told over: a store whose layout is whole, a good list of terms, and numbers that one more fits
-pub record Ready (terms s : List ℕ) (t : Tally) (c : List ℕ) : Type 0 where
-  pub store-good : storeOk idBytes s ≡ true
+pub record Ready (w : ℕ) (terms s : List ℕ) (t : Tally) (c : List ℕ) : Type 0 where
+  pub store-good : storeOk w s ≡ true
   pub terms-good : goodTerms terms ≡ true
   pub low : Low t
   pub few : FewCounts 4294967296 c

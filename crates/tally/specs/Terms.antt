@@ -21,8 +21,8 @@ unfoldable pub spotAt : List ℕ → ℤ → Spot
 spotAt terms t = cond (ltb (termAt terms t) (length terms / 2)) (Term (termAt terms t)) Outside
 
 -- "by seconds from the book"; "runs without readable seconds in the book, are outside"
-unfoldable pub termOf : List ℕ → List ℕ → Id → Spot
-termOf terms s x = ifSome (storeSeconds (worldOf s []) x) Outside (λ t. spotAt terms t)
+unfoldable pub termOf : ℕ → List ℕ → List ℕ → Id → Spot
+termOf w terms s x = ifSome (storeSeconds (worldOf w s []) x) Outside (λ t. spotAt terms t)
 
 -- a list that is not good counts as none
 unfoldable pub goodPart : List ℕ → List ℕ

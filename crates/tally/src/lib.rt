@@ -14,7 +14,8 @@ ghost use mathlib.Core.Path.{_≡_};
 ghost use mathlib.Core.Bool.{true};
 ghost use mathlib.Core.Logic.{_↔_};
 ghost use Prim.Native.Nat.{_+_, _≤_, _<_};
-ghost use Rattle.hash.specs.Bytes.{idBytes};
+ghost use Rattle.hash.specs.Bytes.{widthOf};
+ghost use Rattle.object.specs.Ids.{idIn};
 ghost use Rattle.odb.specs.Store.{storeOk};
 ghost use Rattle.walk.specs.Opening.{listIds};
 ghost use Rattle.walk.specs.declared.Outcome.the-variants.{Commit};
@@ -121,14 +122,14 @@ fn count(t: Tally, outcome: Outcome, f: Feeds) -> Tally
 }
 
 // Sets down the id of a commit that was handed out, behind the n ids before it, where it fits.
-fn set_down_commit(ids: &mut [u8], n: usize, answer: Answer)
+fn set_down_commit(kind: Kind, ids: &mut [u8], n: usize, answer: Answer)
     requires { ⌜ n ≤ 4294967296 ⌝ }
-    ensures { λ r. ⌜ now (ids .exit) ≡ idsAfter (now (ids .entry)) n (answer .outcome) (answer .info .id) ⌝ }
+    ensures { λ r. ⌜ now (ids .exit) ≡ idsAfter (widthOf kind) (now (ids .entry)) n (answer .outcome) (answer .info .id) ⌝ }
 {
     let outcome = answer.outcome;
     let info = answer.info;
     match outcome {
-        Outcome::Commit => hash::set_nth(Kind::Sha1, ids, n, &info.id),
+        Outcome::Commit => hash::set_nth(kind, ids, n, object::id_slice(kind, &info.id)),
         Outcome::End => {}
         Outcome::Refused(_) => {}
     }
@@ -156,22 +157,22 @@ fn no_reading() -> FeedOutcome
 }
 
 // The readings of a commit, by its body in the store.
-fn feed_at(store: &[u8], id: &[u8]) -> FeedOutcome
-    ensures { λ r. ⌜ (storeOk idBytes (now (store .entry)) ≡ true → r ≡ feedAt idBytes (now (store .entry)) (now (id .entry))) × SmallIn r ⌝ }
+fn feed_at(kind: Kind, store: &[u8], id: &[u8]) -> FeedOutcome
+    ensures { λ r. ⌜ (storeOk (widthOf kind) (now (store .entry)) ≡ true → r ≡ feedAt (widthOf kind) (now (store .entry)) (now (id .entry))) × SmallIn r ⌝ }
 {
     let mut found = false;
-    let body = odb::try_find(Kind::Sha1, store, id, &mut found);
+    let body = odb::try_find(kind, store, id, &mut found);
     read_in(found, body)
 }
 
 // The readings of a commit; those of an embargoed one are withheld.
-fn feed_for(embargoed: &[u8], store: &[u8], id: &[u8]) -> FeedOutcome
-    ensures { λ r. ⌜ (storeOk idBytes (now (store .entry)) ≡ true → r ≡ feedFor idBytes (listIds (now (embargoed .entry))) (now (store .entry)) (now (id .entry))) × SmallIn r ⌝ }
+fn feed_for(kind: Kind, embargoed: &[u8], store: &[u8], id: &[u8]) -> FeedOutcome
+    ensures { λ r. ⌜ (storeOk (widthOf kind) (now (store .entry)) ≡ true → r ≡ feedFor (widthOf kind) (listIds (widthOf kind) (now (embargoed .entry))) (now (store .entry)) (now (id .entry))) × SmallIn r ⌝ }
 {
-    if reading::is_among(embargoed, id) {
+    if reading::is_among(kind, embargoed, id) {
         no_reading()
     } else {
-        feed_at(store, id)
+        feed_at(kind, store, id)
     }
 }
 
@@ -188,28 +189,31 @@ fn add_commit(t: Tally, read: FeedOutcome) -> Tally
 }
 
 // A tally with an answer more, for the feed report.
-fn feed_step(t: Tally, answer: Answer, embargoed: &[u8], store: &[u8]) -> Tally
+fn feed_step(kind: Kind, t: Tally, answer: Answer, embargoed: &[u8], store: &[u8]) -> Tally
     requires { ⌜ Low t ⌝ }
-    ensures { λ r. ⌜ (storeOk idBytes (now (store .entry)) ≡ true → r ≡ fedBy t (answer .outcome) (feedFor idBytes (listIds (now (embargoed .entry))) (now (store .entry)) (answer .info .id))) ⌝ }
+    ensures { λ r. ⌜ (storeOk (widthOf kind) (now (store .entry)) ≡ true → r ≡ fedBy t (answer .outcome) (feedFor (widthOf kind) (listIds (widthOf kind) (now (embargoed .entry))) (now (store .entry)) (idIn (widthOf kind) (answer .info .id)))) ⌝ }
 {
     let outcome = answer.outcome;
     let info = answer.info;
     let had = t.feeds;
     match outcome {
-        Outcome::Commit => add_commit(t, feed_for(embargoed, store, &info.id)),
+        Outcome::Commit => add_commit(
+            t,
+            feed_for(kind, embargoed, store, object::id_slice(kind, &info.id)),
+        ),
         Outcome::End => t,
         Outcome::Refused(_) => count(t, outcome, had),
     }
 }
 
 // A tally with an answer more, for the ids, which are set down where they fit.
-fn ids_step(t: Tally, answer: Answer, ids: &mut [u8]) -> Tally
+fn ids_step(kind: Kind, t: Tally, answer: Answer, ids: &mut [u8]) -> Tally
     requires { ⌜ Low t ⌝ }
-    ensures { λ r. ⌜ (r ≡ counted t (answer .outcome) (t .feeds)) × (now (ids .exit) ≡ idsAfter (now (ids .entry)) (t .commits) (answer .outcome) (answer .info .id)) ⌝ }
+    ensures { λ r. ⌜ (r ≡ counted t (answer .outcome) (t .feeds)) × (now (ids .exit) ≡ idsAfter (widthOf kind) (now (ids .entry)) (t .commits) (answer .outcome) (answer .info .id)) ⌝ }
 {
     let outcome = answer.outcome;
     let had = t.feeds;
-    set_down_commit(ids, t.commits, answer);
+    set_down_commit(kind, ids, t.commits, answer);
     count(t, outcome, had)
 }
 
@@ -245,15 +249,26 @@ fn place(t: Tally, spot: Spot, counts: &mut [u64]) -> Tally
 }
 
 // A tally with an answer more, for the report by terms.
-fn terms_step(t: Tally, answer: Answer, store: &[u8], terms: &[u32], counts: &mut [u64]) -> Tally
+fn terms_step(
+    kind: Kind,
+    t: Tally,
+    answer: Answer,
+    store: &[u8],
+    terms: &[u32],
+    counts: &mut [u64],
+) -> Tally
     requires { ⌜ Low t ⌝ }
-    ensures { λ r. ⌜ (Ready (now (terms .entry)) (now (store .entry)) t (now (counts .entry)) → (r ≡ placedBy t (answer .outcome) (termOf (now (terms .entry)) (now (store .entry)) (answer .info .id))) × (now (counts .exit) ≡ countsAfter (now (counts .entry)) (answer .outcome) (termOf (now (terms .entry)) (now (store .entry)) (answer .info .id)))) ⌝ }
+    ensures { λ r. ⌜ (Ready (widthOf kind) (now (terms .entry)) (now (store .entry)) t (now (counts .entry)) → (r ≡ placedBy t (answer .outcome) (termOf (widthOf kind) (now (terms .entry)) (now (store .entry)) (idIn (widthOf kind) (answer .info .id)))) × (now (counts .exit) ≡ countsAfter (now (counts .entry)) (answer .outcome) (termOf (widthOf kind) (now (terms .entry)) (now (store .entry)) (idIn (widthOf kind) (answer .info .id))))) ⌝ }
 {
     let outcome = answer.outcome;
     let info = answer.info;
     let had = t.feeds;
     match outcome {
-        Outcome::Commit => place(t, terms::term_of(terms, store, &info.id), counts),
+        Outcome::Commit => place(
+            t,
+            terms::term_of(kind, terms, store, object::id_slice(kind, &info.id)),
+            counts,
+        ),
         Outcome::End => t,
         Outcome::Refused(_) => count(t, outcome, had),
     }
@@ -261,6 +276,7 @@ fn terms_step(t: Tally, answer: Answer, store: &[u8], terms: &[u32], counts: &mu
 
 // What an answer more comes to, where one more fits each number.
 fn fold_low(
+    kind: Kind,
     task: Task,
     t: Tally,
     answer: Answer,
@@ -271,12 +287,12 @@ fn fold_low(
     counts: &mut [u64],
 ) -> Tally
     requires { ⌜ Low t ⌝ }
-    ensures { λ r. ⌜ (Ready (now (terms .entry)) (now (store .entry)) t (now (counts .entry)) → (r ≡ stepOf task (now (embargoed .entry)) (now (terms .entry)) (now (store .entry)) t (answer .outcome) (answer .info .id)) × (now (ids .exit) ≡ idsBy task (now (ids .entry)) (t .commits) (answer .outcome) (answer .info .id)) × (now (counts .exit) ≡ countsBy task (now (terms .entry)) (now (store .entry)) (now (counts .entry)) (answer .outcome) (answer .info .id))) ⌝ }
+    ensures { λ r. ⌜ (Ready (widthOf kind) (now (terms .entry)) (now (store .entry)) t (now (counts .entry)) → (r ≡ stepOf (widthOf kind) task (now (embargoed .entry)) (now (terms .entry)) (now (store .entry)) t (answer .outcome) (answer .info .id)) × (now (ids .exit) ≡ idsBy (widthOf kind) task (now (ids .entry)) (t .commits) (answer .outcome) (answer .info .id)) × (now (counts .exit) ≡ countsBy (widthOf kind) task (now (terms .entry)) (now (store .entry)) (now (counts .entry)) (answer .outcome) (answer .info .id))) ⌝ }
 {
     match task {
-        Task::Ids => ids_step(t, answer, ids),
-        Task::Feed => feed_step(t, answer, embargoed, store),
-        Task::Terms => terms_step(t, answer, store, terms, counts),
+        Task::Ids => ids_step(kind, t, answer, ids),
+        Task::Feed => feed_step(kind, t, answer, embargoed, store),
+        Task::Terms => terms_step(kind, t, answer, store, terms, counts),
     }
 }
 
@@ -299,6 +315,7 @@ fn is_low(t: Tally) -> bool
 
 // The step: what an answer more comes to. Numbers that one more might not fit are left as they are; no walk comes to them.
 pub fn fold(
+    kind: Kind,
     task: Task,
     t: Tally,
     answer: Answer,
@@ -308,10 +325,10 @@ pub fn fold(
     terms: &[u32],
     counts: &mut [u64],
 ) -> Tally
-    ensures { λ r. ⌜ (Ready (now (terms .entry)) (now (store .entry)) t (now (counts .entry)) → (r ≡ stepOf task (now (embargoed .entry)) (now (terms .entry)) (now (store .entry)) t (answer .outcome) (answer .info .id)) × (now (ids .exit) ≡ idsBy task (now (ids .entry)) (t .commits) (answer .outcome) (answer .info .id)) × (now (counts .exit) ≡ countsBy task (now (terms .entry)) (now (store .entry)) (now (counts .entry)) (answer .outcome) (answer .info .id))) ⌝ }
+    ensures { λ r. ⌜ (Ready (widthOf kind) (now (terms .entry)) (now (store .entry)) t (now (counts .entry)) → (r ≡ stepOf (widthOf kind) task (now (embargoed .entry)) (now (terms .entry)) (now (store .entry)) t (answer .outcome) (answer .info .id)) × (now (ids .exit) ≡ idsBy (widthOf kind) task (now (ids .entry)) (t .commits) (answer .outcome) (answer .info .id)) × (now (counts .exit) ≡ countsBy (widthOf kind) task (now (terms .entry)) (now (store .entry)) (now (counts .entry)) (answer .outcome) (answer .info .id))) ⌝ }
 {
     if is_low(t) {
-        fold_low(task, t, answer, store, ids, embargoed, terms, counts)
+        fold_low(kind, task, t, answer, store, ids, embargoed, terms, counts)
     } else {
         t
     }

@@ -1,11 +1,12 @@
 // Counting by terms: the term of a commit, and a buffer of counts, one number a term.
 use date::Seconds;
+use hash::Kind;
 use reading::TipRead;
 ghost use mathlib.Core.Path.{_≡_};
 ghost use mathlib.Core.Bool.{true};
 ghost use Prim.Native.Nat.{_≤_};
 ghost use lib.ListN.{length};
-ghost use Rattle.hash.specs.Bytes.{idBytes};
+ghost use Rattle.hash.specs.Bytes.{widthOf};
 ghost use Rattle.odb.specs.Store.{storeOk};
 ghost use Rattle.calendar.specs.Terms.{goodTerms};
 ghost use Rattle.tally.specs.Terms.{spotAt, spotOf, termOf, goodPart, bumped, zeros, FewCounts};
@@ -40,10 +41,10 @@ fn spot_of(terms: &[u32], read: TipRead) -> Spot
 }
 
 // The term of a commit, by its seconds in the store.
-pub(crate) fn term_of(terms: &[u32], store: &[u8], id: &[u8]) -> Spot
-    ensures { λ r. ⌜ (goodTerms (now (terms .entry)) ≡ true → storeOk idBytes (now (store .entry)) ≡ true → r ≡ termOf (now (terms .entry)) (now (store .entry)) (now (id .entry))) ⌝ }
+pub(crate) fn term_of(kind: Kind, terms: &[u32], store: &[u8], id: &[u8]) -> Spot
+    ensures { λ r. ⌜ (goodTerms (now (terms .entry)) ≡ true → storeOk (widthOf kind) (now (store .entry)) ≡ true → r ≡ termOf (widthOf kind) (now (terms .entry)) (now (store .entry)) (now (id .entry))) ⌝ }
 {
-    spot_of(terms, reading::read_tip(store, id))
+    spot_of(terms, reading::read_tip(kind, store, id))
 }
 
 // The list itself where it is a good one, else none of it.

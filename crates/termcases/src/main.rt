@@ -1,6 +1,7 @@
 // Prints the first day of each month of the calendar and of the one past it; then makes the report by terms of each case of standard input, and prints it: `whole`
 // or `refused` and the number, the counts, among them two past the most terms, and the commits outside.
-// A case is the settings and the parts; before it stands its own length, at most 65,536. tools/make_terms.py says where each stands, and makes them.
+// A case is the width of ids, the settings and the parts; before it stands its own length, at most 65,536. tools/make_terms.py says where each stands, and
+// makes them.
 use libc::STDOUT_FILENO;
 use reports::Reported;
 use termsreport::TermsReport;
@@ -71,13 +72,14 @@ fn low(n: u64) -> i64 {
     (n % 9223372036854775808) as i64
 }
 
-// The settings of a case.
+// The width of ids and the settings of a case.
 fn settings(head: &[u8]) -> Settings {
     wire::settings_of(
         hash::be32(head, 0),
         hash::be32(head, 4),
-        low(hash::be64(head, 12)),
         hash::be32(head, 8),
+        low(hash::be64(head, 16)),
+        hash::be32(head, 12),
     )
 }
 
@@ -105,17 +107,17 @@ fn run_terms(
     parents: &mut [u8],
     counts: &mut [u64],
 ) {
-    let s = number_at(input, 20);
-    let g = number_at(input, 24);
-    let t = number_at(input, 28);
-    let h = number_at(input, 32);
-    let e = number_at(input, 36);
+    let s = number_at(input, 24);
+    let g = number_at(input, 28);
+    let t = number_at(input, 32);
+    let h = number_at(input, 36);
+    let e = number_at(input, 40);
     let r = termsreport::terms_report(
-        hash::part(input, 44, s),
-        hash::part(input, 44 + s, g),
-        hash::part(input, 44 + s + g, t),
-        hash::part(input, 44 + s + g + t, h),
-        hash::part(input, 44 + s + g + t + h, e),
+        hash::part(input, 48, s),
+        hash::part(input, 48 + s, g),
+        hash::part(input, 48 + s + g, t),
+        hash::part(input, 48 + s + g + t, h),
+        hash::part(input, 48 + s + g + t + h, e),
         settings(input),
         months,
         names,
@@ -129,14 +131,14 @@ fn run_terms(
     print_report(r, counts);
 }
 
-// A case, in memory for 512 places.
+// A case, in memory for 512 places of either kind.
 fn run_in_memory(input: &[u8], months: &[u32]) {
-    let mut names = [0u8; 10240];
+    let mut names = [0u8; 16384];
     let mut marks = [0u8; 512];
     let mut levels = [0u32; 512];
     let mut times = [0i64; 512];
     let mut line = [0u32; 2560];
-    let mut parents = [0u8; 5120];
+    let mut parents = [0u8; 8192];
     let mut counts = [7u64; 26];
     run_terms(
         input,
@@ -162,7 +164,7 @@ fn run_first(input: &[u8], months: &[u32], n: usize) {
 
 // The months stand at the case's end.
 fn run_case(input: &[u8]) {
-    let m = number_at(input, 40);
+    let m = number_at(input, 44);
     let mut months = [0u32; 64];
     if input.len() < m {
         return;

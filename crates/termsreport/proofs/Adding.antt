@@ -60,9 +60,9 @@ spot-below terms t = go (ltb (termAt terms t) (length terms / 2)) refl
     go true h j e = let z : termAt terms t ≡ j = cc in omega (arith, z, ltb-true (termAt terms t) (length terms / 2) h)
     go false h j e = outside-below (length terms / 2) j e
 
-term-below : (terms s : List ℕ) (x : Id) → Below (length terms / 2) (termOf terms s x)
+term-below : (width : ℕ) (terms s : List ℕ) (x : Id) → Below (length terms / 2) (termOf width terms s x)
 unfolding termOf
-term-below terms s x = go (storeSeconds (worldOf s []) x)
+term-below width terms s x = go (storeSeconds (worldOf width s []) x)
   where
     go : (o : Option ℤ) → Below (length terms / 2) (ifSome o Outside (λ t. spotAt terms t))
     go none = outside-below (length terms / 2)
@@ -79,15 +79,15 @@ past-one k m Outside b h = refl
 
 -- ---- some commits
 
-pub past-none : (terms s : List ℕ) (l : List Id) (k : ℕ) → length terms / 2 ≤ k → countIn terms s l k ≡ 0
+pub past-none : (width : ℕ) (terms s : List ℕ) (l : List Id) (k : ℕ) → length terms / 2 ≤ k → countIn width terms s l k ≡ 0
 unfolding countIn
-past-none terms s [] k h = refl
-past-none terms s (x ∷ l) k h = omega (arith, past-one k (length terms / 2) (termOf terms s x) (term-below terms s x) h, past-none terms s l k h)
+past-none width terms s [] k h = refl
+past-none width terms s (x ∷ l) k h = omega (arith, past-one k (length terms / 2) (termOf width terms s x) (term-below width terms s x) h, past-none width terms s l k h)
 
-pub counts-all : (terms s : List ℕ) (l : List Id) (n : ℕ) → length terms / 2 ≤ n → sum (countsIn terms s l n) + countOutside terms s l ≡ length l
+pub counts-all : (width : ℕ) (terms s : List ℕ) (l : List Id) (n : ℕ) → length terms / 2 ≤ n → sum (countsIn width terms s l n) + countOutside width terms s l ≡ length l
 unfolding countIn countOutside
-counts-all terms s [] n h = omega (arith, sum-zeros (countIn terms s []) (λ k. refl) n)
-counts-all terms s (x ∷ l) n h =
-    let a : sum (upTo (countIn terms s (x ∷ l)) n) ≡ sum (upTo (λ k. oneIn k (termOf terms s x)) n) + sum (upTo (countIn terms s l) n) =
-    ap sum (counts-same (countIn terms s (x ∷ l)) (λ k. oneIn k (termOf terms s x) + countIn terms s l k) (λ k. refl) n) ∙ sum-plus (λ k. oneIn k (termOf terms s x)) (countIn terms s l) n in
-    omega (arith, a, one-place n (length terms / 2) (termOf terms s x) (term-below terms s x) h, counts-all terms s l n h)
+counts-all width terms s [] n h = omega (arith, sum-zeros (countIn width terms s []) (λ k. refl) n)
+counts-all width terms s (x ∷ l) n h =
+    let a : sum (upTo (countIn width terms s (x ∷ l)) n) ≡ sum (upTo (λ k. oneIn k (termOf width terms s x)) n) + sum (upTo (countIn width terms s l) n) =
+    ap sum (counts-same (countIn width terms s (x ∷ l)) (λ k. oneIn k (termOf width terms s x) + countIn width terms s l k) (λ k. refl) n) ∙ sum-plus (λ k. oneIn k (termOf width terms s x)) (countIn width terms s l) n in
+    omega (arith, a, one-place n (length terms / 2) (termOf width terms s x) (term-below width terms s x) h, counts-all width terms s l n h)

@@ -57,24 +57,24 @@ at-outside n Outside = omega arith
 
 -- ---- one commit more
 
-count-more : (terms s : List ℕ) (l : List Id) (x : Id) (k : ℕ) → countIn terms s (l ++ (x ∷ [])) k ≡ countIn terms s l k + oneIn k (termOf terms s x)
+count-more : (width : ℕ) (terms s : List ℕ) (l : List Id) (x : Id) (k : ℕ) → countIn width terms s (l ++ (x ∷ [])) k ≡ countIn width terms s l k + oneIn k (termOf width terms s x)
 unfolding countIn
-count-more terms s [] x k = omega arith
-count-more terms s (y ∷ l) x k = omega (arith, count-more terms s l x k)
+count-more width terms s [] x k = omega arith
+count-more width terms s (y ∷ l) x k = omega (arith, count-more width terms s l x k)
 
-outside-more : (terms s : List ℕ) (l : List Id) (x : Id) → countOutside terms s (l ++ (x ∷ [])) ≡ countOutside terms s l + oneOutside (termOf terms s x)
+outside-more : (width : ℕ) (terms s : List ℕ) (l : List Id) (x : Id) → countOutside width terms s (l ++ (x ∷ [])) ≡ countOutside width terms s l + oneOutside (termOf width terms s x)
 unfolding countOutside
-outside-more terms s [] x = omega arith
-outside-more terms s (y ∷ l) x = omega (arith, outside-more terms s l x)
+outside-more width terms s [] x = omega arith
+outside-more width terms s (y ∷ l) x = omega (arith, outside-more width terms s l x)
 
-pub none-counted : (terms s : List ℕ) (n : ℕ) → zeros n ≡ countsIn terms s [] n
+pub none-counted : (width : ℕ) (terms s : List ℕ) (n : ℕ) → zeros n ≡ countsIn width terms s [] n
 unfolding countIn
-none-counted terms s n = zeros-up n ∙ counts-same (λ k. 0) (countIn terms s []) (λ k. refl) n
+none-counted width terms s n = zeros-up n ∙ counts-same (λ k. 0) (countIn width terms s []) (λ k. refl) n
 
-pub counts-at : (terms s : List ℕ) (l : List Id) (x : Id) (n : ℕ) → countsAt (countsIn terms s l n) (termOf terms s x) ≡ countsIn terms s (l ++ (x ∷ [])) n
-counts-at terms s l x n =
-    at-counts (countIn terms s l) n (termOf terms s x)
-    ∙ counts-same (λ k. countIn terms s l k + oneIn k (termOf terms s x)) (countIn terms s (l ++ (x ∷ []))) (λ k. sym (count-more terms s l x k)) n
+pub counts-at : (width : ℕ) (terms s : List ℕ) (l : List Id) (x : Id) (n : ℕ) → countsAt (countsIn width terms s l n) (termOf width terms s x) ≡ countsIn width terms s (l ++ (x ∷ [])) n
+counts-at width terms s l x n =
+    at-counts (countIn width terms s l) n (termOf width terms s x)
+    ∙ counts-same (λ k. countIn width terms s l k + oneIn k (termOf width terms s x)) (countIn width terms s (l ++ (x ∷ []))) (λ k. sym (count-more width terms s l x k)) n
 
-pub outside-at : (terms s : List ℕ) (l : List Id) (x : Id) → outsideAt (countOutside terms s l) (termOf terms s x) ≡ countOutside terms s (l ++ (x ∷ []))
-outside-at terms s l x = at-outside (countOutside terms s l) (termOf terms s x) ∙ sym (outside-more terms s l x)
+pub outside-at : (width : ℕ) (terms s : List ℕ) (l : List Id) (x : Id) → outsideAt (countOutside width terms s l) (termOf width terms s x) ≡ countOutside width terms s (l ++ (x ∷ []))
+outside-at width terms s l x = at-outside (countOutside width terms s l) (termOf width terms s x) ∙ sym (outside-more width terms s l x)

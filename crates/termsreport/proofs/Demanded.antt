@@ -13,7 +13,7 @@ use Rattle.walk.specs.declared.Refusal.{Refusal}
 use Rattle.walk.specs.declared.Refusal.the-variants.{BadTerms}
 use Rattle.walk.specs.declared.Outcome.{Outcome}
 use Rattle.walk.specs.declared.Outcome.the-variants.{Commit, End, Refused as Stopped}
-use Rattle.walk.specs.Opening.{Input, walkOf, listIds, refusal, P, roomFor, Opening, closed, opened, openWalk}
+use Rattle.walk.specs.Opening.{Input, widthIn, walkOf, listIds, refusal, P, roomFor, Opening, closed, opened, openWalk}
 use Rattle.walk.specs.Demand.{Premises}
 use Rattle.traverse.specs.Contract.{Lent, lengthsOf}
 use Rattle.driver.specs.Walked.{allAnswers, wholeList}
@@ -36,10 +36,10 @@ whole-adds : (i : Input) (terms : List ℕ) (n : ℕ) → length terms / 2 ≤ n
 unfolding termsReport termsCounts
 whole-adds i terms n h o = go (firstRefusal (allAnswers i)) o
   where
-    go : (f : Outcome) → termsBy f (countOutside terms (i .store) (wholeList i)) .outcome ≡ Whole
-        → sum (keptBy f (countsIn terms (i .store) (wholeList i) n)) + termsBy f (countOutside terms (i .store) (wholeList i)) .outside ≡ length (wholeList i)
-    go Commit w = counts-all terms (i .store) (wholeList i) n h
-    go End w = counts-all terms (i .store) (wholeList i) n h
+    go : (f : Outcome) → termsBy f (countOutside (widthIn i) terms (i .store) (wholeList i)) .outcome ≡ Whole
+        → sum (keptBy f (countsIn (widthIn i) terms (i .store) (wholeList i) n)) + termsBy f (countOutside (widthIn i) terms (i .store) (wholeList i)) .outside ≡ length (wholeList i)
+    go Commit w = counts-all (widthIn i) terms (i .store) (wholeList i) n h
+    go End w = counts-all (widthIn i) terms (i .store) (wholeList i) n h
     go (Stopped q) w = not-whole q w
 
 module _ (i : Input) (terms : List ℕ) (m : Lent) (counts : List ℕ) (r : TermsReport) (m′ : Lent) (counts′ : List ℕ) (s : TermsSays i terms m counts r m′ counts′) where
@@ -58,7 +58,7 @@ module _ (i : Input) (terms : List ℕ) (m : Lent) (counts : List ℕ) (r : Term
       by-list true g = by-opening g (openWalk i (roomFor i (lengthsOf m))) refl
       by-list false g = not-whole BadTerms (sym (ap (λ (x : TermsReport). x .outcome) (s .bad-list g .0)) ∙ o)
 
-  of-listed : goodTerms terms ≡ true → refusal i ≡ none → roomFor i (lengthsOf m) ≡ true → Premises (walkOf i) (listIds (i .tips)) → OfListed i terms counts r counts′
+  of-listed : goodTerms terms ≡ true → refusal i ≡ none → roomFor i (lengthsOf m) ≡ true → Premises (walkOf i) (listIds (widthIn i) (i .tips)) → OfListed i terms counts r counts′
   unfolding termsReport termsCounts
   of-listed g e room pre =
       let q = listed-whole i e pre in
@@ -69,16 +69,16 @@ module _ (i : Input) (terms : List ℕ) (m : Lent) (counts : List ℕ) (r : Term
         list = d .list;
         no-repeats = d .different;
         exactly = d .exactly;
-        is = k .0 ∙ ap (λ (o : Outcome). termsBy o (countOutside terms (i .store) (wholeList i))) f ∙ ap (λ (l : List Id). termsBy End (countOutside terms (i .store) l)) (q .1);
+        is = k .0 ∙ ap (λ (o : Outcome). termsBy o (countOutside (widthIn i) terms (i .store) (wholeList i))) f ∙ ap (λ (l : List Id). termsBy End (countOutside (widthIn i) terms (i .store) l)) (q .1);
         counts-are =
             k .1
-            ∙ ap (λ (o : Outcome). keptBy o (countsIn terms (i .store) (wholeList i) (length counts))) f
-            ∙ ap (λ (l : List Id). countsIn terms (i .store) l (length counts)) (q .1);
+            ∙ ap (λ (o : Outcome). keptBy o (countsIn (widthIn i) terms (i .store) (wholeList i) (length counts))) f
+            ∙ ap (λ (l : List Id). countsIn (widthIn i) terms (i .store) l (length counts)) (q .1);
       }
 
 pub terms-demand : (i : Input) (terms : List ℕ) (m : Lent) (counts : List ℕ) → TermsDemand i terms m counts
 terms-demand i terms m counts = record {
   adds-up = λ r m′ counts′ s. adds i terms m counts r m′ counts′ s;
-  past-terms = λ l k h. past-none terms (i .store) l k h;
+  past-terms = λ l k h. past-none (widthIn i) terms (i .store) l k h;
   demanded = λ r m′ counts′ s. of-listed i terms m counts r m′ counts′ s;
 }

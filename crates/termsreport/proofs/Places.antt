@@ -23,9 +23,9 @@ use Rattle.tally.specs.declared.terms.Spot.the-variants.{Term, Outside}
 use Rattle.tally.specs.Terms.{spotAt, termOf}
 use Rattle.termsreport.specs.Places.{Places}
 
-at-seconds : (terms s : List ℕ) (x : Id) (o : Option ℤ) → storeSeconds (worldOf s []) x ≡ o → termOf terms s x ≡ ifSome o Outside (λ t. spotAt terms t)
+at-seconds : (width : ℕ) (terms s : List ℕ) (x : Id) (o : Option ℤ) → storeSeconds (worldOf width s []) x ≡ o → termOf width terms s x ≡ ifSome o Outside (λ t. spotAt terms t)
 unfolding termOf
-at-seconds terms s x o e = ap (λ (q : Option ℤ). ifSome q Outside (λ t. spotAt terms t)) e
+at-seconds width terms s x o e = ap (λ (q : Option ℤ). ifSome q Outside (λ t. spotAt terms t)) e
 
 -- a term that has the seconds is the one that is named
 found : (terms : List ℕ) (t : ℤ) (k : ℕ) → goodTerms terms ≡ true → k < length terms / 2 → hasSeconds terms k t ≡ true → spotAt terms t ≡ Term k
@@ -53,10 +53,10 @@ late terms n k g h q =
     let p : firstDay 1560 ≤ n / 86400 = past 1559 n h in
     after (firstMonth terms k) (lastMonth terms k) n (omega (arith, o, p))
 
-pub places : (terms s : List ℕ) → Places terms s
-places terms s = record {
-  in-term = λ g x t k e h q. at-seconds terms s x (some t) e ∙ found terms t k g h q;
-  before-1970 = λ g x n e. at-seconds terms s x (some (negsuc n)) e ∙ missed terms (negsuc n) (λ k h. negative (firstMonth terms k) (lastMonth terms k) n);
-  after-2099 = λ g x n e h. at-seconds terms s x (some (pos n)) e ∙ missed terms (pos n) (λ k q. late terms n k g h q);
-  unread = λ x e. at-seconds terms s x none e;
+pub places : (width : ℕ) (terms s : List ℕ) → Places width terms s
+places width terms s = record {
+  in-term = λ g x t k e h q. at-seconds width terms s x (some t) e ∙ found terms t k g h q;
+  before-1970 = λ g x n e. at-seconds width terms s x (some (negsuc n)) e ∙ missed terms (negsuc n) (λ k h. negative (firstMonth terms k) (lastMonth terms k) n);
+  after-2099 = λ g x n e h. at-seconds width terms s x (some (pos n)) e ∙ missed terms (pos n) (λ k q. late terms n k g h q);
+  unread = λ x e. at-seconds width terms s x none e;
 }

@@ -13,7 +13,7 @@ use Rattle.walk.specs.declared.Outcome.{Outcome}
 use Rattle.walk.specs.declared.Outcome.the-variants.{Commit, End, Refused}
 use Rattle.walk.specs.declared.OpenOutcome.{OpenOutcome}
 use Rattle.walk.specs.State.{State}
-use Rattle.walk.specs.Opening.{Input, P, roomFor, closed, opened, openWalk}
+use Rattle.walk.specs.Opening.{Input, widthIn, P, roomFor, closed, opened, openWalk}
 use Rattle.walk.specs.Calls.{answers}
 use Rattle.walk.specs.AnyInput.{handedIds}
 use Rattle.traverse.specs.Contract.{Lent, lengthsOf}
@@ -45,10 +45,10 @@ bad-says b e z = record {
 module _ {i : Input} {m : Lent} {d : Driven} {m′ : Lent} {embargoed terms ids counts ids′ counts₁ : List ℕ} (good : goodTerms terms ≡ true) (s : Drives Terms embargoed terms i m ids counts d m′ ids′ counts₁) where
   -- the same counts and outside, by how many calls were made
   abbrev said : ℕ → Outcome → TermsReport
-  said k o = termsBy o (countOutside terms (i .store) (handedIds (answers i k)))
+  said k o = termsBy o (countOutside (widthIn i) terms (i .store) (handedIds (answers i k)))
 
   abbrev left : ℕ → Outcome → List ℕ
-  left k o = keptBy o (countsIn terms (i .store) (handedIds (answers i k)) (length counts))
+  left k o = keptBy o (countsIn (widthIn i) terms (i .store) (handedIds (answers i k)) (length counts))
 
   accepted : (st : State) → openWalk i (roomFor i (lengthsOf m)) ≡ opened st → (reportOf d ≡ termsReport i terms) × (settled d counts₁ ≡ termsCounts i terms (length counts))
   unfolding termsReport termsCounts wholeList
@@ -57,8 +57,8 @@ module _ {i : Input} {m : Lent} {d : Driven} {m′ : Lent} {embargoed terms ids 
       v : Drove Terms embargoed terms i (holding noTally ids (zeros (length counts))) (m .parents) d m′ ids′ counts₁
       v = subst (λ (x : List ℕ). Drove Terms embargoed x i (holding noTally ids (zeros (length counts))) (m .parents) d m′ ids′ counts₁) (sym (good-is terms good)) (s .accepted-open st e)
 
-      t : Counted terms (i .store) (length counts) (answers i (v .calls)) (holding (d .tally) ids′ counts₁)
-      t = subst (Counted terms (i .store) (length counts) (answers i (v .calls))) (sym (v .made .held)) (counted-all i embargoed terms ids (length counts) (v .calls))
+      t : Counted (widthIn i) terms (i .store) (length counts) (answers i (v .calls)) (holding (d .tally) ids′ counts₁)
+      t = subst (Counted (widthIn i) terms (i .store) (length counts) (answers i (v .calls))) (sym (v .made .held)) (counted-all i embargoed terms ids (length counts) (v .calls))
 
       one : reportOf d ≡ said (v .calls) (firstRefusal (answers i (v .calls)))
       one =
@@ -86,8 +86,8 @@ module _ {i : Input} {m : Lent} {d : Driven} {m′ : Lent} {embargoed terms ids 
       go End h = whole (v .whole (ap isRefusal (t .reason ∙ h)))
       go (Refused r) h =
           let y : firstRefusal (allAnswers i) ≡ Refused r = first-stays i r (v .calls) (P i + 2) (v .few) h in
-          let a : length (countsIn terms (i .store) (handedIds (answers i (v .calls))) (length counts)) ≡ length counts = counts-long (countIn terms (i .store) (handedIds (answers i (v .calls)))) (length counts) in
-          let b : length (countsIn terms (i .store) (handedIds (answers i (P i + 2))) (length counts)) ≡ length counts = counts-long (countIn terms (i .store) (handedIds (answers i (P i + 2)))) (length counts) in (
+          let a : length (countsIn (widthIn i) terms (i .store) (handedIds (answers i (v .calls))) (length counts)) ≡ length counts = counts-long (countIn (widthIn i) terms (i .store) (handedIds (answers i (v .calls)))) (length counts) in
+          let b : length (countsIn (widthIn i) terms (i .store) (handedIds (answers i (P i + 2))) (length counts)) ≡ length counts = counts-long (countIn (widthIn i) terms (i .store) (handedIds (answers i (P i + 2)))) (length counts) in (
             one ∙ ap (said (v .calls)) h ∙ ap (said (P i + 2)) (sym y),
             two ∙ ap (left (v .calls)) h ∙ ap zeros (a ∙ sym b) ∙ ap (left (P i + 2)) (sym y),
           )

@@ -24,18 +24,18 @@ oneOutside Outside = 1
 -- ---- some commits
 
 -- "counts the walk's runs in each … by seconds from the book": how many of these commits lie in term k
-unfoldable pub countIn : List ℕ → List ℕ → List Id → ℕ → ℕ
-countIn terms s [] k = 0
-countIn terms s (x ∷ xs) k = oneIn k (termOf terms s x) + countIn terms s xs k
+unfoldable pub countIn : ℕ → List ℕ → List ℕ → List Id → ℕ → ℕ
+countIn width terms s [] k = 0
+countIn width terms s (x ∷ xs) k = oneIn k (termOf width terms s x) + countIn width terms s xs k
 
 -- "and outside all": "[r]uns before 1970 or after 2099, and runs without readable seconds in the book, are outside"
-unfoldable pub countOutside : List ℕ → List ℕ → List Id → ℕ
-countOutside terms s [] = 0
-countOutside terms s (x ∷ xs) = oneOutside (termOf terms s x) + countOutside terms s xs
+unfoldable pub countOutside : ℕ → List ℕ → List ℕ → List Id → ℕ
+countOutside width terms s [] = 0
+countOutside width terms s (x ∷ xs) = oneOutside (termOf width terms s x) + countOutside width terms s xs
 
 -- n counts, one a term; past the terms they are 0
-abbrev pub countsIn : List ℕ → List ℕ → List Id → ℕ → List ℕ
-countsIn terms s l n = upTo (countIn terms s l) n
+abbrev pub countsIn : ℕ → List ℕ → List ℕ → List Id → ℕ → List ℕ
+countsIn width terms s l n = upTo (countIn width terms s l) n
 
 unfoldable pub sum : List ℕ → ℕ
 sum [] = 0

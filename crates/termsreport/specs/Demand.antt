@@ -9,7 +9,7 @@ use mathlib.Core.List.{List}
 use lib.ListN.{length}
 use Rattle.hash.specs.Bytes.{Id}
 use Rattle.calendar.specs.Terms.{goodTerms}
-use Rattle.walk.specs.Opening.{Input, walkOf, listIds, refusal, roomFor}
+use Rattle.walk.specs.Opening.{Input, widthIn, walkOf, listIds, refusal, roomFor}
 use Rattle.walk.specs.Reach.{Mem, NoDup}
 use Rattle.walk.specs.Demand.{Premises, Listed}
 use Rattle.traverse.specs.Contract.{Lent, lengthsOf}
@@ -23,9 +23,9 @@ use Rattle.termsreport.specs.Terms.{wholeTerms, TermsSays}
 pub record OfListed (i : Input) (terms counts : List ℕ) (r : TermsReport) (counts′ : List ℕ) : Type 0 where
   pub list : List Id
   pub no-repeats : NoDup list
-  pub exactly : (x : Id) → Mem x list ↔ Listed (walkOf i) (listIds (i .tips)) x
-  pub is : r ≡ wholeTerms (countOutside terms (i .store) list)
-  pub counts-are : counts′ ≡ countsIn terms (i .store) list (length counts)
+  pub exactly : (x : Id) → Mem x list ↔ Listed (walkOf i) (listIds (widthIn i) (i .tips)) x
+  pub is : r ≡ wholeTerms (countOutside (widthIn i) terms (i .store) list)
+  pub counts-are : counts′ ≡ countsIn (widthIn i) terms (i .store) list (length counts)
 
 -- of `terms_report` with the input i, the terms, the lent memory m and the buffer counts, whatever it gave back
 pub record TermsDemand (i : Input) (terms : List ℕ) (m : Lent) (counts : List ℕ) : Type 0 where
@@ -33,6 +33,6 @@ pub record TermsDemand (i : Input) (terms : List ℕ) (m : Lent) (counts : List 
   pub adds-up : (r : TermsReport) (m′ : Lent) (counts′ : List ℕ) → TermsSays i terms m counts r m′ counts′ → length terms / 2 ≤ length counts → r .outcome ≡ Whole
       → sum counts′ + r .outside ≡ length (wholeList i)
   -- past the terms every count is 0
-  pub past-terms : (l : List Id) (k : ℕ) → length terms / 2 ≤ k → countIn terms (i .store) l k ≡ 0
+  pub past-terms : (l : List Id) (k : ℕ) → length terms / 2 ≤ k → countIn (widthIn i) terms (i .store) l k ≡ 0
   pub demanded : (r : TermsReport) (m′ : Lent) (counts′ : List ℕ) → TermsSays i terms m counts r m′ counts′ → goodTerms terms ≡ true → refusal i ≡ none → roomFor i (lengthsOf m) ≡ true
-      → Premises (walkOf i) (listIds (i .tips)) → OfListed i terms counts r counts′
+      → Premises (walkOf i) (listIds (widthIn i) (i .tips)) → OfListed i terms counts r counts′

@@ -12,7 +12,7 @@ use Rattle.walk.specs.declared.Outcome.the-variants.{Commit, End, Refused as St
 use Rattle.walk.specs.declared.OpenOutcome.{OpenOutcome}
 use Rattle.walk.specs.declared.OpenOutcome.the-variants.{Accepted, NotOpened}
 use Rattle.walk.specs.State.{State}
-use Rattle.walk.specs.Opening.{Input, roomFor, openWalk, closed, opened}
+use Rattle.walk.specs.Opening.{Input, widthIn, roomFor, openWalk, closed, opened}
 use Rattle.traverse.specs.Contract.{Lent, lengthsOf}
 use Rattle.driver.specs.declared.Driven.{Driven}
 use Rattle.tally.specs.Terms.{zeros}
@@ -44,11 +44,11 @@ keptBy (Stopped r) c = zeros (length c)
 
 -- "a report of its own counts the walk's runs in each and outside all"
 unfoldable pub termsReport : Input → List ℕ → TermsReport
-termsReport i terms = termsBy (firstRefusal (allAnswers i)) (countOutside terms (i .store) (wholeList i))
+termsReport i terms = termsBy (firstRefusal (allAnswers i)) (countOutside (widthIn i) terms (i .store) (wholeList i))
 
 -- and its n counts
 unfoldable pub termsCounts : Input → List ℕ → ℕ → List ℕ
-termsCounts i terms n = keptBy (firstRefusal (allAnswers i)) (countsIn terms (i .store) (wholeList i) n)
+termsCounts i terms n = keptBy (firstRefusal (allAnswers i)) (countsIn (widthIn i) terms (i .store) (wholeList i) n)
 
 -- ---- terms_report
 

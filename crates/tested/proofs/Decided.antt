@@ -5,7 +5,7 @@ use mathlib.Core.Bool.{Bool, true, false}
 use mathlib.Core.List.{List, []}
 use native.Mathlib.Omega.{arith}
 use lib.ListN.{length, getD}
-use Rattle.hash.specs.Bytes.{Id, idBytes}
+use Rattle.hash.specs.Bytes.{Id}
 use Rattle.hash.proofs.Tests.{clash, not-yes}
 use Rattle.odb.specs.Store.{storeOk}
 use Rattle.commit.specs.declared.Cache.{Cache}
@@ -34,7 +34,7 @@ use Rattle.tested.specs.Whole.{Answered, stuck, decided, Odds, TestsFrom
 
 -- ---- by cells
 
-module _ {w : World} {u roots : List Id} {cap from : ℕ} {m : Held} {n : ℕ} {l : List Id} {k : ℕ} (v : Going w u roots cap from m n l k) (h : n ≤ k) where
+module _ {width : ℕ} {w : World} {u roots : List Id} {cap from : ℕ} {m : Held} {n : ℕ} {l : List Id} {k : ℕ} (v : Going width w u roots cap from m n l k) (h : n ≤ k) where
   read-all : length l ≤ k
   read-all = omega (arith, v .seeking .lists .count)
 
@@ -47,7 +47,7 @@ module _ {w : World} {u roots : List Id} {cap from : ℕ} {m : Held} {n : ℕ} {
   all-agree : each (agreesIn w) l ≡ true
   all-agree = each-places (agreesIn w) l (λ i j. v .agrees i (omega (arith, read-all)))
 
-  held-at : (i : ℕ) → i < n → In cap (m .lent) (getD l i []) (slotAt from m i)
+  held-at : (i : ℕ) → i < n → In width cap (m .lent) (getD l i []) (slotAt from m i)
   held-at i j = v .seeking .lists .slots i j
 
   its-pair : (i : ℕ) → i < n → pairIn m (slotAt from m i) ≡ pairAt w (getD l i [])
@@ -62,7 +62,7 @@ module _ {w : World} {u roots : List Id} {cap from : ℕ} {m : Held} {n : ℕ} {
       let q : pairIn m (slotAt from m (pl .0)) ≡ pairAt w p = its-pair (pl .0) b ∙ ap (pairAt w) (pl .2) in
       subst (λ (x : Pair). ltPair x (pairAt w (getD l i [])) ≡ true) q
       (v .sound (slotAt from m (pl .0)) (pairIn m (slotAt from m (pl .0))) (held-at (pl .0) b .low) (o .yes refl (pl .0) b) i (omega (arith, read-all)) p e
-      (subst (λ (x : Id). In cap (m .lent) x (slotAt from m (pl .0))) (pl .2) (held-at (pl .0) b)))))
+      (subst (λ (x : Id). In width cap (m .lent) x (slotAt from m (pl .0))) (pl .2) (held-at (pl .0) b)))))
 
   -- where one does not
   not-all : AllLow (m .lent .line) (m .levels) (m .times) from n false → each (fallsIn w) l ≡ false
@@ -88,45 +88,45 @@ module _ {w : World} {u roots : List Id} {cap from : ℕ} {m : Held} {n : ℕ} {
 
 -- ---- what `at_odds` answers
 
-module _ {cap from : ℕ} {s : List ℕ} {m m′ : Lent} {n : ℕ} {r : Sought} (o : Seeks false cap from s m m′ n r) where
-  pub odds-whole : (n′ : ℕ) → r ≡ Found n′ → Odds cap from s m n (Refused GraphAtOdds)
+module _ {width : ℕ} {cap from : ℕ} {s : List ℕ} {m m′ : Lent} {n : ℕ} {r : Sought} (o : Seeks width false cap from s m m′ n r) where
+  pub odds-whole : (n′ : ℕ) → r ≡ Found n′ → Odds width cap from s m n (Refused GraphAtOdds)
   unfolding judged
   odds-whole n′ e = record {
     right = λ ok g u roots f.
-        let t = subst (ToldSought (worldOf s g) u roots false cap from m m′) e (o .right ok g u roots (f .list) (f .seeking)) in
+        let t = subst (ToldSought width (worldOf width s g) u roots false cap from m m′) e (o .right ok g u roots (f .list) (f .seeking)) in
         let pl = place-of (f .commit) (t .list) (t .reached .complete (f .commit) (f .reached)) in
-        let odd : each (agreesIn (worldOf s g)) (t .list) ≡ false = each-broken (agreesIn (worldOf s g)) (t .list) (pl .0) (pl .1) (ap (agreesIn (worldOf s g)) (pl .2) ∙ f .odd) in
-        decided (t .list) (t .reached) (t .readable) (ap (λ (z : Bool). checkedOf (judged true z (each (fallsIn (worldOf s g)) (t .list)))) (sym odd));
+        let odd : each (agreesIn (worldOf width s g)) (t .list) ≡ false = each-broken (agreesIn (worldOf width s g)) (t .list) (pl .0) (pl .1) (ap (agreesIn (worldOf width s g)) (pl .2) ∙ f .odd) in
+        decided (t .list) (t .reached) (t .readable) (ap (λ (z : Bool). checkedOf (judged true z (each (fallsIn (worldOf width s g)) (t .list)))) (sym odd));
   }
 
-  pub odds-stuck : r ≡ Stopped → Odds cap from s m n (Refused UnreadableReach)
-  odds-stuck e = record { right = λ ok g u roots f. stuck (subst (ToldSought (worldOf s g) u roots false cap from m m′) e (o .right ok g u roots (f .list) (f .seeking))) refl }
+  pub odds-stuck : r ≡ Stopped → Odds width cap from s m n (Refused UnreadableReach)
+  odds-stuck e = record { right = λ ok g u roots f. stuck (subst (ToldSought width (worldOf width s g) u roots false cap from m m′) e (o .right ok g u roots (f .list) (f .seeking))) refl }
 
-  pub odds-roomy : {c : Checked} → r ≡ Short → Odds cap from s m n c
-  odds-roomy e = record { right = λ ok g u roots f. absurd (subst (ToldSought (worldOf s g) u roots false cap from m m′) e (o .right ok g u roots (f .list) (f .seeking))) }
+  pub odds-roomy : {c : Checked} → r ≡ Short → Odds width cap from s m n c
+  odds-roomy e = record { right = λ ok g u roots f. absurd (subst (ToldSought width (worldOf width s g) u roots false cap from m m′) e (o .right ok g u roots (f .list) (f .seeking))) }
 
 -- ---- what `test_from` answers
 
-module _ {ca : Cache} {g s : List ℕ} {cap from : ℕ} {m m′ : Held} {n : ℕ} {r : Gone} (o : Goes ca g s cap from m m′ n r) where
-  pub from-fine : (n′ : ℕ) {b : Bool} → r ≡ Whole n′ → AllLow (m′ .lent .line) (m′ .levels) (m′ .times) from n′ b → b ≡ true → TestsFrom ca g s cap from m n Fine
+module _ {width : ℕ} {ca : Cache} {g s : List ℕ} {cap from : ℕ} {m m′ : Held} {n : ℕ} {r : Gone} (o : Goes width ca g s cap from m m′ n r) where
+  pub from-fine : (n′ : ℕ) {b : Bool} → r ≡ Whole n′ → AllLow (m′ .lent .line) (m′ .levels) (m′ .times) from n′ b → b ≡ true → TestsFrom width ca g s cap from m n Fine
   from-fine n′ e a q = record {
     right = λ f u roots z.
-        let t = subst (ToldGone (worldOf s g) u roots cap from m′) e (o .right f u roots z) in
+        let t = subst (ToldGone width (worldOf width s g) u roots cap from m′) e (o .right f u roots z) in
         whole-fine (t .2 .going) (t .1) (subst (AllLow (m′ .lent .line) (m′ .levels) (m′ .times) from n′) q a);
   }
 
-  pub from-not-falling : (n′ : ℕ) {b : Bool} → r ≡ Whole n′ → AllLow (m′ .lent .line) (m′ .levels) (m′ .times) from n′ b → b ≡ false → TestsFrom ca g s cap from m n (Refused PairNotFalling)
+  pub from-not-falling : (n′ : ℕ) {b : Bool} → r ≡ Whole n′ → AllLow (m′ .lent .line) (m′ .levels) (m′ .times) from n′ b → b ≡ false → TestsFrom width ca g s cap from m n (Refused PairNotFalling)
   from-not-falling n′ e a q = record {
     right = λ f u roots z.
-        let t = subst (ToldGone (worldOf s g) u roots cap from m′) e (o .right f u roots z) in
+        let t = subst (ToldGone width (worldOf width s g) u roots cap from m′) e (o .right f u roots z) in
         whole-not-falling (t .2 .going) (t .1) (subst (AllLow (m′ .lent .line) (m′ .levels) (m′ .times) from n′) q a);
   }
 
-  pub from-stuck : r ≡ Unreadable → TestsFrom ca g s cap from m n (Refused UnreadableReach)
-  from-stuck e = record { right = λ f u roots z. stuck (subst (ToldGone (worldOf s g) u roots cap from m′) e (o .right f u roots z)) refl }
+  pub from-stuck : r ≡ Unreadable → TestsFrom width ca g s cap from m n (Refused UnreadableReach)
+  from-stuck e = record { right = λ f u roots z. stuck (subst (ToldGone width (worldOf width s g) u roots cap from m′) e (o .right f u roots z)) refl }
 
-  pub from-odd : (n′ : ℕ) {c : Checked} → r ≡ AtOdds n′ → Odds cap from s (m′ .lent) n′ c → TestsFrom ca g s cap from m n c
-  from-odd n′ e d = record { right = λ f u roots z. d .right (f .store) g u roots (subst (ToldGone (worldOf s g) u roots cap from m′) e (o .right f u roots z)) }
+  pub from-odd : (n′ : ℕ) {c : Checked} → r ≡ AtOdds n′ → Odds width cap from s (m′ .lent) n′ c → TestsFrom width ca g s cap from m n c
+  from-odd n′ e d = record { right = λ f u roots z. d .right (f .store) g u roots (subst (ToldGone width (worldOf width s g) u roots cap from m′) e (o .right f u roots z)) }
 
-  pub from-roomy : {c : Checked} → r ≡ NoRoom → TestsFrom ca g s cap from m n c
-  from-roomy e = record { right = λ f u roots z. absurd (subst (ToldGone (worldOf s g) u roots cap from m′) e (o .right f u roots z)) }
+  pub from-roomy : {c : Checked} → r ≡ NoRoom → TestsFrom width ca g s cap from m n c
+  from-roomy e = record { right = λ f u roots z. absurd (subst (ToldGone width (worldOf width s g) u roots cap from m′) e (o .right f u roots z)) }

@@ -43,10 +43,10 @@ apart (suc n) [] d i h b m = omega arith
 apart (suc n) (y ∷ l) (more k d) zero h b m = k (mem-drop n l y m)
 apart (suc n) (y ∷ l) (more k d) (suc i) h b m = apart n l d i (omega arith) (omega arith) m
 
-module _ {w : World} {u roots : List Id} {cap from : ℕ} {m : Held} {n : ℕ} {l : List Id} {k : ℕ} (v : Going w u roots cap from m n l k) (h : k < n)
+module _ {width : ℕ} {w : World} {u roots : List Id} {cap from : ℕ} {m : Held} {n : ℕ} {l : List Id} {k : ℕ} (v : Going width w u roots cap from m n l k) (h : k < n)
     {slot : ℕ} {q : Pair} {hd : Header} {c : ℕ} (a : InHand w from m l k slot q hd c)
     {levels′ : List ℕ} {times′ : List ℤ} (sl : levels′ ≡ set (m .levels) slot (q .generation)) (st : times′ ≡ set (m .times) slot (q .time))
-    {names₁ marks₁ line₁ : List ℕ} {n′ : ℕ} (o : Went false cap from u (m .lent) (lent names₁ marks₁ line₁) l (hd .ids) n′) (grown : n′ ≡ n + c) where
+    {names₁ marks₁ line₁ : List ℕ} {n′ : ℕ} (o : Went width false cap from u (m .lent) (lent names₁ marks₁ line₁) l (hd .ids) n′) (grown : n′ ≡ n + c) where
   -- the ids of the new slots
   abbrev new : List Id
   new = drop n (o .list)
@@ -74,11 +74,11 @@ module _ {w : World} {u roots : List Id} {cap from : ℕ} {m : Held} {n : ℕ} {
       absurd (omega (arith, f, length-append (drop n (o .list)) (x ∷ []), count, a .count)))
       (mem? x (drop n (o .list)))
 
-  held-new : (i : ℕ) → i < c → In cap (lent names₁ marks₁ line₁) (getD (drop n (o .list)) i []) (getD line₁ (from + n + i) 0)
+  held-new : (i : ℕ) → i < c → In width cap (lent names₁ marks₁ line₁) (getD (drop n (o .list)) i []) (getD line₁ (from + n + i) 0)
   held-new i j =
       let p : from + (n + i) ≡ from + n + i = omega arith in
-      subst (λ (z : Id). In cap (lent names₁ marks₁ line₁) z (getD line₁ (from + n + i) 0)) (sym (getD-drop n (o .list) i []))
-      (subst (λ (z : ℕ). In cap (lent names₁ marks₁ line₁) (getD (o .list) (n + i) []) (getD line₁ z 0)) p (o .lists .slots (n + i) (omega (arith, grown))))
+      subst (λ (z : Id). In width cap (lent names₁ marks₁ line₁) z (getD line₁ (from + n + i) 0)) (sym (getD-drop n (o .list) i []))
+      (subst (λ (z : ℕ). In width cap (lent names₁ marks₁ line₁) (getD (o .list) (n + i) []) (getD line₁ z 0)) p (o .lists .slots (n + i) (omega (arith, grown))))
 
   -- a cell names a commit that lies above itself, or none
   empty-new : (i : ℕ) → i < c → getD line₁ (2 * getD line₁ (from + n + i) 0) 0 ≡ 0
@@ -96,10 +96,10 @@ module _ {w : World} {u roots : List Id} {cap from : ℕ} {m : Held} {n : ℕ} {
       low : s < cap
       low = held-new i j .low
 
-      none-leads : (x : Pair) → UnderAll w cap (m .lent) l k s x
+      none-leads : (x : Pair) → UnderAll width w cap (m .lent) l k s x
       none-leads x b f p e d =
           let same : p ≡ getD (drop n (o .list)) i [] = sym (o .spares .stays p s d .is) ∙ held-new i j .is in
           absurd (not-old p (subst (λ (z : Id). Mem z (drop n (o .list))) (sym same) (mem-at (drop n (o .list)) i (omega (arith, count)))) (v .seeking .growing .closed b f p e))
 
-  pub new-lowered : {line₂ : List ℕ} → LowersNew from n c slot line₁ line₂ → Lowered (slotsIn names₁ marks₁ levels′ times′) cap slot (hd .ids) line₁ line₂
+  pub new-lowered : {line₂ : List ℕ} → LowersNew width from n c slot line₁ line₂ → Lowered width (slotsIn names₁ marks₁ levels′ times′) cap slot (hd .ids) line₁ line₂
   new-lowered f = lowered-same are-parents all-parents (f .right (slotsIn names₁ marks₁ levels′ times′) cap (right₁ v h a sl st o) (v .roomy .below) (drop n (o .list)) count held-new empty-new)

@@ -6,7 +6,7 @@ use mathlib.Core.List.{List, []}
 use native.Mathlib.Omega.{arith}
 use lib.ListN.{length, getD}
 use lib.IntN.{ℤ}
-use Rattle.hash.specs.Bytes.{Id, idBytes}
+use Rattle.hash.specs.Bytes.{Id}
 use Rattle.date.specs.declared.Stamp.{Stamp}
 use Rattle.object.specs.Header.{header}
 use Rattle.object.specs.Read.{readingOf}
@@ -35,7 +35,7 @@ use Rattle.tested.specs.Passes.{Held, slotAt, Going, GoesOn, Takes, Told
 -- ---- one commit
 
 -- a search may begin again with what it has met
-again : {w : World} {u roots : List Id} {cap from : ℕ} {m : Lent} {n : ℕ} {l : List Id} {k : ℕ} → Seeking w u roots false cap from m n l k → Seeking w u roots false cap from m n l 0
+again : {width : ℕ} {w : World} {u roots : List Id} {cap from : ℕ} {m : Lent} {n : ℕ} {l : List Id} {k : ℕ} → Seeking width w u roots false cap from m n l k → Seeking width w u roots false cap from m n l 0
 again v = record {
   lists = v .lists;
   named = v .named;
@@ -45,14 +45,14 @@ again v = record {
   parents-in = v .parents-in;
 }
 
-module _ (ca : Cache) (g : List ℕ) {s : List ℕ} (cap from : ℕ) (m : Held) (n k : ℕ) {slot : ℕ} {b : List ℕ} (e : slot ≡ slotAt from m k)
-    (f : GivesBody idBytes s (idOf idBytes (m .lent .names) slot) b) where
+module _ (width : ℕ) (ca : Cache) (g : List ℕ) {s : List ℕ} (cap from : ℕ) (m : Held) (n k : ℕ) {slot : ℕ} {b : List ℕ} (e : slot ≡ slotAt from m k)
+    (f : GivesBody width s (idOf width (m .lent .names) slot) b) where
   -- the commit in the slot is that of place k
-  its-id : {w : World} {u roots l : List Id} → Going w u roots cap from m n l k → k < n → idOf idBytes (m .lent .names) slot ≡ getD l k []
-  its-id v h = ap (idOf idBytes (m .lent .names)) e ∙ v .seeking .lists .slots k h .is
+  its-id : {w : World} {u roots l : List Id} → Going width w u roots cap from m n l k → k < n → idOf width (m .lent .names) slot ≡ getD l k []
+  its-id v h = ap (idOf width (m .lent .names)) e ∙ v .seeking .lists .slots k h .is
 
   -- the commit is reached, and it is not readable
-  stuck : ((x : Id) → GivesBody idBytes s x b → storeOk idBytes s ≡ true → Readable (worldOf s g) x → ⊥) → Steps ca g s cap from m m n k Unreadable
+  stuck : ((x : Id) → GivesBody width s x b → storeOk width s ≡ true → Readable (worldOf width s g) x → ⊥) → Steps width ca g s cap from m m n k Unreadable
   stuck bars = record {
     right = λ fs u roots l v h. record {
       commit = getD l k [];
@@ -61,17 +61,17 @@ module _ (ca : Cache) (g : List ℕ) {s : List ℕ} (cap from : ℕ) (m : Held) 
     };
   }
 
-  pub step-bad : readingOf (header idBytes b) ≡ Bad → Steps ca g s cap from m m n k Unreadable
+  pub step-bad : readingOf (header width b) ≡ Bad → Steps width ca g s cap from m m n k Unreadable
   step-bad d = stuck (λ x i ok. stored-bad i ok g d)
 
-  pub step-crowded : readingOf (header idBytes b) ≡ Crowded → Steps ca g s cap from m m n k Unreadable
+  pub step-crowded : readingOf (header width b) ≡ Crowded → Steps width ca g s cap from m m n k Unreadable
   step-crowded d = stuck (λ x i ok. stored-crowded i ok g d)
 
-  module _ (c : ℕ) (t : Stamp) (d : readingOf (header idBytes b) ≡ AsReadable c t) {j : Judged} (o : Judges ca g s (idOf idBytes (m .lent .names) slot) b c (t .seconds .0) j) where
-    told : (a : Judged) → j ≡ a → Files ca g s → {u roots l : List Id} → Going (worldOf s g) u roots cap from m n l k → k < n → ToldJudged (worldOf s g) (getD l k []) a
-    told a i fs v h = subst (λ (x : Id). ToldJudged (worldOf s g) x a) (its-id v h) (subst (ToldJudged (worldOf s g) (idOf idBytes (m .lent .names) slot)) i (o .right fs f t d refl))
+  module _ (c : ℕ) (t : Stamp) (d : readingOf (header width b) ≡ AsReadable c t) {j : Judged} (o : Judges width ca g s (idOf width (m .lent .names) slot) b c (t .seconds .0) j) where
+    told : (a : Judged) → j ≡ a → Files width ca g s → {u roots l : List Id} → Going width (worldOf width s g) u roots cap from m n l k → k < n → ToldJudged (worldOf width s g) (getD l k []) a
+    told a i fs v h = subst (λ (x : Id). ToldJudged (worldOf width s g) x a) (its-id v h) (subst (ToldJudged (worldOf width s g) (idOf width (m .lent .names) slot)) i (o .right fs f t d refl))
 
-    pub step-odd : j ≡ IsOdd → Steps ca g s cap from m m n k AtOdds
+    pub step-odd : j ≡ IsOdd → Steps width ca g s cap from m m n k AtOdds
     step-odd i = record {
       right = λ fs u roots l v h. record {
         commit = getD l k [];
@@ -82,13 +82,13 @@ module _ (ca : Cache) (g : List ℕ) {s : List ℕ} (cap from : ℕ) (m : Held) 
       };
     }
 
-    pub step-taken : (p : ℕ) (q : GenThenTime) {m′ : Held} {r : Step} → j ≡ PairOf p q → Takes cap from m m′ n slot (pairOf q) (header idBytes b) c r → Steps ca g s cap from m m′ n k r
+    pub step-taken : (p : ℕ) (q : GenThenTime) {m′ : Held} {r : Step} → j ≡ PairOf p q → Takes width cap from m m′ n slot (pairOf q) (header width b) c r → Steps width ca g s cap from m m′ n k r
     step-taken p q i tk = record {
       right = λ fs u roots l v h.
           let gb = body-at (its-id v h) f in
           let y = told (PairOf p q) i fs v h in
           let gh = stored-good gb (fs .store) g c t d in
-          tk .right (worldOf s g) u roots l k v h
+          tk .right (worldOf width s g) u roots l k v h
           (record {
             slot-is = e;
             tree = gh .tree;
@@ -102,40 +102,40 @@ module _ (ca : Cache) (g : List ℕ) {s : List ℕ} (cap from : ℕ) (m : Held) 
 
 -- ---- the loop
 
-pub record Along (ca : Cache) (g s : List ℕ) (cap from : ℕ) (m₀ m : Held) (n₀ n k : ℕ) : Type 0 where
+pub record Along (width : ℕ) (ca : Cache) (g s : List ℕ) (cap from : ℕ) (m₀ m : Held) (n₀ n k : ℕ) : Type 0 where
   pub long : Long (m₀ .lent) (m .lent)
   pub long-levels : length (m .levels) ≡ length (m₀ .levels)
   pub long-times : length (m .times) ≡ length (m₀ .times)
-  pub so-far : Files ca g s → (u roots : List Id) → GoesOn (worldOf s g) u roots cap from m₀ n₀ 0 → GoesOn (worldOf s g) u roots cap from m n k
+  pub so-far : Files width ca g s → (u roots : List Id) → GoesOn width (worldOf width s g) u roots cap from m₀ n₀ 0 → GoesOn width (worldOf width s g) u roots cap from m n k
 
-pub along-first : (ca : Cache) (g s : List ℕ) (cap from : ℕ) (m : Held) (n : ℕ) → Along ca g s cap from m m n n 0
-along-first ca g s cap from m n = record { long = long-none (m .lent); long-levels = refl; long-times = refl; so-far = λ f u roots v. v }
+pub along-first : (width : ℕ) (ca : Cache) (g s : List ℕ) (cap from : ℕ) (m : Held) (n : ℕ) → Along width ca g s cap from m m n n 0
+along-first width ca g s cap from m n = record { long = long-none (m .lent); long-levels = refl; long-times = refl; so-far = λ f u roots v. v }
 
-module _ {ca : Cache} {g s : List ℕ} {cap from : ℕ} {m₀ m : Held} {n₀ n k : ℕ} (v : Along ca g s cap from m₀ m n₀ n k) where
-  module _ {m′ : Held} {r : Step} (h : k < n) (o : Steps ca g s cap from m m′ n k r) where
-    tells : (a : Step) → r ≡ a → Files ca g s → (u roots : List Id) → GoesOn (worldOf s g) u roots cap from m₀ n₀ 0 → ToldStep (worldOf s g) u roots cap from m′ n k a
-    tells a e f u roots z = let y = v .so-far f u roots z in subst (ToldStep (worldOf s g) u roots cap from m′ n k) e (o .right f u roots (y .list) (y .going) h)
+module _ {width : ℕ} {ca : Cache} {g s : List ℕ} {cap from : ℕ} {m₀ m : Held} {n₀ n k : ℕ} (v : Along width ca g s cap from m₀ m n₀ n k) where
+  module _ {m′ : Held} {r : Step} (h : k < n) (o : Steps width ca g s cap from m m′ n k r) where
+    tells : (a : Step) → r ≡ a → Files width ca g s → (u roots : List Id) → GoesOn width (worldOf width s g) u roots cap from m₀ n₀ 0 → ToldStep width (worldOf width s g) u roots cap from m′ n k a
+    tells a e f u roots z = let y = v .so-far f u roots z in subst (ToldStep width (worldOf width s g) u roots cap from m′ n k) e (o .right f u roots (y .list) (y .going) h)
 
-    pub along-next : {n′ : ℕ} → Long (m .lent) (m′ .lent) → length (m′ .levels) ≡ length (m .levels) → length (m′ .times) ≡ length (m .times) → r ≡ Count n′ → Along ca g s cap from m₀ m′ n₀ n′ (k + 1)
+    pub along-next : {n′ : ℕ} → Long (m .lent) (m′ .lent) → length (m′ .levels) ≡ length (m .levels) → length (m′ .times) ≡ length (m .times) → r ≡ Count n′ → Along width ca g s cap from m₀ m′ n₀ n′ (k + 1)
     along-next {n′} b bl bt e = record {
       long = long-then (v .long) b;
       long-levels = bl ∙ v .long-levels;
       long-times = bt ∙ v .long-times;
-      so-far = λ f u roots z. let q : suc k ≡ k + 1 = omega arith in subst (GoesOn (worldOf s g) u roots cap from m′ n′) q (tells (Count n′) e f u roots z);
+      so-far = λ f u roots z. let q : suc k ≡ k + 1 = omega arith in subst (GoesOn width (worldOf width s g) u roots cap from m′ n′) q (tells (Count n′) e f u roots z);
     }
 
-    pub along-stuck : r ≡ Unreadable → Goes ca g s cap from m₀ m′ n₀ NotReadable
+    pub along-stuck : r ≡ Unreadable → Goes width ca g s cap from m₀ m′ n₀ NotReadable
     along-stuck e = record { right = λ f u roots z. tells Unreadable e f u roots z }
 
-    pub along-odd : r ≡ AtOdds → Goes ca g s cap from m₀ m′ n₀ (IsAtOdds n)
+    pub along-odd : r ≡ AtOdds → Goes width ca g s cap from m₀ m′ n₀ (IsAtOdds n)
     along-odd e = record { right = λ f u roots z. tells AtOdds e f u roots z }
 
-    pub along-small : r ≡ NoRoom → Goes ca g s cap from m₀ m′ n₀ TooSmall
+    pub along-small : r ≡ NoRoom → Goes width ca g s cap from m₀ m′ n₀ TooSmall
     along-small e = record { right = λ f u roots z. tells NoRoom e f u roots z }
 
   -- the line never has more slots than there are
-  pub along-over : k < n → cap ≤ k → Goes ca g s cap from m₀ m n₀ TooSmall
+  pub along-over : k < n → cap ≤ k → Goes width ca g s cap from m₀ m n₀ TooSmall
   along-over h c = record { right = λ f u roots z. let y = v .so-far f u roots z in absurd (omega (arith, listed-few (y .going .seeking .lists) (y .going .seeking .named))) }
 
-  pub along-last : n ≤ k → Goes ca g s cap from m₀ m n₀ (Whole n)
+  pub along-last : n ≤ k → Goes width ca g s cap from m₀ m n₀ (Whole n)
   along-last h = record { right = λ f u roots z. (k, h, v .so-far f u roots z) }

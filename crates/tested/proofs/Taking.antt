@@ -9,7 +9,7 @@ use native.Mathlib.Omega.{arith}
 use lib.ListN.{length, getD, set, length-set}
 use lib.IntN.{ℤ, pos}
 use lib.Seq.{getD-set-same, getD-set-other}
-use Rattle.hash.specs.Bytes.{Id, idBytes}
+use Rattle.hash.specs.Bytes.{Id}
 use Rattle.object.specs.Header.{Header}
 use Rattle.hashtable.specs.Table.{idOf}
 use Rattle.hashtable.proofs.TableIds.{same?}
@@ -29,7 +29,7 @@ use Rattle.falling.proofs.Lowest.{low-empty, low-some}
 use Rattle.tested.specs.declared.step.Step.the-variants.{Count, NoRoom}
 use Rattle.tested.specs.Passes.{Held, held, slotAt, pairIn, lowOf, UnderAll, Roomy, Going, InHand, Takes}
 
-module _ {w : World} {u roots : List Id} {cap from : ℕ} {m : Held} {n : ℕ} {l : List Id} {k : ℕ} (v : Going w u roots cap from m n l k) (h : k < n)
+module _ {width : ℕ} {w : World} {u roots : List Id} {cap from : ℕ} {m : Held} {n : ℕ} {l : List Id} {k : ℕ} (v : Going width w u roots cap from m n l k) (h : k < n)
     {slot : ℕ} {q : Pair} {hd : Header} {c : ℕ} (a : InHand w from m l k slot q hd c)
     {levels′ : List ℕ} {times′ : List ℤ} (sl : levels′ ≡ set (m .levels) slot (q .generation)) (st : times′ ≡ set (m .times) slot (q .time)) where
   -- ---- the pair that is set down
@@ -56,7 +56,7 @@ module _ {w : World} {u roots : List Id} {cap from : ℕ} {m : Held} {n : ℕ} {
   still : (i : ℕ) → i < k → slotPair levels′ times′ (slotAt from m i) ≡ pairAt w (getD l i [])
   still i j = ⊎-elim
       (λ p.
-      let same : getD l i [] ≡ getD l k [] = sym (v .seeking .lists .slots i (omega arith) .is) ∙ ap (idOf idBytes (m .lent .names)) (p ∙ a .slot-is) ∙ v .seeking .lists .slots k h .is in
+      let same : getD l i [] ≡ getD l k [] = sym (v .seeking .lists .slots i (omega arith) .is) ∙ ap (idOf width (m .lent .names)) (p ∙ a .slot-is) ∙ v .seeking .lists .slots k h .is in
       ap (slotPair levels′ times′) p ∙ this ∙ ap (pairAt w) (sym same))
       (λ p. there (slotAt from m i) p ∙ v .paired i j)
       (same? (slotAt from m i) slot)
@@ -71,7 +71,7 @@ module _ {w : World} {u roots : List Id} {cap from : ℕ} {m : Held} {n : ℕ} {
 
   -- ---- the parents are noted
 
-  module _ {names₁ marks₁ line₁ : List ℕ} {n′ : ℕ} (o : Went false cap from u (m .lent) (lent names₁ marks₁ line₁) l (hd .ids) n′) where
+  module _ {names₁ marks₁ line₁ : List ℕ} {n′ : ℕ} (o : Went width false cap from u (m .lent) (lent names₁ marks₁ line₁) l (hd .ids) n′) where
     abbrev m₁ : Lent
     m₁ = lent names₁ marks₁ line₁
 
@@ -82,12 +82,12 @@ module _ {w : World} {u roots : List Id} {cap from : ℕ} {m : Held} {n : ℕ} {
     more = omega (arith, o .grows .long, v .seeking .lists .count, o .lists .count)
 
     -- an id stands in one slot
-    one-slot : (x : Id) (s t : ℕ) → In cap m₁ x s → In cap m₁ x t → s ≡ t
+    one-slot : (x : Id) (s t : ℕ) → In width cap m₁ x s → In width cap m₁ x t → s ≡ t
     one-slot x s t d e = o .lists .table .once s t (d .low) (e .low) (d .alive) (e .alive) (d .is ∙ sym (e .is))
 
     same-slot : (i : ℕ) → i < n → getD line₁ (from + i) 0 ≡ slotAt from m i
     same-slot i j = one-slot (getD l i []) (getD line₁ (from + i) 0) (slotAt from m i)
-        (subst (λ (z : Id). In cap m₁ z (getD line₁ (from + i) 0)) (at i j) (o .lists .slots i (omega (arith, more))))
+        (subst (λ (z : Id). In width cap m₁ z (getD line₁ (from + i) 0)) (at i j) (o .lists .slots i (omega (arith, more))))
         (o .spares .stays (getD l i []) (slotAt from m i) (v .seeking .lists .slots i j))
 
     pub cell₁ : (s : ℕ) → s < cap → getD line₁ (2 * s) 0 ≡ getD (m .lent .line) (2 * s) 0
@@ -97,11 +97,11 @@ module _ {w : World} {u roots : List Id} {cap from : ℕ} {m : Held} {n : ℕ} {
     low₁ s j x = ap (λ (z : ℕ). lowIn levels′ times′ z x) (cell₁ s j) ∙ same-low s j x
 
     -- what a commit that was read leads to had its slot before
-    back : (i : ℕ) → i < k → (p : Id) → Mem p (links w (getD l i [])) → (s : ℕ) → In cap m₁ p s → In cap (m .lent) p s
+    back : (i : ℕ) → i < k → (p : Id) → Mem p (links w (getD l i [])) → (s : ℕ) → In width cap m₁ p s → In width cap (m .lent) p s
     back i j p e s d =
         let pl = place-of p l (v .seeking .growing .closed i j p e) in
-        let hold : In cap (m .lent) p (slotAt from m (pl .0)) = subst (λ (z : Id). In cap (m .lent) z (slotAt from m (pl .0))) (pl .2) (v .seeking .lists .slots (pl .0) (omega (arith, pl .1, v .seeking .lists .count))) in
-        subst (In cap (m .lent) p) (one-slot p (slotAt from m (pl .0)) s (o .spares .stays p (slotAt from m (pl .0)) hold) d) hold
+        let hold : In width cap (m .lent) p (slotAt from m (pl .0)) = subst (λ (z : Id). In width cap (m .lent) z (slotAt from m (pl .0))) (pl .2) (v .seeking .lists .slots (pl .0) (omega (arith, pl .1, v .seeking .lists .count))) in
+        subst (In width cap (m .lent) p) (one-slot p (slotAt from m (pl .0)) s (o .spares .stays p (slotAt from m (pl .0)) hold) d) hold
 
     growing₁ : Growing w roots (o .list) (suc k)
     growing₁ =
@@ -111,35 +111,35 @@ module _ {w : World} {u roots : List Id} {cap from : ℕ} {m : Held} {n : ℕ} {
         (λ x j. o .grows .in-it x (subst (λ (z : List Id). Mem x z) (a .links-are) (subst (λ (z : Id). Mem x (links w z)) (at k h) j)))
 
     -- each parent has a slot, and each slot a cell
-    pub right₁ : Right (slotsIn names₁ marks₁ levels′ times′) cap slot line₁
+    pub right₁ : Right width (slotsIn names₁ marks₁ levels′ times′) cap slot line₁
     right₁ = record { table = o .lists .table; small = o .named .small; room = omega (arith, o .lists .room, v .roomy .below); fits = omega (arith, low-slot, v .roomy .small) }
 
-    pub slot-of : (p : Id) → Mem p (hd .ids) → (s : ℕ) × In cap m₁ p s
+    pub slot-of : (p : Id) → Mem p (hd .ids) → (s : ℕ) × In width cap m₁ p s
     slot-of p j =
         let pl = place-of p (o .list) (o .grows .in-it p j) in
-        (getD line₁ (from + pl .0) 0, subst (λ (z : Id). In cap m₁ z (getD line₁ (from + pl .0) 0)) (pl .2) (o .lists .slots (pl .0) (omega (arith, pl .1, o .lists .count))))
+        (getD line₁ (from + pl .0) 0, subst (λ (z : Id). In width cap m₁ z (getD line₁ (from + pl .0) 0)) (pl .2) (o .lists .slots (pl .0) (omega (arith, pl .1, o .lists .count))))
 
     -- ---- their cells are lowered
 
-    module _ {line₂ : List ℕ} (lo : Lowered (slotsIn names₁ marks₁ levels′ times′) cap slot (hd .ids) line₁ line₂) where
+    module _ {line₂ : List ℕ} (lo : Lowered width (slotsIn names₁ marks₁ levels′ times′) cap slot (hd .ids) line₁ line₂) where
       abbrev m₂ : Held
       m₂ = held names₁ marks₁ levels′ times′ line₂
 
       slot₂ : (i : ℕ) → i < n → slotAt from m₂ i ≡ slotAt from m i
       slot₂ i j = lo .beyond (from + i) (omega (arith, v .roomy .below)) ∙ same-slot i j
 
-      lists₂ : Lists false cap from (lent names₁ marks₁ line₂) n′ (o .list)
+      lists₂ : Lists width false cap from (lent names₁ marks₁ line₂) n′ (o .list)
       lists₂ = record {
         table = o .lists .table;
         room = omega (arith, o .lists .room, lo .long);
         count = o .lists .count;
         once = o .lists .once;
-        slots = λ i j. subst (In cap m₁ (getD (o .list) i [])) (sym (lo .beyond (from + i) (omega (arith, v .roomy .below)))) (o .lists .slots i j);
+        slots = λ i j. subst (In width cap m₁ (getD (o .list) i [])) (sym (lo .beyond (from + i) (omega (arith, v .roomy .below)))) (o .lists .slots i j);
         marked = o .lists .marked;
         all = o .lists .all;
       }
 
-      seeking₂ : Seeking w u roots false cap from (lent names₁ marks₁ line₂) n′ (o .list) (suc k)
+      seeking₂ : Seeking width w u roots false cap from (lent names₁ marks₁ line₂) n′ (o .list) (suc k)
       seeking₂ = record {
         lists = lists₂;
         named = record { few = o .named .few; small = o .named .small; inside = o .named .inside };
@@ -149,7 +149,7 @@ module _ {w : World} {u roots : List Id} {cap from : ℕ} {m : Held} {n : ℕ} {
         parents-in = v .seeking .parents-in;
       }
 
-      sound₂ : (s : ℕ) (x : Pair) → s < cap → lowOf m₂ s x ≡ true → UnderAll w cap (lent names₁ marks₁ line₂) (o .list) (suc k) s x
+      sound₂ : (s : ℕ) (x : Pair) → s < cap → lowOf m₂ s x ≡ true → UnderAll width w cap (lent names₁ marks₁ line₂) (o .list) (suc k) s x
       sound₂ s x j t i b p e d = ⊎-elim
           (λ f.
           let e′ = subst (λ (z : Id). Mem p (links w z)) (at i (omega arith)) e in
@@ -160,14 +160,14 @@ module _ {w : World} {u roots : List Id} {cap from : ℕ} {m : Held} {n : ℕ} {
           (ap (ltPair x) (sym this) ∙ lo .under s x j t p (subst (λ (z : List Id). Mem p z) (a .links-are) e′) d))
           (last-place i k b)
 
-      tight₂ : (s : ℕ) (x : Pair) → s < cap → UnderAll w cap (lent names₁ marks₁ line₂) (o .list) (suc k) s x → lowOf m₂ s x ≡ true
+      tight₂ : (s : ℕ) (x : Pair) → s < cap → UnderAll width w cap (lent names₁ marks₁ line₂) (o .list) (suc k) s x → lowOf m₂ s x ≡ true
       tight₂ s x j all = lo .only s x j
           (low₁ s j x ∙ v .tight s x j (λ i b p e d. subst (λ (z : Id). ltPair x (pairAt w z) ≡ true) (at i (omega arith))
           (all i (omega arith) p (subst (λ (z : Id). Mem p (links w z)) (sym (at i (omega arith))) e) (o .spares .stays p s d))))
           (λ p e d. ap (ltPair x) this ∙ subst (λ (z : Id). ltPair x (pairAt w z) ≡ true) (at k h)
           (all k (omega arith) p (subst (λ (z : Id). Mem p (links w z)) (sym (at k h)) (subst (λ (z : List Id). Mem p z) (sym (a .links-are)) e)) d))
 
-      pub taken : Going w u roots cap from m₂ n′ (o .list) (suc k)
+      pub taken : Going width w u roots cap from m₂ n′ (o .list) (suc k)
       taken = record {
         seeking = seeking₂;
         roomy = record {

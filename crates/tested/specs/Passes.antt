@@ -6,7 +6,7 @@ use mathlib.Core.Bool.{Bool, true, false}
 use mathlib.Core.List.{List, []}
 use lib.ListN.{length, getD}
 use lib.IntN.{ℤ}
-use Rattle.hash.specs.Bytes.{Id, idBytes}
+use Rattle.hash.specs.Bytes.{Id}
 use Rattle.object.specs.Header.{Header}
 use Rattle.commit.specs.declared.Cache.{Cache}
 use Rattle.walk.specs.Lookup.{World, worldOf, Pair, ltPair}
@@ -44,8 +44,8 @@ abbrev pub lowOf : Held → ℕ → Pair → Bool
 lowOf m s q = lowAt (m .lent .line) (m .levels) (m .times) s q
 
 -- the pair q lies below those of the children, among the first k of l, of the commit in slot s
-abbrev pub UnderAll : World → ℕ → Lent → List Id → ℕ → ℕ → Pair → Type 0
-UnderAll w cap m l k s q = (i : ℕ) → i < k → (p : Id) → Mem p (links w (getD l i [])) → In cap m p s → ltPair q (pairAt w (getD l i [])) ≡ true
+abbrev pub UnderAll : ℕ → World → ℕ → Lent → List Id → ℕ → ℕ → Pair → Type 0
+UnderAll width w cap m l k s q = (i : ℕ) → i < k → (p : Id) → Mem p (links w (getD l i [])) → In width cap m p s → ltPair q (pairAt w (getD l i [])) ≡ true
 
 -- room for cells and pairs
 pub record Roomy (cap from : ℕ) (m : Held) : Type 0 where
@@ -56,35 +56,35 @@ pub record Roomy (cap from : ℕ) (m : Held) : Type 0 where
 
 -- the search has met the list l and read its first k: the graph agrees on these, their pairs stand in their slots, and the cell of a slot stands for
 -- all children among them
-pub record Going (w : World) (u roots : List Id) (cap from : ℕ) (m : Held) (n : ℕ) (l : List Id) (k : ℕ) : Type 0 where
-  pub seeking : Seeking w u roots false cap from (m .lent) n l k
+pub record Going (width : ℕ) (w : World) (u roots : List Id) (cap from : ℕ) (m : Held) (n : ℕ) (l : List Id) (k : ℕ) : Type 0 where
+  pub seeking : Seeking width w u roots false cap from (m .lent) n l k
   pub roomy : Roomy cap from m
   pub agrees : (i : ℕ) → i < k → agreesIn w (getD l i []) ≡ true
   pub paired : (i : ℕ) → i < k → pairIn m (slotAt from m i) ≡ pairAt w (getD l i [])
   pub cells : (s : ℕ) → s < cap → (getD (m .lent .line) (2 * s) 0 ≡ 0) ⊎ ((i : ℕ) × (i < k) × (getD (m .lent .line) (2 * s) 0 ≡ suc (slotAt from m i)))
-  pub sound : (s : ℕ) (q : Pair) → s < cap → lowOf m s q ≡ true → UnderAll w cap (m .lent) l k s q
-  pub tight : (s : ℕ) (q : Pair) → s < cap → UnderAll w cap (m .lent) l k s q → lowOf m s q ≡ true
+  pub sound : (s : ℕ) (q : Pair) → s < cap → lowOf m s q ≡ true → UnderAll width w cap (m .lent) l k s q
+  pub tight : (s : ℕ) (q : Pair) → s < cap → UnderAll width w cap (m .lent) l k s q → lowOf m s q ≡ true
 
 -- so from a list that is not known
-pub record GoesOn (w : World) (u roots : List Id) (cap from : ℕ) (m : Held) (n k : ℕ) : Type 0 where
+pub record GoesOn (width : ℕ) (w : World) (u roots : List Id) (cap from : ℕ) (m : Held) (n k : ℕ) : Type 0 where
   pub list : List Id
-  pub going : Going w u roots cap from m n list k
+  pub going : Going width w u roots cap from m n list k
 
 -- "14 graph at odds": a commit that is reached, on which the graph does not agree; the search can go on
-pub record Off (w : World) (u roots : List Id) (cap from : ℕ) (m : Lent) (n : ℕ) : Type 0 where
+pub record Off (width : ℕ) (w : World) (u roots : List Id) (cap from : ℕ) (m : Lent) (n : ℕ) : Type 0 where
   pub commit : Id
   pub reached : ReachedBy w roots commit
   pub odd : agreesIn w commit ≡ false
   pub list : List Id
-  pub seeking : Seeking w u roots false cap from m n list 0
+  pub seeking : Seeking width w u roots false cap from m n list 0
 
 -- ---- one commit
 
-abbrev pub ToldStep : World → List Id → List Id → ℕ → ℕ → Held → ℕ → ℕ → Step → Type 0
-ToldStep w u roots cap from m′ n k (Count n′) = GoesOn w u roots cap from m′ n′ (suc k)
-ToldStep w u roots cap from m′ n k Unreadable = Stuck w roots
-ToldStep w u roots cap from m′ n k AtOdds = Off w u roots cap from (m′ .lent) n
-ToldStep w u roots cap from m′ n k NoRoom = ⊥
+abbrev pub ToldStep : ℕ → World → List Id → List Id → ℕ → ℕ → Held → ℕ → ℕ → Step → Type 0
+ToldStep width w u roots cap from m′ n k (Count n′) = GoesOn width w u roots cap from m′ n′ (suc k)
+ToldStep width w u roots cap from m′ n k Unreadable = Stuck w roots
+ToldStep width w u roots cap from m′ n k AtOdds = Off width w u roots cap from (m′ .lent) n
+ToldStep width w u roots cap from m′ n k NoRoom = ⊥
 
 -- the commit at place k in hand: its slot, its header with c parents, its pair q
 pub record InHand (w : World) (from : ℕ) (m : Held) (l : List Id) (k slot : ℕ) (q : Pair) (h : Header) (c : ℕ) : Type 0 where
@@ -97,22 +97,22 @@ pub record InHand (w : World) (from : ℕ) (m : Held) (l : List Id) (k slot : �
   pub pair : q ≡ pairAt w (getD l k [])
 
 -- what `take` does
-pub record Takes (cap from : ℕ) (m m′ : Held) (n slot : ℕ) (q : Pair) (h : Header) (c : ℕ) (r : Step) : Type 0 where
-  pub right : (w : World) (u roots l : List Id) (k : ℕ) → Going w u roots cap from m n l k → k < n → InHand w from m l k slot q h c → ToldStep w u roots cap from m′ n k r
+pub record Takes (width : ℕ) (cap from : ℕ) (m m′ : Held) (n slot : ℕ) (q : Pair) (h : Header) (c : ℕ) (r : Step) : Type 0 where
+  pub right : (w : World) (u roots l : List Id) (k : ℕ) → Going width w u roots cap from m n l k → k < n → InHand w from m l k slot q h c → ToldStep width w u roots cap from m′ n k r
 
 -- what `read_at` does
-pub record Steps (c : Cache) (g s : List ℕ) (cap from : ℕ) (m m′ : Held) (n k : ℕ) (r : Step) : Type 0 where
-  pub right : Files c g s → (u roots l : List Id) → Going (worldOf s g) u roots cap from m n l k → k < n → ToldStep (worldOf s g) u roots cap from m′ n k r
+pub record Steps (width : ℕ) (c : Cache) (g s : List ℕ) (cap from : ℕ) (m m′ : Held) (n k : ℕ) (r : Step) : Type 0 where
+  pub right : Files width c g s → (u roots l : List Id) → Going width (worldOf width s g) u roots cap from m n l k → k < n → ToldStep width (worldOf width s g) u roots cap from m′ n k r
 
 -- ---- the line
 
 -- all is reached and read; and where pairs fall is told by the cells
-abbrev pub ToldGone : World → List Id → List Id → ℕ → ℕ → Held → Gone → Type 0
-ToldGone w u roots cap from m′ (Whole n) = (k : ℕ) × (n ≤ k) × GoesOn w u roots cap from m′ n k
-ToldGone w u roots cap from m′ NotReadable = Stuck w roots
-ToldGone w u roots cap from m′ (IsAtOdds n) = Off w u roots cap from (m′ .lent) n
-ToldGone w u roots cap from m′ TooSmall = ⊥
+abbrev pub ToldGone : ℕ → World → List Id → List Id → ℕ → ℕ → Held → Gone → Type 0
+ToldGone width w u roots cap from m′ (Whole n) = (k : ℕ) × (n ≤ k) × GoesOn width w u roots cap from m′ n k
+ToldGone width w u roots cap from m′ NotReadable = Stuck w roots
+ToldGone width w u roots cap from m′ (IsAtOdds n) = Off width w u roots cap from (m′ .lent) n
+ToldGone width w u roots cap from m′ TooSmall = ⊥
 
 -- what `go_along` does
-pub record Goes (c : Cache) (g s : List ℕ) (cap from : ℕ) (m m′ : Held) (n : ℕ) (r : Gone) : Type 0 where
-  pub right : Files c g s → (u roots : List Id) → GoesOn (worldOf s g) u roots cap from m n 0 → ToldGone (worldOf s g) u roots cap from m′ r
+pub record Goes (width : ℕ) (c : Cache) (g s : List ℕ) (cap from : ℕ) (m m′ : Held) (n : ℕ) (r : Gone) : Type 0 where
+  pub right : Files width c g s → (u roots : List Id) → GoesOn width (worldOf width s g) u roots cap from m n 0 → ToldGone width (worldOf width s g) u roots cap from m′ r

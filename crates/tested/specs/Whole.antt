@@ -4,7 +4,7 @@ use mathlib.Core.Path.{_≡_}
 use mathlib.Core.Bool.{true}
 use mathlib.Core.Option.{none}
 use mathlib.Core.List.{List}
-use Rattle.hash.specs.Bytes.{Id, idBytes}
+use Rattle.hash.specs.Bytes.{Id}
 use Rattle.odb.specs.Store.{storeOk}
 use Rattle.commit.specs.declared.Cache.{Cache}
 use Rattle.walk.specs.declared.Refusal.the-variants.{UnreadableReach}
@@ -25,12 +25,12 @@ pub data Answered (w : World) (roots : List Id) (r : Checked) : Type 0 where
   decided : (l : List Id) → Reached w roots l → AllReadable w roots → r ≡ checkedOf (judged true (each (agreesIn w) l) (each (fallsIn w) l)) → Answered w roots r
 
 -- what `at_odds` answers
-pub record Odds (cap from : ℕ) (s : List ℕ) (m : Lent) (n : ℕ) (r : Checked) : Type 0 where
-  pub right : storeOk idBytes s ≡ true → (g : List ℕ) (u roots : List Id) → Off (worldOf s g) u roots cap from m n → Answered (worldOf s g) roots r
+pub record Odds (width : ℕ) (cap from : ℕ) (s : List ℕ) (m : Lent) (n : ℕ) (r : Checked) : Type 0 where
+  pub right : storeOk width s ≡ true → (g : List ℕ) (u roots : List Id) → Off width (worldOf width s g) u roots cap from m n → Answered (worldOf width s g) roots r
 
 -- what `test_from` answers
-pub record TestsFrom (c : Cache) (g s : List ℕ) (cap from : ℕ) (m : Held) (n : ℕ) (r : Checked) : Type 0 where
-  pub right : Files c g s → (u roots : List Id) → GoesOn (worldOf s g) u roots cap from m n 0 → Answered (worldOf s g) roots r
+pub record TestsFrom (width : ℕ) (c : Cache) (g s : List ℕ) (cap from : ℕ) (m : Held) (n : ℕ) (r : Checked) : Type 0 where
+  pub right : Files width c g s → (u roots : List Id) → GoesOn width (worldOf width s g) u roots cap from m n 0 → Answered (worldOf width s g) roots r
 
 -- what `test` answers, where 1 to 6 do not apply
 pub record Tests (i : Input) (lent : Lengths) (r : Checked) : Type 0 where

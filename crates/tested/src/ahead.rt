@@ -10,9 +10,9 @@ use hash::Kind;
 use hashtable::table;
 ghost use mathlib.Core.Path.{_≡_};
 ghost use Prim.Native.Nat.{_+_};
-ghost use Rattle.hash.specs.Bytes.{idBytes};
 ghost use Rattle.odb.specs.Lookup.{entryBody};
 ghost use Rattle.tested.specs.Ahead.{nearAt, slotWords, placeWords, startOf, homeWords, bodyWords, rowWords, wordsAt, wordsAhead, keptBeside};
+ghost use Rattle.hash.specs.Bytes.{widthOf};
 
 // The hint of the slot d places after place k, where the line has n slots; past them another number.
 fn near_after(line: &[u32], from: usize, n: usize, k: usize, d: usize, other: usize) -> usize
@@ -28,17 +28,25 @@ fn near_after(line: &[u32], from: usize, n: usize, k: usize, d: usize, other: us
 }
 
 // The words of a slot's id and cell.
-fn slot_words(names: &[u8], line: &[u32], slot: u32) -> u32
-    ensures { λ r. ⌜ r ≡ slotWords (now (names .entry)) (now (line .entry)) slot ⌝ }
+fn slot_words(kind: Kind, names: &[u8], line: &[u32], slot: u32) -> u32
+    ensures { λ r. ⌜ r ≡ slotWords (widthOf kind) (now (names .entry)) (now (line .entry)) slot ⌝ }
 {
     let k = slot as usize;
-    let id = table::id_of(Kind::Sha1, names, k);
+    let id = table::id_of(kind, names, k);
     hash::be32(id, 0) ^ falling::slot_after(line, k, k)
 }
 
 // Those of the slot d places after place k: its hint stands beside its cell.
-fn place_words(names: &[u8], line: &[u32], from: usize, n: usize, k: usize, d: usize) -> u32
-    ensures { λ r. ⌜ r ≡ placeWords (now (names .entry)) (now (line .entry)) from n (k + d) ⌝ }
+fn place_words(
+    kind: Kind,
+    names: &[u8],
+    line: &[u32],
+    from: usize,
+    n: usize,
+    k: usize,
+    d: usize,
+) -> u32
+    ensures { λ r. ⌜ r ≡ placeWords (widthOf kind) (now (names .entry)) (now (line .entry)) from n (k + d) ⌝ }
 {
     if n <= k {
         return 0;
@@ -46,7 +54,7 @@ fn place_words(names: &[u8], line: &[u32], from: usize, n: usize, k: usize, d: u
     if n - k <= d {
         return 0;
     }
-    slot_words(names, line, falling::slot_after(line, from, k + d))
+    slot_words(kind, names, line, falling::slot_after(line, from, k + d))
 }
 
 fn wide(x: u32) -> usize
@@ -79,25 +87,26 @@ fn home_words(marks: &[u8], line: &[u32], slot: usize) -> u32
 }
 
 // A word of each of the first four lines of memory of an entry's body; most bodies' headers end there.
-fn body_words(store: &[u8], entry: usize) -> u32
-    ensures { λ r. ⌜ r ≡ bodyWords (entryBody idBytes (now (store .entry)) entry) ⌝ }
+fn body_words(kind: Kind, store: &[u8], entry: usize) -> u32
+    ensures { λ r. ⌜ r ≡ bodyWords (entryBody (widthOf kind) (now (store .entry)) entry) ⌝ }
 {
-    let body = odb::entry_bytes(Kind::Sha1, store, entry);
+    let body = odb::entry_bytes(kind, store, entry);
     hash::be32(body, 0) ^ hash::be32(body, 64) ^ hash::be32(body, 128) ^ hash::be32(body, 192)
 }
 
 // The words of the row, the id and the entry at a position.
-fn row_words(graph: &[u8], l: Layout, store: &[u8], position: usize) -> u32
-    ensures { λ r. ⌜ r ≡ rowWords (now (graph .entry)) l (now (store .entry)) position ⌝ }
+fn row_words(kind: Kind, graph: &[u8], l: Layout, store: &[u8], position: usize) -> u32
+    ensures { λ r. ⌜ r ≡ rowWords (widthOf kind) (now (graph .entry)) l (now (store .entry)) position ⌝ }
 {
-    let row = rows::row(Kind::Sha1, graph, l, position);
-    let id = rows::id_at(Kind::Sha1, graph, l, position);
-    let entry = odb::entry_id(Kind::Sha1, store, position);
-    hash::be32(row, 20) ^ hash::be32(id, 0) ^ hash::be32(entry, 0)
+    let row = rows::row(kind, graph, l, position);
+    let id = rows::id_at(kind, graph, l, position);
+    let entry = odb::entry_id(kind, store, position);
+    hash::be32(row, hash::width(kind)) ^ hash::be32(id, 0) ^ hash::be32(entry, 0)
 }
 
 // All of them, where the parent of the commit in hand stands at one position and the next commit at another.
 fn words_at(
+    kind: Kind,
     names: &[u8],
     marks: &[u8],
     line: &[u32],
@@ -111,20 +120,21 @@ fn words_at(
     parent: usize,
     one: usize,
 ) -> u32
-    ensures { λ r. ⌜ r ≡ wordsAt (now (names .entry)) (now (marks .entry)) (now (line .entry)) cap from n k (now (graph .entry)) l (now (store .entry)) parent one ⌝ }
+    ensures { λ r. ⌜ r ≡ wordsAt (widthOf kind) (now (names .entry)) (now (marks .entry)) (now (line .entry)) cap from n k (now (graph .entry)) l (now (store .entry)) parent one ⌝ }
 {
-    let next = parents::parent(Kind::Sha1, graph, l, one, 0);
+    let next = parents::parent(kind, graph, l, one, 0);
     let two = near_after(line, from, n, k, 2, next);
-    let start = start_of(rows::id_at(Kind::Sha1, graph, l, parent), cap);
+    let start = start_of(rows::id_at(kind, graph, l, parent), cap);
     let home = home_words(marks, line, start);
-    let place = place_words(names, line, from, n, k, 4);
-    let body = body_words(store, one);
-    let row = row_words(graph, l, store, two);
-    home ^ place ^ (body ^ row) ^ hash::be32(rows::id_at(Kind::Sha1, graph, l, next), 0)
+    let place = place_words(kind, names, line, from, n, k, 4);
+    let body = body_words(kind, store, one);
+    let row = row_words(kind, graph, l, store, two);
+    home ^ place ^ (body ^ row) ^ hash::be32(rows::id_at(kind, graph, l, next), 0)
 }
 
 // The words ahead of the commit at place k of the n, which may stand at position near.
 pub fn words_ahead(
+    kind: Kind,
     names: &[u8],
     marks: &[u8],
     line: &[u32],
@@ -137,13 +147,14 @@ pub fn words_ahead(
     store: &[u8],
     near: usize,
 ) -> u32
-    ensures { λ r. ⌜ r ≡ wordsAhead cache (now (names .entry)) (now (marks .entry)) (now (line .entry)) cap from n k (now (graph .entry)) (now (store .entry)) near ⌝ }
+    ensures { λ r. ⌜ r ≡ wordsAhead (widthOf kind) cache (now (names .entry)) (now (marks .entry)) (now (line .entry)) cap from n k (now (graph .entry)) (now (store .entry)) near ⌝ }
 {
     match cache {
         Cache::Graph(l) => {
-            let parent = parents::parent(Kind::Sha1, graph, l, near, 0);
+            let parent = parents::parent(kind, graph, l, near, 0);
             let one = near_after(line, from, n, k, 1, parent);
             words_at(
+                kind,
                 names,
                 marks,
                 line,

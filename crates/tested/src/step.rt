@@ -10,13 +10,13 @@ use object::Reading;
 use reach::Grown;
 use walk::GenThenTime;
 ghost use mathlib.Core.Path.{_≡_};
-ghost use Rattle.hash.specs.Bytes.{idBytes};
 ghost use Rattle.object.specs.Header.{header};
 ghost use Rattle.hashtable.specs.Table.{idOf};
 ghost use Rattle.reading.specs.Stored.{GivesBody};
 ghost use Rattle.judging.specs.Judge.{Judges};
 ghost use Rattle.walk.specs.Lookup.{pairOf};
 ghost use Rattle.tested.specs.Passes.{held, Takes, Steps};
+ghost use Rattle.hash.specs.Bytes.{widthOf};
 
 // How many slots the line has then; the commit is not readable; the commit-graph file is at odds with it; or the lent memory is too small.
 pub enum Step {
@@ -27,15 +27,16 @@ pub enum Step {
 }
 
 // The body of the commit in a slot, a part of the store; empty where the store has none. It may stand under entry near.
-fn body_in<'a>(names: &[u8], slot: u32, store: &'a [u8], near: usize) -> &'a [u8]
-    ensures { λ r. ⌜ GivesBody idBytes (now (store .entry)) (idOf idBytes (now (names .entry)) slot) (now r) ⌝ }
+fn body_in<'a>(kind: Kind, names: &[u8], slot: u32, store: &'a [u8], near: usize) -> &'a [u8]
+    ensures { λ r. ⌜ GivesBody (widthOf kind) (now (store .entry)) (idOf (widthOf kind) (now (names .entry)) slot) (now r) ⌝ }
 {
-    let id = table::id_of(Kind::Sha1, names, slot as usize);
-    odb::body(store, odb::locate_near(Kind::Sha1, store, id, near))
+    let id = table::id_of(kind, names, slot as usize);
+    odb::body(store, odb::locate_near(kind, store, id, near))
 }
 
 // The commit in a slot, whose body has n parents and these seconds, beside its row.
 fn judge_in(
+    kind: Kind,
     names: &[u8],
     slot: u32,
     cache: Cache,
@@ -46,15 +47,16 @@ fn judge_in(
     n: usize,
     seconds: Seconds,
 ) -> Judged
-    ensures { λ r. ⌜ Judges cache (now (graph .entry)) (now (store .entry)) (idOf idBytes (now (names .entry)) slot) (now (body .entry)) n (seconds .0) r ⌝ }
+    ensures { λ r. ⌜ Judges (widthOf kind) cache (now (graph .entry)) (now (store .entry)) (idOf (widthOf kind) (now (names .entry)) slot) (now (body .entry)) n (seconds .0) r ⌝ }
 {
-    let id = table::id_of(Kind::Sha1, names, slot as usize);
-    judging::judge(cache, graph, store, id, near, body, n, seconds)
+    let id = table::id_of(kind, names, slot as usize);
+    judging::judge(kind, cache, graph, store, id, near, body, n, seconds)
 }
 
 // The commit in a slot has this pair and so many parents in its body: the pair is set down, the parents are noted after the n of the line, and
 // their cells lowered.
 fn take(
+    kind: Kind,
     names: &mut [u8],
     marks: &mut [u8],
     levels: &mut [u32],
@@ -71,10 +73,11 @@ fn take(
     l: Layout,
     position: usize,
 ) -> Step
-    ensures { λ r. ⌜ Takes cap from (held (now (names .entry)) (now (marks .entry)) (now (levels .entry)) (now (times .entry)) (now (line .entry))) (held (now (names .exit)) (now (marks .exit)) (now (levels .exit)) (now (times .exit)) (now (line .exit))) n slot (pairOf pair) (header idBytes (now (body .entry))) parents r ⌝ }
+    ensures { λ r. ⌜ Takes (widthOf kind) cap from (held (now (names .entry)) (now (marks .entry)) (now (levels .entry)) (now (times .entry)) (now (line .entry))) (held (now (names .exit)) (now (marks .exit)) (now (levels .exit)) (now (times .exit)) (now (line .exit))) n slot (pairOf pair) (header (widthOf kind) (now (body .entry))) parents r ⌝ }
 {
     falling::set_pair(levels, times, slot, pair);
     let grown = reach::note_parents(
+        kind,
         names,
         marks,
         line,
@@ -88,6 +91,7 @@ fn take(
     match grown {
         Grown::Count(m) => {
             falling::lower_parents(
+                kind,
                 names,
                 marks,
                 levels,
@@ -112,6 +116,7 @@ fn take(
 
 // Reads the commit at place k of the n.
 pub fn read_at(
+    kind: Kind,
     names: &mut [u8],
     marks: &mut [u8],
     levels: &mut [u32],
@@ -125,11 +130,12 @@ pub fn read_at(
     n: usize,
     k: usize,
 ) -> Step
-    ensures { λ r. ⌜ Steps cache (now (graph .entry)) (now (store .entry)) cap from (held (now (names .entry)) (now (marks .entry)) (now (levels .entry)) (now (times .entry)) (now (line .entry))) (held (now (names .exit)) (now (marks .exit)) (now (levels .exit)) (now (times .exit)) (now (line .exit))) n k r ⌝ }
+    ensures { λ r. ⌜ Steps (widthOf kind) cache (now (graph .entry)) (now (store .entry)) cap from (held (now (names .entry)) (now (marks .entry)) (now (levels .entry)) (now (times .entry)) (now (line .entry))) (held (now (names .exit)) (now (marks .exit)) (now (levels .exit)) (now (times .exit)) (now (line .exit))) n k r ⌝ }
 {
     let slot = falling::slot_after(line, from, k);
     let near = falling::hint_of(line, slot);
     let words = ahead::words_ahead(
+        kind,
         names,
         marks,
         line,
@@ -142,11 +148,12 @@ pub fn read_at(
         store,
         near,
     );
-    let body = body_in(names, slot, store, near);
-    match object::readable(Kind::Sha1, body) {
+    let body = body_in(kind, names, slot, store, near);
+    match object::readable(kind, body) {
         Reading::Readable { parents, stamp } => {
             let seconds = stamp.seconds;
             match judge_in(
+                kind,
                 names,
                 slot,
                 cache,
@@ -158,6 +165,7 @@ pub fn read_at(
                 seconds,
             ) {
                 Judged::Pair { position, pair } => take(
+                    kind,
                     names,
                     marks,
                     levels,

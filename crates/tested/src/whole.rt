@@ -17,6 +17,7 @@ ghost use lib.ListN.{length};
 ghost use Rattle.reach.specs.Memory.{mostSlots, lent};
 ghost use Rattle.tested.specs.Passes.{held};
 ghost use Rattle.tested.specs.Whole.{Odds, TestsFrom, Tests};
+ghost use Rattle.hash.specs.Bytes.{widthOf};
 
 // Where the line of slots begins: behind a cell and a hint for each slot.
 fn line_start(cap: usize) -> usize
@@ -30,6 +31,7 @@ fn line_start(cap: usize) -> usize
 
 // The file is at odds with a commit: 14, unless another is not readable, which the search that goes on tells.
 fn at_odds(
+    kind: Kind,
     names: &mut [u8],
     marks: &mut [u8],
     line: &mut [u32],
@@ -38,9 +40,9 @@ fn at_odds(
     store: &[u8],
     n: usize,
 ) -> Checked
-    ensures { λ r. ⌜ Odds cap from (now (store .entry)) (lent (now (names .entry)) (now (marks .entry)) (now (line .entry))) n r ⌝ }
+    ensures { λ r. ⌜ Odds (widthOf kind) cap from (now (store .entry)) (lent (now (names .entry)) (now (marks .entry)) (now (line .entry))) n r ⌝ }
 {
-    match reach::search(names, marks, line, cap, false, from, store, n) {
+    match reach::search(kind, names, marks, line, cap, false, from, store, n) {
         Sought::Whole(_) => Checked::Refused(Refusal::GraphAtOdds),
         Sought::Unreadable => Checked::Refused(Refusal::UnreadableReach),
         Sought::NoRoom => Checked::Refused(Refusal::BufferTooSmall),
@@ -49,6 +51,7 @@ fn at_odds(
 
 // The tests from the n slots that the line has to begin with.
 fn test_from(
+    kind: Kind,
     names: &mut [u8],
     marks: &mut [u8],
     levels: &mut [u32],
@@ -61,9 +64,10 @@ fn test_from(
     store: &[u8],
     n: usize,
 ) -> Checked
-    ensures { λ r. ⌜ TestsFrom cache (now (graph .entry)) (now (store .entry)) cap from (held (now (names .entry)) (now (marks .entry)) (now (levels .entry)) (now (times .entry)) (now (line .entry))) n r ⌝ }
+    ensures { λ r. ⌜ TestsFrom (widthOf kind) cache (now (graph .entry)) (now (store .entry)) cap from (held (now (names .entry)) (now (marks .entry)) (now (levels .entry)) (now (times .entry)) (now (line .entry))) n r ⌝ }
 {
     match along::go_along(
+        kind,
         names,
         marks,
         levels,
@@ -83,13 +87,14 @@ fn test_from(
             Checked::Refused(Refusal::PairNotFalling)
         }
         Gone::Unreadable => Checked::Refused(Refusal::UnreadableReach),
-        Gone::AtOdds(m) => at_odds(names, marks, line, cap, from, store, m),
+        Gone::AtOdds(m) => at_odds(kind, names, marks, line, cap, from, store, m),
         Gone::NoRoom => Checked::Refused(Refusal::BufferTooSmall),
     }
 }
 
 // All three, in memory that is free to be used; 1 to 8 were tested before, so there is room.
 pub fn test(
+    kind: Kind,
     store: &[u8],
     graph: &[u8],
     tips: &[u8],
@@ -100,15 +105,16 @@ pub fn test(
     times: &mut [i64],
     line: &mut [u32],
 ) -> Checked
-    ensures { λ r. ⌜ ((excluded : List ℕ) (s : Settings) (parents : ℕ) → Tests (inputOf (now (store .entry)) (now (graph .entry)) (now (tips .entry)) (now (hidden .entry)) excluded s) (lengthsOf (length (now (names .entry))) (length (now (marks .entry))) (length (now (levels .entry))) (length (now (times .entry))) (length (now (line .entry))) parents) r) ⌝ }
+    ensures { λ r. ⌜ ((excluded : List ℕ) (s : Settings) (parents : ℕ) → s .kind ≡ kind → Tests (inputOf (now (store .entry)) (now (graph .entry)) (now (tips .entry)) (now (hidden .entry)) excluded s) (lengthsOf (length (now (names .entry))) (length (now (marks .entry))) (length (now (levels .entry))) (length (now (times .entry))) (length (now (line .entry))) parents) r) ⌝ }
 {
-    let cap = opening::capacity(store, graph, tips, hidden);
+    let cap = opening::capacity(kind, store, graph, tips, hidden);
     let from = line_start(cap);
-    let cache = reading::cache_of(graph, commitgraph::parse(Kind::Sha1, graph), true);
+    let cache = reading::cache_of(graph, commitgraph::parse(kind, graph), true);
     table::clear(marks, cap);
     falling::clear_cells(line, from);
-    match along::begin(names, marks, line, cap, from, tips, hidden) {
+    match along::begin(kind, names, marks, line, cap, from, tips, hidden) {
         Grown::Count(n) => test_from(
+            kind,
             names,
             marks,
             levels,

@@ -8,10 +8,10 @@ use native.Mathlib.Omega.{arith}
 use lib.ListN.{length, getD}
 use lib.Dec.{ltb}
 use borrow.Author.Tests.{lt-ltb, le-ltb, ltb-true, ltb-false}
-use Rattle.hash.specs.Bytes.{Id, idBytes, among}
+use Rattle.hash.specs.Bytes.{Id, among}
 use Rattle.hash.proofs.Tests.{byCases}
 use Rattle.object.specs.Header.{header}
-use Rattle.object.specs.Ids.{idIn, padded}
+use Rattle.object.specs.Ids.{idIn, idRoom, padded}
 use Rattle.object.specs.Read.{readingOf}
 use Rattle.object.specs.declared.ObjectId.{ObjectId}
 use Rattle.odb.specs.Store.{storeOk, standingEntries}
@@ -41,73 +41,73 @@ use Rattle.trace.proofs.Checks.{passed-store}
 
 -- ---- the parent that forces
 
-module _ {s : List ℕ} {x y : Id} {b : List ℕ} {c : ℕ} (i : ℕ) (v : GivesBody idBytes s y b) (e : c ≡ parentsRead (readingOf (header idBytes b))) (q : y ≡ x) where
-  at-start : storeOk idBytes s ≡ true → ParentsIn s x b c
-  at-start ok = subst (λ (z : Id). ParentsIn s z b c) q (body-parents v e ok)
+module _ {width : ℕ} (small : width ≤ idRoom) {s : List ℕ} {x y : Id} {b : List ℕ} {c : ℕ} (i : ℕ) (v : GivesBody width s y b) (e : c ≡ parentsRead (readingOf (header width b))) (q : y ≡ x) where
+  at-start : storeOk width s ≡ true → ParentsIn width s x b c
+  at-start ok = subst (λ (z : Id). ParentsIn width s z b c) q (body-parents small v e ok)
 
-  pub no-parent : {r : Traced} → c ≤ i → r ≡ saying NotForced → ForcedBy s x i r
-  no-parent h z = record { right = λ ok. z ∙ sym (ap (λ (t : Bool). cond t (forcedBy i (getD (links (storeAlone s) x) i [])) (saying NotForced)) (le-ltb i _ (omega (arith, h, at-start ok .count)))) }
+  pub no-parent : {r : Traced} → c ≤ i → r ≡ saying NotForced → ForcedBy width s x i r
+  no-parent h z = record { right = λ ok. z ∙ sym (ap (λ (t : Bool). cond t (forcedBy i (getD (links (storeAlone width s) x) i [])) (saying NotForced)) (le-ltb i _ (omega (arith, h, at-start ok .count)))) }
 
-  pub a-parent : {z w : ObjectId} {k : Id} → i < c → z .bytes ≡ parentIdAt b i → k ≡ idIn idBytes (z .bytes) → w .bytes ≡ padded k → ForcedBy s x i (record { outcome = Forced i; parent = w })
+  pub a-parent : {z w : ObjectId} {k : Id} → i < c → z .bytes ≡ parentIdAt width b i → k ≡ idIn width (z .bytes) → w .bytes ≡ padded k → ForcedBy width s x i (record { outcome = Forced i; parent = w })
   a-parent {z} {w} {k} h f g l = record {
     right = λ ok.
         let p = at-start ok in
-        ap (λ (o : List ℕ). record { outcome = Forced i; parent = record { bytes = o } }) (l ∙ ap padded (g ∙ ap (idIn idBytes) f ∙ p .each i h))
-        ∙ sym (ap (λ (t : Bool). cond t (forcedBy i (getD (links (storeAlone s) x) i [])) (saying NotForced)) (lt-ltb i _ (omega (arith, h, p .count))));
+        ap (λ (o : List ℕ). record { outcome = Forced i; parent = record { bytes = o } }) (l ∙ ap padded (g ∙ ap (idIn width) f ∙ p .each i h))
+        ∙ sym (ap (λ (t : Bool). cond t (forcedBy i (getD (links (storeAlone width s) x) i [])) (saying NotForced)) (lt-ltb i _ (omega (arith, h, p .count))));
   }
 
 -- ---- the moves
 
-module _ (s : List ℕ) (list : List Id) (d : ℕ) (x : Id) where
-  pub play-start : {m : List ℕ} {r : Traced} {t : Bool} → t ≡ among x list → t ≡ true → r ≡ saying AtStart → Plays s list d x m r
+module _ (width : ℕ) (s : List ℕ) (list : List Id) (d : ℕ) (x : Id) where
+  pub play-start : {m : List ℕ} {r : Traced} {t : Bool} → t ≡ among x list → t ≡ true → r ≡ saying AtStart → Plays width s list d x m r
   unfolding traceFrom
   play-start e h z = record {
-    right = λ ok o. z ∙ sym (ap (λ (t : Bool). cond t (saying AtStart) (cond (coneForces d (storeAlone s) list x) (forcedBy (firstForcing (storeAlone s) list d x) (getD (links (storeAlone s) x) (firstForcing (storeAlone s) list d x) [])) (saying NotForced))) (sym e ∙ h));
+    right = λ ok o. z ∙ sym (ap (λ (t : Bool). cond t (saying AtStart) (cond (coneForces d (storeAlone width s) list x) (forcedBy (firstForcing (storeAlone width s) list d x) (getD (links (storeAlone width s) x) (firstForcing (storeAlone width s) list d x) [])) (saying NotForced))) (sym e ∙ h));
   }
 
   module _ {t : Bool} (e : t ≡ among x list) (h : t ≡ false) where
-    moved : traceFrom (storeAlone s) list d x ≡ cond (coneForces d (storeAlone s) list x) (forcedBy (firstForcing (storeAlone s) list d x) (getD (links (storeAlone s) x) (firstForcing (storeAlone s) list d x) [])) (saying NotForced)
+    moved : traceFrom (storeAlone width s) list d x ≡ cond (coneForces d (storeAlone width s) list x) (forcedBy (firstForcing (storeAlone width s) list d x) (getD (links (storeAlone width s) x) (firstForcing (storeAlone width s) list d x) [])) (saying NotForced)
     unfolding traceFrom
-    moved = ap (λ (t : Bool). cond t (saying AtStart) (cond (coneForces d (storeAlone s) list x) (forcedBy (firstForcing (storeAlone s) list d x) (getD (links (storeAlone s) x) (firstForcing (storeAlone s) list d x) [])) (saying NotForced))) (sym e ∙ h)
+    moved = ap (λ (t : Bool). cond t (saying AtStart) (cond (coneForces d (storeAlone width s) list x) (forcedBy (firstForcing (storeAlone width s) list d x) (getD (links (storeAlone width s) x) (firstForcing (storeAlone width s) list d x) [])) (saying NotForced))) (sym e ∙ h)
 
-    pub play-still : {m : List ℕ} {r : Traced} → d ≡ 0 → r ≡ saying NotForced → Plays s list d x m r
+    pub play-still : {m : List ℕ} {r : Traced} → d ≡ 0 → r ≡ saying NotForced → Plays width s list d x m r
     play-still k z = record {
-      right = λ ok o. z ∙ sym (moved ∙ ap (λ (t : Bool). cond t (forcedBy (firstForcing (storeAlone s) list d x) (getD (links (storeAlone s) x) (firstForcing (storeAlone s) list d x) [])) (saying NotForced))
-          (forced-still (storeAlone s) list false d x k ∙ sym e ∙ h));
+      right = λ ok o. z ∙ sym (moved ∙ ap (λ (t : Bool). cond t (forcedBy (firstForcing (storeAlone width s) list d x) (getD (links (storeAlone width s) x) (firstForcing (storeAlone width s) list d x) [])) (saying NotForced))
+          (forced-still (storeAlone width s) list false d x k ∙ sym e ∙ h));
     }
 
     -- the cone forces it exactly where the first forcing parent is a parent
-    some-parent : (d ≡ 0 → ⊥) → coneForces d (storeAlone s) list x ≡ ltb (firstForcing (storeAlone s) list d x) (length (links (storeAlone s) x))
+    some-parent : (d ≡ 0 → ⊥) → coneForces d (storeAlone width s) list x ≡ ltb (firstForcing (storeAlone width s) list d x) (length (links (storeAlone width s) x))
     some-parent k =
         let q : d ≡ suc (d - 1) = omega (arith, k) in
-        let f : Id → Bool = λ p. bedForced (d - 1) (storeAlone s) list p in
-        ap (λ (n : ℕ). coneForces n (storeAlone s) list x) q ∙ cone-turn (storeAlone s) list x (sym e ∙ h) (d - 1)
-        ∙ byCases (ltb (firstOf f (links (storeAlone s) x)) (length (links (storeAlone s) x)))
-        (λ u. any-first f (links (storeAlone s) x) (ltb-true _ _ u) ∙ sym u) (λ u. none-first f (links (storeAlone s) x) (ltb-false _ _ u) ∙ sym u)
+        let f : Id → Bool = λ p. bedForced (d - 1) (storeAlone width s) list p in
+        ap (λ (n : ℕ). coneForces n (storeAlone width s) list x) q ∙ cone-turn (storeAlone width s) list x (sym e ∙ h) (d - 1)
+        ∙ byCases (ltb (firstOf f (links (storeAlone width s) x)) (length (links (storeAlone width s) x)))
+        (λ u. any-first f (links (storeAlone width s) x) (ltb-true _ _ u) ∙ sym u) (λ u. none-first f (links (storeAlone width s) x) (ltb-false _ _ u) ∙ sym u)
 
-    pub play-moved : {m m′ : List ℕ} {i : ℕ} {r : Traced} → (d ≡ 0 → ⊥) → FindsFirst s list (d - 1) x m m′ i → ForcedBy s x i r → Plays s list d x m r
+    pub play-moved : {m m′ : List ℕ} {i : ℕ} {r : Traced} → (d ≡ 0 → ⊥) → FindsFirst width s list (d - 1) x m m′ i → ForcedBy width s x i r → Plays width s list d x m r
     play-moved {i = i} {r} k v w = record {
       right = λ ok o.
           let z = v .right ok o .0 in
-          let u : r ≡ cond (ltb (firstForcing (storeAlone s) list d x) (length (links (storeAlone s) x))) (forcedBy (firstForcing (storeAlone s) list d x) (getD (links (storeAlone s) x) (firstForcing (storeAlone s) list d x) [])) (saying NotForced) =
-          w .right ok ∙ ap (λ (j : ℕ). cond (ltb j (length (links (storeAlone s) x))) (forcedBy j (getD (links (storeAlone s) x) j [])) (saying NotForced)) z in
-          u ∙ sym (moved ∙ ap (λ (t : Bool). cond t (forcedBy (firstForcing (storeAlone s) list d x) (getD (links (storeAlone s) x) (firstForcing (storeAlone s) list d x) [])) (saying NotForced)) (some-parent k));
+          let u : r ≡ cond (ltb (firstForcing (storeAlone width s) list d x) (length (links (storeAlone width s) x))) (forcedBy (firstForcing (storeAlone width s) list d x) (getD (links (storeAlone width s) x) (firstForcing (storeAlone width s) list d x) [])) (saying NotForced) =
+          w .right ok ∙ ap (λ (j : ℕ). cond (ltb j (length (links (storeAlone width s) x))) (forcedBy j (getD (links (storeAlone width s) x) j [])) (saying NotForced)) z in
+          u ∙ sym (moved ∙ ap (λ (t : Bool). cond t (forcedBy (firstForcing (storeAlone width s) list d x) (getD (links (storeAlone width s) x) (firstForcing (storeAlone width s) list d x) [])) (saying NotForced)) (some-parent k));
     }
 
 -- ---- 13 and the answer
 
-module _ {s : List ℕ} {d : ℕ} {x : Id} {m m′ : List ℕ} {t : Bool} (z : AllZero m) (v : Reads s d x m m′ t) where
-  read-so : storeOk idBytes s ≡ true → t ≡ readableWithin d (storeAlone s) x
-  read-so ok = v .right ok (zero-holds (allRead s) (standingEntries idBytes s) z) .0
+module _ {width : ℕ} {s : List ℕ} {d : ℕ} {x : Id} {m m′ : List ℕ} {t : Bool} (z : AllZero m) (v : Reads width s d x m m′ t) where
+  read-so : storeOk width s ≡ true → t ≡ readableWithin d (storeAlone width s) x
+  read-so ok = v .right ok (zero-holds (allRead width s) (standingEntries width s) z) .0
 
-  pub answer-unreadable : {r : Traced} (list : List Id) → t ≡ false → r ≡ saying (Refused UnreadableReach) → Answers s list d x r
+  pub answer-unreadable : {r : Traced} (list : List Id) → t ≡ false → r ≡ saying (Refused UnreadableReach) → Answers width s list d x r
   unfolding traceWithin
-  answer-unreadable list h e = record { right = λ ok. e ∙ sym (ap (λ (b : Bool). cond b (traceFrom (storeAlone s) list d x) (saying (Refused UnreadableReach))) (sym (read-so ok) ∙ h)) }
+  answer-unreadable list h e = record { right = λ ok. e ∙ sym (ap (λ (b : Bool). cond b (traceFrom (storeAlone width s) list d x) (saying (Refused UnreadableReach))) (sym (read-so ok) ∙ h)) }
 
-  pub answer-played : {n : List ℕ} {r : Traced} (list : List Id) → t ≡ true → AllZero n → Plays s list d x n r → Answers s list d x r
+  pub answer-played : {n : List ℕ} {r : Traced} (list : List Id) → t ≡ true → AllZero n → Plays width s list d x n r → Answers width s list d x r
   unfolding traceWithin
   answer-played list h y p = record {
-    right = λ ok. p .right ok (zero-holds (played s list) (standingEntries idBytes s) y) ∙ sym (ap (λ (b : Bool). cond b (traceFrom (storeAlone s) list d x) (saying (Refused UnreadableReach))) (sym (read-so ok) ∙ h));
+    right = λ ok. p .right ok (zero-holds (played width s list) (standingEntries width s) y) ∙ sym (ap (λ (b : Bool). cond b (traceFrom (storeAlone width s) list d x) (saying (Refused UnreadableReach))) (sym (read-so ok) ∙ h));
   }
 
 -- ---- the call
@@ -123,19 +123,19 @@ refused-some : (o : Option Refusal) (n : Refusal) → checkedOf o ≡ NotFine n 
 refused-some none n e = fine-refused e
 refused-some (some k) n e = let z : k ≡ n = cc in ap some z
 
-module _ (store list : List ℕ) (d : ℕ) (x : Id) (m : List ℕ) {q : Checked} (f : q ≡ checkedOf (earlyRefusal store list d)) where
-  pub call-refused : {r : Traced} (n : Refusal) → q ≡ NotFine n → r ≡ saying (Refused n) → TraceSays store list d x m m r
+module _ (width : ℕ) (store list : List ℕ) (d : ℕ) (x : Id) (m : List ℕ) {q : Checked} (f : q ≡ checkedOf (earlyRefusal width store list d)) where
+  pub call-refused : {r : Traced} (n : Refusal) → q ≡ NotFine n → r ≡ saying (Refused n) → TraceSays width store list d x m m r
   unfolding traceOf
   call-refused n e z = record {
-    answer = z ∙ sym (ap (λ (o : Option Refusal). orRefused o (traceWithin (storeAlone store) (listIds list) d x)) (refused-some (earlyRefusal store list d) n (sym f ∙ e)));
+    answer = z ∙ sym (ap (λ (o : Option Refusal). orRefused o (traceWithin (storeAlone width store) (listIds width list) d x)) (refused-some (earlyRefusal width store list d) n (sym f ∙ e)));
     early = λ k h. refl;
   }
 
-  pub call-answers : {m′ : List ℕ} {r : Traced} → q ≡ Fine → Answers store (listIds list) d x r → TraceSays store list d x m m′ r
+  pub call-answers : {m′ : List ℕ} {r : Traced} → q ≡ Fine → Answers width store (listIds width list) d x r → TraceSays width store list d x m m′ r
   unfolding traceOf
   call-answers e v =
-      let o : earlyRefusal store list d ≡ none = fine-none (earlyRefusal store list d) (sym f ∙ e) in
+      let o : earlyRefusal width store list d ≡ none = fine-none (earlyRefusal width store list d) (sym f ∙ e) in
       record {
-        answer = v .right (passed-store store list d o) ∙ sym (ap (λ (p : Option Refusal). orRefused p (traceWithin (storeAlone store) (listIds list) d x)) o);
+        answer = v .right (passed-store width store list d o) ∙ sym (ap (λ (p : Option Refusal). orRefused p (traceWithin (storeAlone width store) (listIds width list) d x)) o);
         early = λ k h. fine-refused (ap checkedOf (sym o ∙ h));
       }

@@ -51,14 +51,14 @@ or-way : (o : Option Refusal) (r : Traced) → getsWay (orRefused o r .outcome) 
 or-way none r e = e
 or-way (some n) r e = clash e refl
 
-pub more-traces : (store list : List ℕ) (d : ℕ) (x : Id) → earlyRefusal store list (suc d) ≡ none → readableWithin (suc d) (storeAlone store) x ≡ true
-    → getsWay (traceOf store list d x .outcome) ≡ true → getsWay (traceOf store list (suc d) x .outcome) ≡ true
+pub more-traces : (width : ℕ) (store list : List ℕ) (d : ℕ) (x : Id) → earlyRefusal width store list (suc d) ≡ none → readableWithin (suc d) (storeAlone width store) x ≡ true
+    → getsWay (traceOf width store list d x .outcome) ≡ true → getsWay (traceOf width store list (suc d) x .outcome) ≡ true
 unfolding traceOf traceWithin
-more-traces store list d x o h e =
-    let w = storeAlone store in
-    let l = listIds list in
+more-traces width store list d x o h e =
+    let w = storeAlone width store in
+    let l = listIds width list in
     let g : getsWay (traceFrom w l d x .outcome) ≡ true =
-    within-way (readableWithin d w x) (traceFrom w l d x) (or-way (earlyRefusal store list d) (cond (readableWithin d w x) (traceFrom w l d x) (saying (Refused UnreadableReach))) e) in
+    within-way (readableWithin d w x) (traceFrom w l d x) (or-way (earlyRefusal width store list d) (cond (readableWithin d w x) (traceFrom w l d x) (saying (Refused UnreadableReach))) e) in
     let m : coneForces (suc d) w l x ≡ true = more-moves w l d false x (sym (way-is w l d x) ∙ g) in
     ap (λ (q : Option Refusal). getsWay (orRefused q (cond (readableWithin (suc d) w x) (traceFrom w l (suc d) x) (saying (Refused UnreadableReach))) .outcome)) o
     ∙ ap (λ (b : Bool). getsWay (cond b (traceFrom w l (suc d) x) (saying (Refused UnreadableReach)) .outcome)) h

@@ -8,7 +8,7 @@ use mathlib.Core.Option.{Option, none, some}
 use mathlib.Core.List.{List, []}
 use lib.ListN.{length, getD}
 use lib.Dec.{eqb, leb}
-use Rattle.hash.specs.Bytes.{Id, idBytes, among}
+use Rattle.hash.specs.Bytes.{Id, among}
 use Rattle.object.specs.Ids.{padded}
 use Rattle.odb.specs.Store.{storeOk}
 use Rattle.reading.specs.Body.{noBytes}
@@ -29,11 +29,11 @@ abbrev pub mostMoves : ℕ
 mostMoves = 12
 
 -- 25, then 2 to 4: the first that applies
-unfoldable pub earlyRefusal : List ℕ → List ℕ → ℕ → Option Refusal
-earlyRefusal store list d =
-    let four : Option Refusal = cond (storeOk idBytes store) none (some CorruptStore) in
-    let three : Option Refusal = cond (eqb (length list % idBytes) 0) four (some PartialId) in
-    let two : Option Refusal = cond (leb (length store) 16777216 && leb (length list) listLimit) three (some InputTooLarge) in
+unfoldable pub earlyRefusal : ℕ → List ℕ → List ℕ → ℕ → Option Refusal
+earlyRefusal width store list d =
+    let four : Option Refusal = cond (storeOk width store) none (some CorruptStore) in
+    let three : Option Refusal = cond (eqb (length list % width) 0) four (some PartialId) in
+    let two : Option Refusal = cond (leb (length store) 16777216 && leb (length list) (listLimit width)) three (some InputTooLarge) in
     cond (leb d mostMoves) two (some TooManyMoves)
 
 -- ---- the answers
@@ -64,10 +64,10 @@ orRefused none r = r
 orRefused (some n) r = saying (Refused n)
 
 -- the whole answer
-unfoldable pub traceOf : List ℕ → List ℕ → ℕ → Id → Traced
-traceOf store list d x = orRefused (earlyRefusal store list d) (traceWithin (storeAlone store) (listIds list) d x)
+unfoldable pub traceOf : ℕ → List ℕ → List ℕ → ℕ → Id → Traced
+traceOf width store list d x = orRefused (earlyRefusal width store list d) (traceWithin (storeAlone width store) (listIds width list) d x)
 
 -- what the call answers, whatever the memo m; 25 and 2 to 4 alter nothing
-pub record TraceSays (store list : List ℕ) (d : ℕ) (x : Id) (m m′ : List ℕ) (r : Traced) : Type 0 where
-  pub answer : r ≡ traceOf store list d x
-  pub early : (n : Refusal) → earlyRefusal store list d ≡ some n → m′ ≡ m
+pub record TraceSays (width : ℕ) (store list : List ℕ) (d : ℕ) (x : Id) (m m′ : List ℕ) (r : Traced) : Type 0 where
+  pub answer : r ≡ traceOf width store list d x
+  pub early : (n : Refusal) → earlyRefusal width store list d ≡ some n → m′ ≡ m

@@ -5,7 +5,7 @@ use mathlib.Core.Bool.{cond, true}
 use mathlib.Core.List.{List, []}
 use lib.ListN.{length, getD}
 use lib.Dec.{ltb}
-use Rattle.hash.specs.Bytes.{Id, idBytes}
+use Rattle.hash.specs.Bytes.{Id}
 use Rattle.odb.specs.Store.{storeOk}
 use Rattle.walk.specs.Reach.{links}
 use Rattle.memo.specs.AtHand.{storeAlone}
@@ -15,13 +15,13 @@ use Rattle.trace.specs.declared.Traced.{Traced}
 use Rattle.trace.specs.Call.{saying, forcedBy, traceFrom, traceWithin}
 
 -- the answer where parent i is the first that forces, or there is none of that number
-pub record ForcedBy (s : List ℕ) (x : Id) (i : ℕ) (r : Traced) : Type 0 where
-  pub right : storeOk idBytes s ≡ true → r ≡ cond (ltb i (length (links (storeAlone s) x))) (forcedBy i (getD (links (storeAlone s) x) i [])) (saying NotForced)
+pub record ForcedBy (width : ℕ) (s : List ℕ) (x : Id) (i : ℕ) (r : Traced) : Type 0 where
+  pub right : storeOk width s ≡ true → r ≡ cond (ltb i (length (links (storeAlone width s) x))) (forcedBy i (getD (links (storeAlone width s) x) i [])) (saying NotForced)
 
 -- the answer of the moves
-pub record Plays (s : List ℕ) (list : List Id) (d : ℕ) (x : Id) (m : List ℕ) (r : Traced) : Type 0 where
-  pub right : storeOk idBytes s ≡ true → Remembers s list m → r ≡ traceFrom (storeAlone s) list d x
+pub record Plays (width : ℕ) (s : List ℕ) (list : List Id) (d : ℕ) (x : Id) (m : List ℕ) (r : Traced) : Type 0 where
+  pub right : storeOk width s ≡ true → Remembers width s list m → r ≡ traceFrom (storeAlone width s) list d x
 
 -- the answer after 2 to 4
-pub record Answers (s : List ℕ) (list : List Id) (d : ℕ) (x : Id) (r : Traced) : Type 0 where
-  pub right : storeOk idBytes s ≡ true → r ≡ traceWithin (storeAlone s) list d x
+pub record Answers (width : ℕ) (s : List ℕ) (list : List Id) (d : ℕ) (x : Id) (r : Traced) : Type 0 where
+  pub right : storeOk width s ≡ true → r ≡ traceWithin (storeAlone width s) list d x

@@ -1,6 +1,7 @@
 // Traces by turns, for each case of standard input, and prints what is said: `not forced`, `at the start`, the number and the id of the first forcing parent,
-// or the refusal's number. A case is a start of 20 bytes, the moves, the length of the memo to lend and that of the list (big-endian u32s), the list
-// and the commit store, and before it stands its own length, at most 65,536. tools/make_traces.py makes them.
+// or the refusal's number. A case is the kind of ids (1 SHA-1, 2 SHA-256), a start, the moves, the length of the memo to lend and that of the list
+// (big-endian u32s), the list and the commit store, and before it stands its own length, at most 65,536. tools/make_traces.py makes them.
+use hash::Kind;
 use libc::STDOUT_FILENO;
 use trace::Prospect;
 use trace::Traced;
@@ -11,11 +12,19 @@ fn text(s: &[u8]) {
     io::write_all(STDOUT_FILENO, s);
 }
 
-// An id in 40 hexadecimal digits.
-fn id(s: &[u8]) {
+// An id in hexadecimal digits, two for each byte of its width.
+fn id(kind: Kind, s: &[u8]) {
     io::print_hex(STDOUT_FILENO, hash::be64(s, 0), 16);
     io::print_hex(STDOUT_FILENO, hash::be64(s, 8), 16);
-    io::print_hex(STDOUT_FILENO, hash::be32(s, 16) as u64, 8);
+    match kind {
+        Kind::Sha1 => {
+            io::print_hex(STDOUT_FILENO, hash::be32(s, 16) as u64, 8);
+        }
+        Kind::Sha256 => {
+            io::print_hex(STDOUT_FILENO, hash::be64(s, 16), 16);
+            io::print_hex(STDOUT_FILENO, hash::be64(s, 24), 16);
+        }
+    }
 }
 
 // A refusal by its number.
@@ -25,7 +34,7 @@ fn refusal(r: Refusal) {
 }
 
 // An answer on a line.
-fn print_traced(r: Traced) {
+fn print_traced(kind: Kind, r: Traced) {
     let o = r.outcome;
     let p = r.parent;
     match o {
@@ -34,7 +43,7 @@ fn print_traced(r: Traced) {
         Prospect::Forced(i) => {
             io::print_decimal(STDOUT_FILENO, i as u64);
             text(b" ");
-            id(&p.bytes);
+            id(kind, &p.bytes);
         }
         Prospect::Refused(n) => refusal(n),
     }
@@ -53,24 +62,37 @@ fn lent(n: u32, most: usize) -> usize
     if most < n { most } else { n }
 }
 
+fn kind_of(b: u8) -> Kind {
+    if b == 2 { Kind::Sha256 } else { Kind::Sha1 }
+}
+
 // Lends the memo, as long as the case says, to the call.
-fn lend(input: &[u8], memo: &mut [u8]) {
-    let a = lent(hash::be32(input, 24), memo.len());
-    let n = wide(hash::be32(input, 28));
-    let rest = hash::part(input, 32, input.len());
-    print_traced(trace::trace(
+fn lend(kind: Kind, start: &[u8], input: &[u8], memo: &mut [u8]) {
+    let a = lent(hash::be32(input, 4), memo.len());
+    let n = wide(hash::be32(input, 8));
+    let rest = hash::part(input, 12, input.len());
+    let traced = trace::trace(
+        kind,
         hash::part(rest, n, rest.len()),
-        object::id_of(hash::part(input, 0, 20)),
+        object::id_of(start),
         hash::part(rest, 0, n),
-        wide(hash::be32(input, 20)),
+        wide(hash::be32(input, 0)),
         &mut memo[..a],
-    ));
+    );
+    print_traced(kind, traced);
 }
 
 // A case, with a memo for 256 entries that nobody has cleared.
 fn run_case(input: &[u8]) {
     let mut memo = [2u8; 6656];
-    lend(input, &mut memo);
+    let kind = kind_of(hash::byte_at(input, 0));
+    let rest = hash::part(input, 1, input.len());
+    lend(
+        kind,
+        hash::nth(kind, rest, 0),
+        hash::part(rest, hash::width(kind), rest.len()),
+        &mut memo,
+    );
 }
 
 // How many bytes the next case has, 0 where the input ends.

@@ -2,43 +2,44 @@
 use mathlib.Core.Path.{_≡_, refl, _∙_, ap, subst}
 use Prim.Native.Nat.{ℕ, _≤_}
 use mathlib.Core.Bool.{Bool, true, false, _&&_}
-use mathlib.Core.List.{List, _++_}
-use native.Mathlib.Omega.{arith}
-use lib.ListN.{length, take, replicate}
-use lib.Seq.{take-take, take-append-le}
+use mathlib.Core.List.{List}
+use lib.ListN.{length}
 use lib.Dec.{leb}
 use borrow.Author.Tests.{leb-true}
-use Rattle.hash.specs.Bytes.{Id, idBytes}
+use Rattle.hash.specs.Bytes.{Id, widthOf}
+use Rattle.hash.specs.declared.Kind.{Kind}
 use Rattle.hash.proofs.Tests.{clash, and-first}
-use Rattle.object.specs.Ids.{idRoom, idIn, padded}
+use Rattle.hash.proofs.Widths.{width-most}
+use Rattle.object.specs.Ids.{idIn, padded}
 use Rattle.trace.specs.declared.Traced.{Traced}
 use Rattle.trace.specs.Call.{TraceSays}
+use Rattle.wire.proofs.FirstBytes.{first-bytes}
 use Rattle.tracewire.specs.Wire.{noRoom, roomToTrace, PutsTraced, LibraryTrace}
 
--- the id in a value is the first bytes that it was made of
-first-bytes : (x : List ℕ) → idBytes ≤ length x → idIn idBytes (padded x) ≡ take idBytes x
-unfolding idIn padded
-first-bytes x h = take-take idBytes idRoom (x ++ replicate idRoom 0) (omega arith) ∙ take-append-le idBytes x (replicate idRoom 0) h
-
-long-start : (start id numbers : List ℕ) → roomToTrace start id numbers ≡ true → idBytes ≤ length start
+long-start : (w : ℕ) (start id numbers : List ℕ) → roomToTrace w start id numbers ≡ true → w ≤ length start
 unfolding roomToTrace
-long-start start id numbers h =
-    leb-true idBytes (length start)
-    (and-first (leb idBytes (length start)) (leb idBytes (length id)) (and-first (leb idBytes (length start) && leb idBytes (length id)) (leb 2 (length numbers)) h))
+long-start w start id numbers h =
+    leb-true w (length start)
+    (and-first (leb w (length start)) (leb w (length id)) (and-first (leb w (length start) && leb w (length id)) (leb 2 (length numbers)) h))
 
-pub no-room-says : (store start list : List ℕ) (d : ℕ) (m id numbers : List ℕ) {b : Bool} → b ≡ roomToTrace start id numbers → b ≡ false → LibraryTrace store start list d m m id id numbers numbers noRoom
-no-room-says store start list d m id numbers r h = record { no-room = λ g. (refl, refl, refl, refl); made = λ g. clash (r ∙ g) h }
+pub no-room-says : (kind : Kind) (store start list : List ℕ) (d : ℕ) (m id numbers : List ℕ) {k : Kind} {b : Bool} → k ≡ kind → b ≡ roomToTrace (widthOf k) start id numbers → b ≡ false
+    → LibraryTrace (widthOf kind) store start list d m m id id numbers numbers noRoom
+no-room-says kind store start list d m id numbers e r h = subst (λ (x : Kind). LibraryTrace (widthOf x) store start list d m m id id numbers numbers noRoom) e
+    (record { no-room = λ g. (refl, refl, refl, refl); made = λ g. clash (r ∙ g) h })
 
--- the call was lent the value a that the start was made into, and the moves e
-pub made-says : {store start list a : List ℕ} {d e : ℕ} {m m′ id id′ numbers numbers′ : List ℕ} {n : ℕ} {o : Traced} {t : Bool} → t ≡ roomToTrace start id numbers → t ≡ true → a ≡ padded start → e ≡ d
-    → TraceSays store list e (idIn idBytes a) m m′ o → PutsTraced o id id′ numbers numbers′ n → LibraryTrace store start list d m m′ id id′ numbers numbers′ n
-made-says {store} {start} {list} {a} {d} {e} {m} {m′} {id} {id′} {numbers} {numbers′} {n} {o} r t ea ed s p = record {
-  no-room = λ g. clash t (r ∙ g);
-  made = λ g. record {
-    out = o;
-    says =
-        subst (λ (y : Id). TraceSays store list d y m m′ o) (ap (idIn idBytes) ea ∙ first-bytes start (long-start start id numbers g))
-        (subst (λ (k : ℕ). TraceSays store list k (idIn idBytes a) m m′ o) ed s);
-    puts = p;
-  };
-}
+-- the call was made with the kind k, which is that of the width, and lent the value a that the start was made into, and the moves i
+pub made-says : {k kind : Kind} {store start list a : List ℕ} {d i : ℕ} {m m′ id id′ numbers numbers′ : List ℕ} {n : ℕ} {o : Traced} {t : Bool} → k ≡ kind → t ≡ roomToTrace (widthOf k) start id numbers → t ≡ true → a ≡ padded start → i ≡ d
+    → TraceSays (widthOf k) store list i (idIn (widthOf k) a) m m′ o → PutsTraced (widthOf k) o id id′ numbers numbers′ n → LibraryTrace (widthOf kind) store start list d m m′ id id′ numbers numbers′ n
+made-says {k} {kind} {store} {start} {list} {a} {d} {i} {m} {m′} {id} {id′} {numbers} {numbers′} {n} {o} e r t ea ed s p =
+    let w = widthOf k in
+    subst (λ (x : Kind). LibraryTrace (widthOf x) store start list d m m′ id id′ numbers numbers′ n) e
+    (record {
+      no-room = λ g. clash t (r ∙ g);
+      made = λ g. record {
+        out = o;
+        says =
+            subst (λ (y : Id). TraceSays w store list d y m m′ o) (ap (idIn w) ea ∙ first-bytes w (width-most k) start (long-start w start id numbers g))
+            (subst (λ (j : ℕ). TraceSays w store list j (idIn w a) m m′ o) ed s);
+        puts = p;
+      };
+    })

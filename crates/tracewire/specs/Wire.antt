@@ -5,7 +5,7 @@ use mathlib.Core.Bool.{Bool, true, false, _&&_}
 use mathlib.Core.List.{List, [], _∷_}
 use lib.ListN.{length, take}
 use lib.Dec.{leb}
-use Rattle.hash.specs.Bytes.{idBytes, setDown}
+use Rattle.hash.specs.Bytes.{setDown}
 use Rattle.object.specs.Ids.{idIn}
 use Rattle.walk.specs.Refusals.{numberOf}
 use Rattle.trace.specs.declared.Prospect.{Prospect}
@@ -18,9 +18,9 @@ use Rattle.trace.specs.Call.{TraceSays}
 abbrev pub noRoom : ℕ
 noRoom = 101
 
--- a whole start, and room for an id and two numbers
-unfoldable pub roomToTrace : List ℕ → List ℕ → List ℕ → Bool
-roomToTrace start id numbers = leb idBytes (length start) && leb idBytes (length id) && leb 2 (length numbers)
+-- a whole start of this width, and room for an id and two numbers
+unfoldable pub roomToTrace : ℕ → List ℕ → List ℕ → List ℕ → Bool
+roomToTrace w start id numbers = leb w (length start) && leb w (length id) && leb 2 (length numbers)
 
 -- an answer is 0, a refusal has its number
 abbrev pub prospectNumber : Prospect → ℕ
@@ -44,18 +44,18 @@ parentNumber (Forced i) = i
 parentNumber (Refused r) = 0
 
 -- an answer set down: its number, the parent's id (zeros where there is none), what kind it is and the parent's number
-pub record PutsTraced (r : Traced) (id id′ numbers numbers′ : List ℕ) (n : ℕ) : Type 0 where
+pub record PutsTraced (w : ℕ) (r : Traced) (id id′ numbers numbers′ : List ℕ) (n : ℕ) : Type 0 where
   pub result : n ≡ prospectNumber (r .outcome)
-  pub id-is : id′ ≡ setDown id 0 (idIn idBytes (r .parent .bytes))
+  pub id-is : id′ ≡ setDown id 0 (idIn w (r .parent .bytes))
   pub numbers-are : numbers′ ≡ setDown numbers 0 (prospectKind (r .outcome) ∷ parentNumber (r .outcome) ∷ [])
 
 -- a call that was made: what it says, set down
-pub record Tracing (store start list : List ℕ) (d : ℕ) (m m′ id id′ numbers numbers′ : List ℕ) (n : ℕ) : Type 0 where
+pub record Tracing (w : ℕ) (store start list : List ℕ) (d : ℕ) (m m′ id id′ numbers numbers′ : List ℕ) (n : ℕ) : Type 0 where
   pub out : Traced
-  pub says : TraceSays store list d (take idBytes start) m m′ out
-  pub puts : PutsTraced out id id′ numbers numbers′ n
+  pub says : TraceSays w store list d (take w start) m m′ out
+  pub puts : PutsTraced w out id id′ numbers numbers′ n
 
--- linenhatch_trace, with its result n. Without room that is said before all else, and nothing is altered
-pub record LibraryTrace (store start list : List ℕ) (d : ℕ) (m m′ id id′ numbers numbers′ : List ℕ) (n : ℕ) : Type 0 where
-  pub no-room : roomToTrace start id numbers ≡ false → (n ≡ noRoom) × (m′ ≡ m) × (id′ ≡ id) × (numbers′ ≡ numbers)
-  pub made : roomToTrace start id numbers ≡ true → Tracing store start list d m m′ id id′ numbers numbers′ n
+-- linenhatch_trace over ids of the width w, with its result n. Without room that is said before all else, and nothing is altered
+pub record LibraryTrace (w : ℕ) (store start list : List ℕ) (d : ℕ) (m m′ id id′ numbers numbers′ : List ℕ) (n : ℕ) : Type 0 where
+  pub no-room : roomToTrace w start id numbers ≡ false → (n ≡ noRoom) × (m′ ≡ m) × (id′ ≡ id) × (numbers′ ≡ numbers)
+  pub made : roomToTrace w start id numbers ≡ true → Tracing w store start list d m m′ id id′ numbers numbers′ n

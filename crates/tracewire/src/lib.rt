@@ -1,19 +1,21 @@
-// Tracing by turns, for callers in other languages: the start as bytes, and the answer as an id and two numbers in lent slices. Every function is total on
-// any bytes, numbers and lengths.
+// Tracing by turns, for callers in other languages: the width of ids as a number, the start as bytes, and the answer as an id and two numbers in lent
+// slices. Every function is total on any bytes, numbers and lengths.
 use hash::Kind;
 use trace::Prospect;
 use trace::Traced;
 ghost use mathlib.Core.Path.{_≡_};
+ghost use Rattle.hash.specs.Bytes.{widthOf};
+ghost use Rattle.wire.specs.Words.{kindOf};
 ghost use Rattle.tracewire.specs.Wire.{prospectNumber, prospectKind, parentNumber, roomToTrace, PutsTraced, LibraryTrace};
 
 // The library's result where the start or what an answer is set down in is too short: none of document 01's numbers.
 const NO_ROOM: u32 = 101;
 
 // Whether the start is whole, and there is room for an id and two numbers.
-fn can_trace(start: &[u8], id: &[u8], numbers: &[u64]) -> bool
-    ensures { λ r. ⌜ r ≡ roomToTrace (now (start .entry)) (now (id .entry)) (now (numbers .entry)) ⌝ }
+fn can_trace(kind: Kind, start: &[u8], id: &[u8], numbers: &[u64]) -> bool
+    ensures { λ r. ⌜ r ≡ roomToTrace (widthOf kind) (now (start .entry)) (now (id .entry)) (now (numbers .entry)) ⌝ }
 {
-    let w = hash::width(Kind::Sha1);
+    let w = hash::width(kind);
     if start.len() < w {
         return false;
     }
@@ -66,14 +68,14 @@ fn parent_of(o: Prospect) -> u64
 }
 
 // An answer set down, and its number.
-fn put_traced(r: Traced, id: &mut [u8], numbers: &mut [u64]) -> u32
-    ensures { λ n. ⌜ PutsTraced r (now (id .entry)) (now (id .exit)) (now (numbers .entry)) (now (numbers .exit)) n ⌝ }
+fn put_traced(kind: Kind, r: Traced, id: &mut [u8], numbers: &mut [u64]) -> u32
+    ensures { λ n. ⌜ PutsTraced (widthOf kind) r (now (id .entry)) (now (id .exit)) (now (numbers .entry)) (now (numbers .exit)) n ⌝ }
 {
     let o = r.outcome;
     let w = [sort_of(o), parent_of(o)];
     wire::put(numbers, &w);
     let x = r.parent;
-    hash::set_down(id, 0, object::id_slice(Kind::Sha1, &x.bytes));
+    hash::set_down(id, 0, object::id_slice(kind, &x.bytes));
     number(o)
 }
 
@@ -86,6 +88,7 @@ fn moves_of(d: u32) -> usize
 
 // The call, its answer set down; without room for it, or with a start that is no whole id, nothing is altered and the result is 101.
 pub fn trace(
+    width: u32,
     store: &[u8],
     start: &[u8],
     list: &[u8],
@@ -94,11 +97,12 @@ pub fn trace(
     id: &mut [u8],
     numbers: &mut [u64],
 ) -> u32
-    ensures { λ n. ⌜ LibraryTrace (now (store .entry)) (now (start .entry)) (now (list .entry)) d (now (memo .entry)) (now (memo .exit)) (now (id .entry)) (now (id .exit)) (now (numbers .entry)) (now (numbers .exit)) n ⌝ }
+    ensures { λ n. ⌜ LibraryTrace (widthOf (kindOf width)) (now (store .entry)) (now (start .entry)) (now (list .entry)) d (now (memo .entry)) (now (memo .exit)) (now (id .entry)) (now (id .exit)) (now (numbers .entry)) (now (numbers .exit)) n ⌝ }
 {
-    if !can_trace(start, id, numbers) {
+    let kind = wire::kind_of(width);
+    if !can_trace(kind, start, id, numbers) {
         return NO_ROOM;
     }
-    let r = trace::trace(store, object::id_of(start), list, moves_of(d), memo);
-    put_traced(r, id, numbers)
+    let r = trace::trace(kind, store, object::id_of(start), list, moves_of(d), memo);
+    put_traced(kind, r, id, numbers)
 }

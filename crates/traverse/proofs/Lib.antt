@@ -1,4 +1,5 @@
 pub mod Numbered
+pub mod Wide
 pub mod Calls
 pub mod ThirdDemand
 pub mod OpenTips

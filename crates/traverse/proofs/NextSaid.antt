@@ -1,11 +1,13 @@
 -- What a next call comes to: a closed record gives 12; a painted one takes the next commit of the state that the memory reads as; the first call takes it
 -- from the state that painting leaves, or gives painting's refusal. So each answer is the walk's, and on any bytes one of document 01's. Assumes nothing.
 use mathlib.Core.Path.{_≡_, refl, sym, _∙_, ap, subst}
-use Prim.Native.Nat.{ℕ}
+use Prim.Native.Nat.{ℕ, _<_}
 use mathlib.Core.Bool.{Bool, true, false}
 use mathlib.Core.List.{List, []}
 use native.Mathlib.Omega.{arith}
 use lib.ListN.{length}
+use Rattle.hash.specs.declared.Kind as Ids
+use Rattle.hash.proofs.Widths.{width-least}
 use Rattle.hash.proofs.Tests.{clash}
 use Rattle.walk.specs.declared.Refusal.{Refusal}
 use Rattle.walk.specs.declared.Outcome.the-variants.{End, Refused}
@@ -36,12 +38,17 @@ use Rattle.traverse.specs.Contract.{Files, inputWith, Lent, lengthsOf, O
 use Rattle.traverse.specs.Next.{Whole, GivesBack, shutWith, Goes}
 use Rattle.traverse.proofs.Standing.{goes-by, world-is, in-rows, in-store, Stands, stands, good-store, good-graph, room-parents, room-levels, few-admitted, rests, stands-whole, says-step, next-painted, next-first, first-state, whole-room}
 use Rattle.traverse.proofs.Paper.{of-paper, of-paper-refused, plain-end, of-paper-shut, not-shut, call-not-shut}
+use Rattle.hash.specs.Bytes.{widthOf}
+
+-- an id has bytes
+some-bytes : (kind : Ids.Kind) → 0 < widthOf kind
+some-bytes kind = omega (arith, width-least kind)
 
 -- ---- a painted record
 
 module _ {f : Files} {r : Record} {m : Lent} {t : Taken} {o : Out} (m′ : Lent)
     (n : TakesNext (f .excluded) (f .settings) (f .graph) (f .store) r (m .memory) (m′ .memory) (m .parents) (m′ .parents) t)
-    (p : Plain (m .parents) (m′ .parents) (t .answer)) (l : length (m′ .parents) ≡ length (m .parents)) (b : GivesBack t o) where
+    (p : Plain (widthOf (f .settings .kind)) (m .parents) (m′ .parents) (t .answer)) (l : length (m′ .parents) ≡ length (m .parents)) (b : GivesBack t o) where
   pub taken-goes : Goes true f r m o m′
   taken-goes = record {
     opened-call = λ h tips k st e g.
@@ -51,7 +58,7 @@ module _ {f : Files} {r : Record} {m : Lent} {t : Taken} {o : Out} (m′ : Lent)
         says-step s (takeNext (walkOf i) (stateAfter i k)) (next-painted (walkOf i) (stateAfter i k) (s .reads .painted ∙ h)) o m′ (b .answer ∙ q .answer) (q .down)
         (subst (λ (y : Record). Reads y (m′ .memory) (shapeOf i) (takeNext (walkOf i) (stateAfter i k) .state)) (sym (b .after)) (q .reads));
     not-twelve = λ e. not-shut p (ap (λ (a : Given). a .outcome) (sym (b .answer)) ∙ e);
-    of-paper = λ h. subst (λ (a : Given). OfPaper a (m .parents) (m′ .parents)) (sym (b .answer)) (of-paper p l h);
+    of-paper = λ h. subst (λ (a : Given). OfPaper (widthOf (f .settings .kind)) a (m .parents) (m′ .parents)) (sym (b .answer)) (of-paper (widthOf (f .settings .kind)) (some-bytes (f .settings .kind)) p l h);
   }
 
 -- ---- the first call
@@ -106,7 +113,7 @@ module _ {f : Files} {r : Record} {m : Lent} {p : painted.Painted} {m₁ : Memor
   -- painting is over, and the next commit is taken
   pub done-goes : {r₁ : Record} {t : Taken} {o : Out} (m′ : Lent) → p ≡ painting.Done r₁
       → TakesNext (f .excluded) (f .settings) (f .graph) (f .store) r₁ m₁ (m′ .memory) (m .parents) (m′ .parents) t
-      → Plain (m .parents) (m′ .parents) (t .answer) → length (m′ .parents) ≡ length (m .parents) → GivesBack t o → Goes false f r m o m′
+      → Plain (widthOf (f .settings .kind)) (m .parents) (m′ .parents) (t .answer) → length (m′ .parents) ≡ length (m .parents) → GivesBack t o → Goes false f r m o m′
   done-goes {o = o} m′ y n q l b = record {
     opened-call = λ h tips k st e g.
         let i = inputWith f tips in
@@ -116,7 +123,7 @@ module _ {f : Files} {r : Record} {m : Lent} {p : painted.Painted} {m₁ : Memor
         says-step s (takeNext (walkOf i) (j .after)) (paints-first s h ∙ j .is) o m′ (b .answer ∙ z .answer) (z .down)
         (subst (λ (w : Record). Reads w (m′ .memory) (shapeOf i) (takeNext (walkOf i) (j .after) .state)) (sym (b .after)) (z .reads));
     not-twelve = λ e. not-shut q (ap (λ (a : Given). a .outcome) (sym (b .answer)) ∙ e);
-    of-paper = λ h. subst (λ (a : Given). OfPaper a (m .parents) (m′ .parents)) (sym (b .answer)) (of-paper q l h);
+    of-paper = λ h. subst (λ (a : Given). OfPaper (widthOf (f .settings .kind)) a (m .parents) (m′ .parents)) (sym (b .answer)) (of-paper (widthOf (f .settings .kind)) (some-bytes (f .settings .kind)) q l h);
   }
 
   -- painting is refused
@@ -133,7 +140,7 @@ module _ {f : Files} {r : Record} {m : Lent} {p : painted.Painted} {m₁ : Memor
             (b .answer ∙ refused-given w (j .reads)) (none-down w (j .after) (m .parents))
             (subst (λ (z : Record). Reads z m₁ (shapeOf i) (step (refused w) [] (j .after) .state)) (sym (b .after)) (refused-reads w (j .reads)));
         not-twelve = λ e. call-not-shut w c (ap (λ (a : Given). a .outcome) (sym (b .answer)) ∙ e);
-        of-paper = λ h. subst (λ (a : Given). OfPaper a (m .parents) (m .parents)) (sym (b .answer)) (of-paper-refused (m .parents) w r₁ c);
+        of-paper = λ h. subst (λ (a : Given). OfPaper (widthOf (f .settings .kind)) a (m .parents) (m .parents)) (sym (b .answer)) (of-paper-refused (m .parents) w r₁ c);
       }
 
   -- the memory was seen to be touched
@@ -144,19 +151,19 @@ module _ {f : Files} {r : Record} {m : Lent} {p : painted.Painted} {m₁ : Memor
       record {
         opened-call = λ h tips k st e g. absurd (subst (Told (inputWith f tips) st m₁) y (told tips (stands (inputWith f tips) m r k st e g) h));
         not-twelve = λ e. not-shut q (ap (λ (a : Given). a .outcome) (sym (b .answer)) ∙ e);
-        of-paper = λ h. subst (λ (a : Given). OfPaper a (m .parents) (m .parents)) (sym (b .answer)) (of-paper q refl h);
+        of-paper = λ h. subst (λ (a : Given). OfPaper (widthOf (f .settings .kind)) a (m .parents) (m .parents)) (sym (b .answer)) (of-paper (widthOf (f .settings .kind)) (some-bytes (f .settings .kind)) q refl h);
       }
 
 -- ---- the call
 
-module _ {f : Files} {r : Record} {m : Lent} {a : Bool} {o : Out} (w : Whole r (lengthsOf m) a) where
+module _ {f : Files} {r : Record} {m : Lent} {a : Bool} {o : Out} (w : Whole (f .settings .kind) r (lengthsOf m) a) where
   -- 12, and nothing is altered
   pub closed-says : a ≡ false → GivesBack (shutWith r) o → NextSays f r m o m
   closed-says e b = record {
     opened-call = λ tips k st q g. clash (stands-whole (stands (inputWith f tips) m r k st q g) w refl) e;
     closed-call = λ h. b .answer;
     twelve = λ h. (b .after, refl, b .answer);
-    of-paper = subst (λ (z : Given). OfPaper z (m .parents) (m .parents)) (sym (b .answer)) (of-paper-shut (m .parents));
+    of-paper = subst (λ (z : Given). OfPaper (widthOf (f .settings .kind)) z (m .parents) (m .parents)) (sym (b .answer)) (of-paper-shut (m .parents));
     same-lengths = refl;
   }
 

@@ -5,13 +5,16 @@ use mathlib.Core.Path.{_≡_, refl, _∙_, ap}
 use mathlib.Core.Logic.{_⊎_, inl, inr, ⊎-elim}
 use mathlib.Core.Bool.{Bool, true, false}
 use mathlib.Core.Option.{Option}
-use mathlib.Core.List.{List, [], _∷_, _++_, map}
+use mathlib.Core.List.{List, [], _∷_, _++_, map, List·Memᴰ·head, List·Memᴰ·tail}
 use native.Mathlib.Omega.{arith}
 use lib.ListN.{length, take, getD}
 use lib.Seq.{take-nil}
 use lib.Dec.{ltb}
 use lib.IntN.{ℤ}
 use Rattle.hash.specs.Bytes.{Id}
+use Rattle.object.specs.Ids.{idRoom, idIn}
+use Rattle.object.proofs.IdBytes.{id-in}
+use Rattle.walk.specs.Reach.{Mem}
 use Rattle.walk.specs.Next.{Kind, end, refused, handed, Answer}
 use Rattle.walk.specs.Calls.{upTo}
 use Rattle.walk.specs.Demand.{Hands, hands, ends}
@@ -50,16 +53,22 @@ hands-ids (x ∷ l) (a ∷ qs) (hands g t e r) =
 hands-ids [] (a ∷ qs) (ends e r) = ap (λ (k : Kind). handedBy k ++ handedIds qs) e ∙ hands-ids [] qs r ∙ take-nil (length qs)
 
 -- the same read off what the calls give
-kind-ids : (k : Kind) → idIf (outcomeOf k) (idOfKind k) ≡ handedBy k
+kind-ids : (width : ℕ) → width ≤ idRoom → (k : Kind) → ((x : Id) → Mem x (handedBy k) → length x ≡ width) → idIf (outcomeOf k) (idIn width (idOfKind k)) ≡ handedBy k
 unfolding idIf handedBy
-kind-ids end = refl
-kind-ids (refused r) = refl
-kind-ids (handed x g t) = refl
+kind-ids width small end w = refl
+kind-ids width small (refused r) w = refl
+kind-ids width small (handed x g t) w = ap (λ (y : Id). y ∷ []) (id-in width x (w x (List·Memᴰ·head refl)) small)
 
-pub given-ids : (qs : List Answer) → handedOut (map given qs) ≡ handedIds qs
+-- the ids that answers hand out are so wide
+abbrev pub HandsWide : ℕ → List Answer → Type 0
+HandsWide width qs = (a : Answer) → Mem a qs → (x : Id) → Mem x (handedBy (a .kind)) → length x ≡ width
+
+pub given-ids : (width : ℕ) → width ≤ idRoom → (qs : List Answer) → HandsWide width qs → handedOut width (map given qs) ≡ handedIds qs
 unfolding handedOut handedIds given
-given-ids [] = refl
-given-ids (a ∷ qs) = ap (λ (q : List Id). q ++ handedOut (map given qs)) (kind-ids (a .kind)) ∙ ap (λ (q : List Id). handedBy (a .kind) ++ q) (given-ids qs)
+given-ids width small [] w = refl
+given-ids width small (a ∷ qs) w =
+    ap (λ (q : List Id). q ++ handedOut width (map given qs)) (kind-ids width small (a .kind) (w a (List·Memᴰ·head refl)))
+    ∙ ap (λ (q : List Id). handedBy (a .kind) ++ q) (given-ids width small qs (λ b m. w b (List·Memᴰ·tail m)))
 
 -- ---- the sum
 
@@ -73,22 +82,22 @@ sums-at f zero n (Sums.call e s) = omega (arith, e)
 sums-at f (suc k) n (Sums.call e s) = omega (arith, sums-at (λ m. f (suc m)) k (n + uses (f zero)) s)
 
 -- a commit that is used up is handed out or refused
-kind-uses : (k : Kind) (b : Bool) (l : List Id) (n : ℕ) → length (idIf (outcomeOf k) (idOfKind k) ++ l) + (refusedIf (outcomeOf k) b + n) ≡ usesKind k b + (length l + n)
+kind-uses : (k : Kind) (y : Id) (b : Bool) (l : List Id) (n : ℕ) → length (idIf (outcomeOf k) y ++ l) + (refusedIf (outcomeOf k) b + n) ≡ usesKind k b + (length l + n)
 unfolding idIf refusedIf usesKind
-kind-uses end b l n = omega arith
-kind-uses (refused r) true l n = omega arith
-kind-uses (refused r) false l n = omega arith
-kind-uses (handed x g t) b l n = omega arith
+kind-uses end y b l n = omega arith
+kind-uses (refused r) y true l n = omega arith
+kind-uses (refused r) y false l n = omega arith
+kind-uses (handed x g t) y b l n = omega arith
 
-given-uses : (qs : List Answer) → length (handedOut (map given qs)) + refusedCommits (map given qs) ≡ used qs
+given-uses : (width : ℕ) (qs : List Answer) → length (handedOut width (map given qs)) + refusedCommits (map given qs) ≡ used qs
 unfolding handedOut refusedCommits given used uses
-given-uses [] = refl
-given-uses (a ∷ qs) =
-    kind-uses (a .kind) (ltb (a .struck) (a .admitted)) (handedOut (map given qs)) (refusedCommits (map given qs)) ∙ ap (λ (n : ℕ). uses a + n) (given-uses qs)
+given-uses width [] = refl
+given-uses width (a ∷ qs) =
+    kind-uses (a .kind) (idIn width (idOfKind (a .kind))) (ltb (a .struck) (a .admitted)) (handedOut width (map given qs)) (refusedCommits (map given qs)) ∙ ap (λ (n : ℕ). uses a + n) (given-uses width qs)
 
-pub sum-at : (f : ℕ → Answer) (k : ℕ) → Sums 0 (upTo f (suc k))
-    → f k .admitted ≡ length (handedOut (map given (upTo f (suc k)))) + refusedCommits (map given (upTo f (suc k))) + f k .struck + f k .waiting
-sum-at f k s = omega (arith, sums-at f k 0 s, given-uses (upTo f (suc k)))
+pub sum-at : (width : ℕ) (f : ℕ → Answer) (k : ℕ) → Sums 0 (upTo f (suc k))
+    → f k .admitted ≡ length (handedOut width (map given (upTo f (suc k)))) + refusedCommits (map given (upTo f (suc k))) + f k .struck + f k .waiting
+sum-at width f k s = omega (arith, sums-at f k 0 s, given-uses width (upTo f (suc k)))
 
 -- ---- the end
 

@@ -15,7 +15,7 @@ use Rattle.walk.specs.declared.CommitTimeOrder.the-variants.{NewestFirst, Oldes
 use Rattle.walk.specs.declared.OpenOutcome.the-variants.{Accepted}
 use Rattle.walk.specs.Settings.{byTime, newestFirst}
 use Rattle.walk.specs.State.{State, emptyState}
-use Rattle.walk.specs.Opening.{Input, listIds, P, walkOf, refusal, roomFor, closed, opened, openTips, openWalk}
+use Rattle.walk.specs.Opening.{Input, listIds, P, walkOf, refusal, roomFor, closed, opened, openTips, openWalk, widthIn}
 use Rattle.walk.specs.Given.{openGiven}
 use Rattle.walk.specs.Calls.{stateOf, stateAfter}
 use Rattle.walk.proofs.Whole.{length-list}
@@ -46,24 +46,24 @@ and-false false = refl
 -- ---- the tips are let in, into emptied memory
 
 module _ (i : Input) {names marks marks₁ : List ℕ} {times : List ℤ} {line : List ℕ} {r : Record} {cap : ℕ} (e : cap ≡ P i) (s : steps.Starts marks marks₁ cap) (a : length marks₁ ≡ length marks)
-    (f : r ≡ freshRecord (byTime (i .settings)) (byTime (i .settings) && newestFirst (i .settings .sorting)) cap (fixedOf (i .graph))) where
-  early : refusal i ≡ none → steps.Lent names marks times line (P i) → Early (shapeOf i) (listIds (i .tips)) 0 r (steps.mem names marks₁ times line) emptyState
+    (f : r ≡ freshRecord (byTime (i .settings)) (byTime (i .settings) && newestFirst (i .settings .sorting)) cap (fixedOf (i .settings .kind) (i .graph))) where
+  early : refusal i ≡ none → steps.Lent (widthIn i) names marks times line (P i) → Early (shapeOf i) (listIds (widthIn i) (i .tips)) 0 r (steps.mem names marks₁ times line) emptyState
   unfolding P
   early z l = record {
-    reads = rw (f ∙ ap (λ (n : ℕ). freshRecord (byTime (i .settings)) (byTime (i .settings) && newestFirst (i .settings .sorting)) n (fixedOf (i .graph))) e)
-        (subst (steps.Starts marks marks₁) e s .reads (byTime (i .settings)) (byTime (i .settings) && newestFirst (i .settings .sorting)) (fixedOf (i .graph)) names times line l);
+    reads = rw (f ∙ ap (λ (n : ℕ). freshRecord (byTime (i .settings)) (byTime (i .settings) && newestFirst (i .settings .sorting)) n (fixedOf (i .settings .kind) (i .graph))) e)
+        (subst (steps.Starts marks marks₁) e s .reads (byTime (i .settings)) (byTime (i .settings) && newestFirst (i .settings .sorting)) (fixedOf (i .settings .kind) (i .graph)) names times line l);
     unfailed = ap (λ (q : Record). q .failed) f;
     few = omega arith;
-    universe = record { few = omega (arith, length-list (i .tips)); has-seen = λ x e. clash e refl; has-frontier = λ x e. clash e refl };
+    universe = record { few = omega (arith, length-list (widthIn i) (i .tips)); has-seen = λ x e. clash e refl; has-frontier = λ x e. clash e refl };
     unpainted = λ x. refl;
   }
 
-  pub fills : {m′ : Memory} {r′ : Record} → TakesTips (i .store) (i .tips) (i .excluded) (i .settings .sorting) (steps.mem names marks₁ times line) m′ r r′
+  pub fills : {m′ : Memory} {r′ : Record} → TakesTips (widthIn i) (i .store) (i .tips) (i .excluded) (i .settings .sorting) (steps.mem names marks₁ times line) m′ r r′
       → Fills i (steps.mem names marks times line) m′ r′
   unfolding walkOf
   fills t = record {
     long = record { names = t .long .names; marks = t .long .marks ∙ a; times = t .long .times; line = t .long .line };
-    filled = λ z l. t .taken (walkOf i) (P i) (fixedOf (i .graph)) emptyState (passes i z .store-good) (i .graph, refl, refl, refl) (omega (arith, places-few i z)) (early z l) .reads;
+    filled = λ z l. t .taken (walkOf i) (P i) (fixedOf (i .settings .kind) (i .graph)) emptyState refl (passes i z .store-good) (i .graph, refl, refl, refl) (omega (arith, places-few i z)) (early z l) .reads;
   }
 
 -- ---- the outcome
@@ -102,13 +102,13 @@ module _ (i : Input) (m m′ : Lent) (o : Opened) {r : Record} (e : Fine ≡ che
     parents = length (p k);
   }
 
-  lent : roomFor i (lengthsOf m) ≡ true → steps.Lent (m .memory .names) (m .memory .marks) (m .memory .times) (m .memory .line) (P i)
+  lent : roomFor i (lengthsOf m) ≡ true → steps.Lent (widthIn i) (m .memory .names) (m .memory .marks) (m .memory .times) (m .memory .line) (P i)
   unfolding lengthsOf
   lent h = let q = room i (lengthsOf m) h in record { for-names = q .names-room; for-marks = q .marks-room; for-times = q .times-room; for-line = q .line-room }
 
-  tips-said : (st : State) → openTips i true ≡ opened st → tipsAll (walkOf i) (listIds (i .tips)) emptyState ≡ st
+  tips-said : (st : State) → openTips i true ≡ opened st → tipsAll (walkOf i) (listIds (widthIn i) (i .tips)) emptyState ≡ st
   unfolding openTips among
-  tips-said st h = tips-all (walkOf i) [] (listIds (i .tips)) emptyState st (λ y. refl) h
+  tips-said st h = tips-all (walkOf i) [] (listIds (widthIn i) (i .tips)) emptyState st (λ y. refl) h
 
   first-state : (st : State) → openWalk i true ≡ opened st → st ≡ stateAfter i 0
   unfolding stateAfter stateOf
@@ -117,7 +117,7 @@ module _ (i : Input) (m m′ : Lent) (o : Opened) {r : Record} (e : Fine ≡ che
   pub accepted-says : OpenSays i m o m′
   accepted-says =
       let q = opens i (roomFor i (lengthsOf m)) e in
-      let t : tipsAll (walkOf i) (listIds (i .tips)) emptyState ≡ q .state = tips-said (q .state) (sym (open-roomy i true (q .accepted) refl) ∙ q .opens-true) in
+      let t : tipsAll (walkOf i) (listIds (widthIn i) (i .tips)) emptyState ≡ q .state = tips-said (q .state) (sym (open-roomy i true (q .accepted) refl) ∙ q .opens-true) in
       let g : Reads r (m′ .memory) (shapeOf i) (q .state) = subst (Reads r (m′ .memory) (shapeOf i)) t (f .filled (q .accepted) (lent (q .has-room))) in
       record {
         answer = a .answer (m′ .memory) (shapeOf i) (q .state) g ∙ ap openGiven (sym (q .opens-as));

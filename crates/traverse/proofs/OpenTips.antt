@@ -10,7 +10,7 @@ use mathlib.Core.List.{List, [], _∷_, List·Memᴰ}
 use native.Mathlib.Omega.{arith}
 use lib.ListN.{length}
 use lib.IntN.{ℤ}
-use Rattle.hash.specs.Bytes.{Id, idBytes, eqId, among, ifSome}
+use Rattle.hash.specs.Bytes.{Id, widthOf, eqId, among, ifSome}
 use Rattle.hash.proofs.Tests.{byCases, clash}
 use Rattle.date.specs.declared.Seconds.{Seconds}
 use Rattle.object.specs.Header.{Header}
@@ -152,17 +152,17 @@ module _ {sh : Shape} {u : List Id} {k : ℕ} {r : Record} {m : Memory} {st : St
   }
 
 -- an excluded tip
-pub tip-skipped : {store excluded : List ℕ} {o : Sorting} (m : Memory) (x : Id) (r : Record) → among x (listIds excluded) ≡ true → TakesTip store excluded o m m x r r
-tip-skipped {excluded = excluded} m x r e = record {
+pub tip-skipped : {width : ℕ} {store excluded : List ℕ} {o : Sorting} (m : Memory) (x : Id) (r : Record) → among x (listIds width excluded) ≡ true → TakesTip width store excluded o m m x r r
+tip-skipped {width} {excluded = excluded} m x r e = record {
   long = same-lengths m;
-  taken = λ w n f k u st ok v l h a b g.
+  taken = λ w n f k u st wd ok v l h a b g.
       subst (λ (s : State). Early (shapeFor (w .settings) n f) u (suc k) r m s) (sym (in-skipped w st x (ap (among x) (v .2) ∙ e))) (early-on g);
 }
 
 -- another tip, with what see told and how it comes in
-module _ (store excluded : List ℕ) (o : Sorting) {names marks names′ marks′ : List ℕ} {times times′ : List ℤ} {line line′ : List ℕ} {x : Id} {r r′ : Record} {a : Seen} {how : Admission}
-    (e : among x (listIds excluded) ≡ false) (s : Sees r names marks names′ marks′ x a)
-    (d : storeOk idBytes store ≡ true → (graph : List ℕ) → how ≡ admissionOf (worldOf store graph) o x) (j : Admits r times times′ line line′ a how r′) where
+module _ (width : ℕ) (store excluded : List ℕ) (o : Sorting) {names marks names′ marks′ : List ℕ} {times times′ : List ℤ} {line line′ : List ℕ} {x : Id} {r r′ : Record} {a : Seen} {how : Admission}
+    (e : among x (listIds width excluded) ≡ false) (s : Sees r names marks names′ marks′ x a)
+    (d : storeOk width store ≡ true → (graph : List ℕ) → how ≡ admissionOf (worldOf width store graph) o x) (j : Admits r times times′ line line′ a how r′) where
   -- a repeat
   again : (w : Walk) (sh : Shape) (k : ℕ) (u : List Id) (st : State) → Early sh u k r (mem names marks times line) st → st .seen x ≡ true
       → Early sh u (suc k) r′ (mem names′ marks′ times′ line′) st
@@ -173,7 +173,7 @@ module _ (store excluded : List ℕ) (o : Sorting) {names marks names′ marks�
       rw (p .0, p .1, q .same-record, q .same-times, q .same-line) (early-on g)
 
   -- a new one
-  comes : (w : Walk) (n : ℕ) (f : Fixed) (k : ℕ) (u : List Id) (st : State) → length x ≡ idBytes → List·Memᴰ x u → n ≤ 1048576 → k < 1048576
+  comes : (w : Walk) (n : ℕ) (f : Fixed) (k : ℕ) (u : List Id) (st : State) → length x ≡ widthOf (f .kind) → List·Memᴰ x u → n ≤ 1048576 → k < 1048576
       → Early (shapeFor (w .settings) n f) u k r (mem names marks times line) st → st .seen x ≡ false → (b : Admission) → how ≡ b
       → Early (shapeFor (w .settings) n f) u (suc k) r′ (mem names′ marks′ times′ line′) (inAs w st x b)
   comes w n f k u st l h c i g z b y =
@@ -190,15 +190,15 @@ module _ (store excluded : List ℕ) (o : Sorting) {names marks names′ marks�
           let q = j .turned y′ in
           rw (q .same-record, q .same-times, q .same-line) (early-sees g x h (v .reads))
 
-  pub tip-taken : TakesTip store excluded o (mem names marks times line) (mem names′ marks′ times′ line′) x r r′
+  pub tip-taken : TakesTip width store excluded o (mem names marks times line) (mem names′ marks′ times′ line′) x r r′
   tip-taken = record {
     long = record { names = s .long-names; marks = s .long-marks; times = j .long-times; line = j .long-line };
-    taken = λ w n f k u st ok v l h c i g.
+    taken = λ w n f k u st wd ok v l h c i g.
         let p : among x (w .excluded) ≡ false = ap (among x) (v .2) ∙ e in
         let y : how ≡ admissionOf (w .world) (w .settings .sorting) x = d ok (v .0) ∙ ap (λ (q : World). admissionOf q o x) (sym (v .1)) ∙ ap (λ (q : Sorting). admissionOf (w .world) q x) (sym (v .3)) in
         byCases (st .seen x)
         (λ z. subst (λ (q : State). Early (shapeFor (w .settings) n f) u (suc k) r′ (mem names′ marks′ times′ line′) q) (sym (in-seen w st x p z)) (again w (shapeFor (w .settings) n f) k u st g z))
-        (λ z. subst (λ (q : State). Early (shapeFor (w .settings) n f) u (suc k) r′ (mem names′ marks′ times′ line′) q) (sym (in-new w st x p z)) (comes w n f k u st l h c i g z (admissionOf (w .world) (w .settings .sorting) x) y));
+        (λ z. subst (λ (q : State). Early (shapeFor (w .settings) n f) u (suc k) r′ (mem names′ marks′ times′ line′) q) (sym (in-new w st x p z)) (comes w n f k u st (l ∙ sym wd) h c i g z (admissionOf (w .world) (w .settings .sorting) x) y));
   }
 
 -- ---- a tip waits or does not

@@ -2,14 +2,16 @@
 -- past them the buffer is as it was. Assumes nothing.
 use mathlib.Core.Path.{_≡_, refl, sym, _∙_, ap, subst}
 use mathlib.Core.Logic.{inl, inr}
-use Prim.Native.Nat.{ℕ, zero, suc, _+_, _*_, _/_, _≤_}
+use Prim.Native.Nat.{ℕ, zero, suc, _+_, _*_, _/_, _≤_, _<_}
 use mathlib.Core.Option.{Option, none, some}
 use mathlib.Core.List.{List, [], _∷_, _++_, List·Memᴰ·not-nil}
 use native.Mathlib.Omega.{arith}
+use native.Mathlib.Nat.{mul-zero, mul-suc, mul-comm, mul-div-left}
 use lib.ListN.{length, take, drop, getD, length-drop, take-append-drop}
 use lib.Seq.{length-take-le, take-length, take-add, getD-drop, ext-getD}
 use lib.IntN.{ℤ}
-use Rattle.hash.specs.Bytes.{Id, idBytes, setDown, idsOf}
+use Rattle.hash.proofs.Widths.{in-all}
+use Rattle.hash.specs.Bytes.{Id, setDown, idsOf}
 use Rattle.hash.proofs.Bytes.{setDown-fits}
 use Rattle.walk.specs.declared.Refusal.{Refusal}
 use Rattle.walk.specs.declared.Refusal.the-variants.{CommitNotFound, TooManyParents, Closed}
@@ -37,18 +39,22 @@ use Rattle.traverse.specs.Contract.{closedAnswer, OfPaper}
 
 -- ---- the ids of a list, end to end
 
-joined-cut : (n : ℕ) (b : List ℕ) → joined (idsOf idBytes n b) ≡ take (idBytes * n) b
-unfolding joined idsOf
-joined-cut zero b = refl
-joined-cut (suc n) b =
-    let e : idBytes * suc n ≡ idBytes + idBytes * n = omega arith in
-    ap (λ (l : List ℕ). take idBytes b ++ l) (joined-cut n (drop idBytes b)) ∙ sym (take-add idBytes (idBytes * n) b) ∙ ap (λ (k : ℕ). take k b) (sym e)
+-- so many ids are so many
+many-ids : (w n : ℕ) → 0 < w → w * n / w ≡ n
+many-ids w n h = ap (λ (k : ℕ). k / w) (mul-comm w n) ∙ mul-div-left n h
 
-joined-list : (b : List ℕ) (n : ℕ) → length b ≡ idBytes * n → joined (listIds b) ≡ b
+joined-cut : (width n : ℕ) (b : List ℕ) → joined (idsOf width n b) ≡ take (width * n) b
+unfolding joined idsOf
+joined-cut width zero b = ap (λ (k : ℕ). take k b) (sym (mul-zero width))
+joined-cut width (suc n) b =
+    let e : width * suc n ≡ width + width * n = omega (arith, mul-suc width n) in
+    ap (λ (l : List ℕ). take width b ++ l) (joined-cut width n (drop width b)) ∙ sym (take-add width (width * n) b) ∙ ap (λ (k : ℕ). take k b) (sym e)
+
+joined-list : (width : ℕ) → 0 < width → (b : List ℕ) (n : ℕ) → length b ≡ width * n → joined (listIds width b) ≡ b
 unfolding listIds
-joined-list b n h =
-    let e : idBytes * (length b / idBytes) ≡ length b = omega (arith, h) in
-    joined-cut (length b / idBytes) b ∙ ap (λ (k : ℕ). take k b) e ∙ take-length b
+joined-list width some-bytes b n h =
+    let e : width * (length b / width) ≡ length b = ap (λ (k : ℕ). width * (k / width)) h ∙ ap (λ (k : ℕ). width * k) (many-ids width n some-bytes) ∙ sym h in
+    joined-cut width (length b / width) b ∙ ap (λ (k : ℕ). take k b) e ∙ take-length b
 
 -- ---- the buffer
 
@@ -89,68 +95,68 @@ zone-in : (z : Zone) → z ≡ zoneGiven (zoneIn z)
 zone-in (Minutes m) = refl
 zone-in NoZone = refl
 
-abbrev kindIn : Outcome → Given → Kind
-kindIn Commit a = handed (a .info .id) (levelIn (a .info .generation)) (secondsIn (a .info .time))
-kindIn End a = end
-kindIn (Refused r) a = refused r
+abbrev kindIn : (width : ℕ) (o : Outcome) (a : Given) → ShapedBy width o a → Kind
+kindIn width Commit a s = handed (s .0) (levelIn (a .info .generation)) (secondsIn (a .info .time))
+kindIn width End a s = end
+kindIn width (Refused r) a s = refused r
 
-outcome-in : (o : Outcome) (a : Given) → o ≡ outcomeOf (kindIn o a)
-outcome-in Commit a = refl
-outcome-in End a = refl
-outcome-in (Refused r) a = refl
+outcome-in : (width : ℕ) (o : Outcome) (a : Given) (s : ShapedBy width o a) → o ≡ outcomeOf (kindIn width o a s)
+outcome-in width Commit a s = refl
+outcome-in width End a s = refl
+outcome-in width (Refused r) a s = refl
 
 record SameFields (a : Given) (k : Kind) : Type 0 where
   id : a .info .id ≡ idOfKind k
   generation : a .info .generation ≡ levelOfKind k
   time : a .info .time ≡ secondsOfKind k
 
-fields-in : (o : Outcome) (a : Given) → ShapedBy o a → SameFields a (kindIn o a)
-fields-in Commit a s = record { id = refl; generation = level-in (a .info .generation); time = seconds-in (a .info .time) }
-fields-in End a s = record { id = s .0 .no-id; generation = s .0 .no-generation; time = s .0 .no-time }
-fields-in (Refused r) a s = record { id = s .0 .no-id; generation = s .0 .no-generation; time = s .0 .no-time }
+fields-in : (width : ℕ) (o : Outcome) (a : Given) (s : ShapedBy width o a) → SameFields a (kindIn width o a s)
+fields-in width Commit a s = record { id = s .2; generation = level-in (a .info .generation); time = seconds-in (a .info .time) }
+fields-in width End a s = record { id = s .0 .no-id; generation = s .0 .no-generation; time = s .0 .no-time }
+fields-in width (Refused r) a s = record { id = s .0 .no-id; generation = s .0 .no-generation; time = s .0 .no-time }
 
-of-call-in : (o : Outcome) (a : Given) → ShapedBy o a → (r : Refusal) → kindIn o a ≡ refused r → OfCall r
-of-call-in Commit a s r e = let z : _≡_ {A = ℕ} 0 1 = cc in absurd (omega arith)
-of-call-in End a s r e = let z : _≡_ {A = ℕ} 0 1 = cc in absurd (omega arith)
-of-call-in (Refused q) a s r e = let z : q ≡ r = cc in subst (λ (y : Refusal). OfCall y) z (s .1)
+of-call-in : (width : ℕ) (o : Outcome) (a : Given) (s : ShapedBy width o a) → (r : Refusal) → kindIn width o a s ≡ refused r → OfCall r
+of-call-in width Commit a s r e = let z : _≡_ {A = ℕ} 0 1 = cc in absurd (omega arith)
+of-call-in width End a s r e = let z : _≡_ {A = ℕ} 0 1 = cc in absurd (omega arith)
+of-call-in width (Refused q) a s r e = let z : q ≡ r = cc in subst (λ (y : Refusal). OfCall y) z (s .1)
 
-end-in : (o : Outcome) (a : Given) → ShapedBy o a → kindIn o a ≡ end → a .info .parents ≡ 0
-end-in Commit a s e = let z : _≡_ {A = ℕ} 0 1 = cc in absurd (omega arith)
-end-in End a s e = s .1
-end-in (Refused q) a s e = let z : _≡_ {A = ℕ} 0 1 = cc in absurd (omega arith)
+end-in : (width : ℕ) (o : Outcome) (a : Given) (s : ShapedBy width o a) → kindIn width o a s ≡ end → a .info .parents ≡ 0
+end-in width Commit a s e = let z : _≡_ {A = ℕ} 0 1 = cc in absurd (omega arith)
+end-in width End a s e = s .1
+end-in width (Refused q) a s e = let z : _≡_ {A = ℕ} 0 1 = cc in absurd (omega arith)
 
-counted-in : (o : Outcome) (a : Given) → ShapedBy o a → (r : Refusal) → kindIn o a ≡ refused r → Counted r (a .info .parents)
-counted-in Commit a s r e = let z : _≡_ {A = ℕ} 0 1 = cc in absurd (omega arith)
-counted-in End a s r e = let z : _≡_ {A = ℕ} 0 1 = cc in absurd (omega arith)
-counted-in (Refused q) a s r e = let z : q ≡ r = cc in subst (λ (y : Refusal). Counted y (a .info .parents)) z (s .2)
+counted-in : (width : ℕ) (o : Outcome) (a : Given) (s : ShapedBy width o a) → (r : Refusal) → kindIn width o a s ≡ refused r → Counted r (a .info .parents)
+counted-in width Commit a s r e = let z : _≡_ {A = ℕ} 0 1 = cc in absurd (omega arith)
+counted-in width End a s r e = let z : _≡_ {A = ℕ} 0 1 = cc in absurd (omega arith)
+counted-in width (Refused q) a s r e = let z : q ≡ r = cc in subst (λ (y : Refusal). Counted y (a .info .parents)) z (s .2)
 
 -- card 7: an answer without a commit has no zone
 bare-zone : (a : Given) → Bare a → zoneIn (a .info .zone) ≡ none
 bare-zone a b = ap zoneIn (b .no-zone)
 
-end-zone-in : (o : Outcome) (a : Given) → ShapedBy o a → kindIn o a ≡ end → zoneIn (a .info .zone) ≡ none
-end-zone-in Commit a s e = let z : _≡_ {A = ℕ} 0 1 = cc in absurd (omega arith)
-end-zone-in End a s e = bare-zone a (s .0)
-end-zone-in (Refused q) a s e = bare-zone a (s .0)
+end-zone-in : (width : ℕ) (o : Outcome) (a : Given) (s : ShapedBy width o a) → kindIn width o a s ≡ end → zoneIn (a .info .zone) ≡ none
+end-zone-in width Commit a s e = let z : _≡_ {A = ℕ} 0 1 = cc in absurd (omega arith)
+end-zone-in width End a s e = bare-zone a (s .0)
+end-zone-in width (Refused q) a s e = bare-zone a (s .0)
 
-refused-zone-in : (o : Outcome) (a : Given) → ShapedBy o a → (r : Refusal) → kindIn o a ≡ refused r → zoneIn (a .info .zone) ≡ none
-refused-zone-in Commit a s r e = let z : _≡_ {A = ℕ} 0 1 = cc in absurd (omega arith)
-refused-zone-in End a s r e = bare-zone a (s .0)
-refused-zone-in (Refused q) a s r e = bare-zone a (s .0)
+refused-zone-in : (width : ℕ) (o : Outcome) (a : Given) (s : ShapedBy width o a) → (r : Refusal) → kindIn width o a s ≡ refused r → zoneIn (a .info .zone) ≡ none
+refused-zone-in width Commit a s r e = let z : _≡_ {A = ℕ} 0 1 = cc in absurd (omega arith)
+refused-zone-in width End a s r e = bare-zone a (s .0)
+refused-zone-in width (Refused q) a s r e = bare-zone a (s .0)
 
 no-ids : (l : List Id) → length l ≡ 0 → l ≡ []
 no-ids [] e = refl
 no-ids (x ∷ l) e = absurd (omega (arith, e))
 
-abbrev modelOf : Given → List Id → Answer
-modelOf a ps = record { kind = kindIn (a .outcome) a; parents = ps; zone = zoneIn (a .info .zone); admitted = a .admitted; struck = a .struck; waiting = a .waiting }
+abbrev modelOf : (width : ℕ) (a : Given) → ShapedBy width (a .outcome) a → List Id → Answer
+modelOf width a s ps = record { kind = kindIn width (a .outcome) a s; parents = ps; zone = zoneIn (a .info .zone); admitted = a .admitted; struck = a .struck; waiting = a .waiting }
 
-given-model : (a : Given) (ps : List Id) → ShapedBy (a .outcome) a → a .info .parents ≡ length ps → a ≡ given (modelOf a ps)
+given-model : (width : ℕ) (a : Given) (ps : List Id) (s : ShapedBy width (a .outcome) a) → a .info .parents ≡ length ps → a ≡ given (modelOf width a s ps)
 unfolding given
-given-model a ps s e =
-    let f = fields-in (a .outcome) a s in
+given-model width a ps s e =
+    let f = fields-in width (a .outcome) a s in
     λ k. record {
-      outcome = outcome-in (a .outcome) a k;
+      outcome = outcome-in width (a .outcome) a s k;
       info = record { id = f .id k; parents = e k; generation = f .generation k; time = f .time k; zone = zone-in (a .info .zone) k };
       admitted = a .admitted;
       struck = a .struck;
@@ -159,30 +165,37 @@ given-model a ps s e =
 
 -- ---- answers on any bytes
 
-pub of-paper : {b b′ : List ℕ} {a : Given} → Plain b b′ a → length b′ ≡ length b → 5120 ≤ length b → OfPaper a b b′
+id-wide-in : (width : ℕ) (o : Outcome) (a : Given) (s : ShapedBy width o a) (x : Id) (g : Option ℕ) (t : Option ℤ) → kindIn width o a s ≡ handed x g t → length x ≡ width
+id-wide-in width Commit a s x g t e = let z : s .0 ≡ x = cc in ap length (sym z) ∙ s .1
+id-wide-in width End a s x g t e = let z : _≡_ {A = ℕ} 0 1 = cc in absurd (omega arith)
+id-wide-in width (Refused r) a s x g t e = let z : _≡_ {A = ℕ} 0 1 = cc in absurd (omega arith)
+
+pub of-paper : (width : ℕ) → 0 < width → {b b′ : List ℕ} {a : Given} → Plain width b b′ a → length b′ ≡ length b → 256 * width ≤ length b → OfPaper width a b b′
 unfolding parentsGiven
-of-paper {b} {b′} {a} p l h =
+of-paper width some-bytes {b} {b′} {a} p l h =
     let few : a .info .parents ≤ 256 = p .few in
-    let w : length (take (idBytes * a .info .parents) b′) ≡ idBytes * a .info .parents = length-take-le (idBytes * a .info .parents) b′ (omega (arith, l)) in
-    let ps = listIds (take (idBytes * a .info .parents) b′) in
-    let n : a .info .parents ≡ length ps = omega (arith, w, length-list (take (idBytes * a .info .parents) b′)) in
+    let r : width * a .info .parents ≤ length b = omega (arith, h, in-all width few) in
+    let w : length (take (width * a .info .parents) b′) ≡ width * a .info .parents = length-take-le (width * a .info .parents) b′ (omega (arith, l, r)) in
+    let ps = listIds width (take (width * a .info .parents) b′) in
+    let n : a .info .parents ≡ length ps = sym (length-list width (take (width * a .info .parents) b′) ∙ ap (λ (k : ℕ). k / width) w ∙ many-ids width (a .info .parents) some-bytes) in
     record {
-      model = modelOf a ps;
-      is = given-model a ps (p .shape) n;
-      kind = λ r e. inl (of-call-in (a .outcome) a (p .shape) r e);
-      bare-end = λ e. no-ids ps (sym n ∙ end-in (a .outcome) a (p .shape) e);
-      end-zone = λ e. end-zone-in (a .outcome) a (p .shape) e;
-      refused-zone = λ r e. refused-zone-in (a .outcome) a (p .shape) r e;
-      bare-lost = λ e. no-ids ps (sym n ∙ counted-in (a .outcome) a (p .shape) CommitNotFound e .lost refl);
-      crowded = λ e. inl (sym n ∙ counted-in (a .outcome) a (p .shape) TooManyParents e .crowded refl);
+      model = modelOf width a (p .shape) ps;
+      is = given-model width a ps (p .shape) n;
+      kind = λ r e. inl (of-call-in width (a .outcome) a (p .shape) r e);
+      bare-end = λ e. no-ids ps (sym n ∙ end-in width (a .outcome) a (p .shape) e);
+      end-zone = λ e. end-zone-in width (a .outcome) a (p .shape) e;
+      refused-zone = λ r e. refused-zone-in width (a .outcome) a (p .shape) r e;
+      bare-lost = λ e. no-ids ps (sym n ∙ counted-in width (a .outcome) a (p .shape) CommitNotFound e .lost refl);
+      crowded = λ e. inl (sym n ∙ counted-in width (a .outcome) a (p .shape) TooManyParents e .crowded refl);
       few = omega (arith, n);
-      wide = list-wide (take (idBytes * a .info .parents) b′);
-      set-down = was-set-down b b′ (idBytes * a .info .parents) l (omega arith) (p .past)
-          ∙ ap (setDown b 0) (sym (joined-list (take (idBytes * a .info .parents) b′) (a .info .parents) w));
+      id-wide = id-wide-in width (a .outcome) a (p .shape);
+      wide = list-wide width (take (width * a .info .parents) b′);
+      set-down = was-set-down b b′ (width * a .info .parents) l r (p .past)
+          ∙ ap (setDown b 0) (sym (joined-list width some-bytes (take (width * a .info .parents) b′) (a .info .parents) w));
     }
 
 -- an answer that carries nothing but the running numbers, and leaves the buffer as it was: painting's refusal
-pub of-paper-refused : (b : List ℕ) (n : Refusal) (r : Record) → OfCall n → OfPaper (gave (Refused n) noId 0 NoGeneration NoTime NoZone r .answer) b b
+pub of-paper-refused : {width : ℕ} (b : List ℕ) (n : Refusal) (r : Record) → OfCall n → OfPaper width (gave (Refused n) noId 0 NoGeneration NoTime NoZone r .answer) b b
 unfolding parentsGiven joined given
 of-paper-refused b n r c = record {
   model = record { kind = refused n; parents = []; zone = none; admitted = r .admitted; struck = r .struck; waiting = r .queue .count };
@@ -194,16 +207,17 @@ of-paper-refused b n r c = record {
   bare-lost = λ e. refl;
   crowded = λ e. inr refl;
   few = omega arith;
+  id-wide = λ x g t e. let z : _≡_ {A = ℕ} 0 1 = cc in absurd (omega arith);
   wide = λ x m. absurd (List·Memᴰ·not-nil m);
   set-down = set-down-none b;
 }
 
 -- and the end
-pub plain-end : (b : List ℕ) (r : Record) → Plain b b (gave End noId 0 NoGeneration NoTime NoZone r .answer)
+pub plain-end : {width : ℕ} (b : List ℕ) (r : Record) → Plain width b b (gave End noId 0 NoGeneration NoTime NoZone r .answer)
 plain-end b r = record { shape = (record { no-id = refl; no-generation = refl; no-time = refl; no-zone = refl }, refl); few = omega arith; past = λ k h. refl }
 
 -- refusal 12
-pub of-paper-shut : (b : List ℕ) → OfPaper closedAnswer b b
+pub of-paper-shut : {width : ℕ} (b : List ℕ) → OfPaper width closedAnswer b b
 unfolding parentsGiven joined
 of-paper-shut b = record {
   model = shut;
@@ -215,13 +229,14 @@ of-paper-shut b = record {
   bare-lost = λ e. refl;
   crowded = λ e. inr refl;
   few = omega arith;
+  id-wide = λ x g t e. let z : _≡_ {A = ℕ} 0 1 = cc in absurd (omega arith);
   wide = λ x m. absurd (List·Memᴰ·not-nil m);
   set-down = set-down-none b;
 }
 
 -- no other answer is 12
-pub not-shut : {b b′ : List ℕ} {a : Given} → Plain b b′ a → a .outcome ≡ Refused Closed → ⊥
-not-shut {a = a} p e = let s = subst (λ (o : Outcome). ShapedBy o a) e (p .shape) in omega (arith, s .1 .1)
+pub not-shut : {width : ℕ} {b b′ : List ℕ} {a : Given} → Plain width b b′ a → a .outcome ≡ Refused Closed → ⊥
+not-shut {width = width} {a = a} p e = let s = subst (λ (o : Outcome). ShapedBy width o a) e (p .shape) in omega (arith, s .1 .1)
 
 pub call-not-shut : (n : Refusal) → OfCall n → Refused n ≡ Refused Closed → ⊥
 call-not-shut n c e = let z : n ≡ Closed = cc in let d : OfCall Closed = subst (λ (y : Refusal). OfCall y) z c in omega (arith, d .1)

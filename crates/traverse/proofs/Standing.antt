@@ -2,7 +2,7 @@
 -- universe of the input, which has no more ids than there are places, and the numbers are small, for P places suffice after every call. Assumes nothing.
 use mathlib.Core.Path.{_≡_, refl, sym, _∙_, ap, subst}
 use mathlib.Core.Logic.{⊎-elim}
-use Prim.Native.Nat.{ℕ, suc, _*_, _≤_}
+use Prim.Native.Nat.{ℕ, suc, _+_, _*_, _/_, _≤_}
 use mathlib.Core.Bool.{Bool, true, false, _||_}
 use mathlib.Core.Option.{none}
 use mathlib.Core.List.{[]}
@@ -15,7 +15,8 @@ use Rattle.walk.specs.declared.Sorting.the-variants.{BreadthFirst}
 use Rattle.walk.specs.declared.Parents.the-variants.{All}
 use Rattle.walk.specs.Lookup.{worldOf}
 use Rattle.walk.specs.State.{Walk, State, isEmpty}
-use Rattle.walk.specs.Opening.{Input, Lengths, P, walkOf, refusal, roomFor, opened, openWalk}
+use Rattle.walk.specs.Opening.{Input, Lengths, P, walkOf, refusal, roomFor, opened, openWalk, parentsRoom, widthIn}
+use Rattle.object.specs.Header.{parentSize}
 use Rattle.walk.specs.Next.{Answer, Step, takeNext, firstCall, next}
 use Rattle.walk.specs.Calls.{stateOf, stateAfter, answerOn, answerAt}
 use Rattle.walk.specs.AnyInput.{AllFit}
@@ -34,15 +35,17 @@ use Rattle.visit.specs.Taking.{Rests, InRows, InStore}
 use Rattle.traverse.specs.declared.Out.{Out}
 use Rattle.traverse.specs.Contract.{Lent, lengthsOf}
 use Rattle.traverse.specs.Next.{Whole}
-use Rattle.hash.specs.Bytes.{idBytes}
+use Rattle.hash.specs.declared.Kind.{Kind}
+use Rattle.hash.proofs.Widths.{by-kind}
+use Rattle.hash.specs.Bytes.{widthOf}
 
 -- ---- of every input
 
 pub goes-by : (i : Input) → GoesBy (walkOf i) (shapeOf i) (i .excluded) (i .settings)
 unfolding walkOf
-goes-by i = record { same-settings = refl; same-excluded = refl; shape = refl }
+goes-by i = record { same-settings = refl; same-excluded = refl; shape = refl; same-kind = refl }
 
-pub world-is : (i : Input) → walkOf i .world ≡ worldOf (i .store) (i .graph)
+pub world-is : (i : Input) → walkOf i .world ≡ worldOf (widthIn i) (i .store) (i .graph)
 unfolding walkOf
 world-is i = refl
 
@@ -59,7 +62,7 @@ pub record Stands (i : Input) (m : Lent) (r : Record) (k : ℕ) (st : State) : T
   pub accepted : openWalk i true ≡ opened st
   pub has-room : roomFor i (lengthsOf m) ≡ true
   pub passed : refusal i ≡ none
-  pub sizes : Room (P i) (lengthsOf m)
+  pub sizes : Room (widthIn i) (P i) (lengthsOf m)
   pub reads : Reads r (m .memory) (shapeOf i) (stateAfter i k)
 
 pub stands : (i : Input) (m : Lent) (r : Record) (k : ℕ) (st : State) → openWalk i (roomFor i (lengthsOf m)) ≡ opened st → Reads r (m .memory) (shapeOf i) (stateAfter i k) → Stands i m r k st
@@ -74,13 +77,13 @@ stands i m r k st e g =
     }
 
 module _ {i : Input} {m : Lent} {r : Record} {k : ℕ} {st : State} (s : Stands i m r k st) where
-  pub good-store : storeOk idBytes (i .store) ≡ true
+  pub good-store : storeOk (widthIn i) (i .store) ≡ true
   good-store = passes i (s .passed) .store-good
 
-  pub good-graph : (isEmpty (i .graph) || graphOk idBytes (i .graph)) ≡ true
-  good-graph = ⊎-elim (or-left (isEmpty (i .graph)) (graphOk idBytes (i .graph))) (or-right (isEmpty (i .graph)) (graphOk idBytes (i .graph))) (passes i (s .passed) .graph-good)
+  pub good-graph : (isEmpty (i .graph) || graphOk (widthIn i) (i .graph)) ≡ true
+  good-graph = ⊎-elim (or-left (isEmpty (i .graph)) (graphOk (widthIn i) (i .graph))) (or-right (isEmpty (i .graph)) (graphOk (widthIn i) (i .graph))) (passes i (s .passed) .graph-good)
 
-  pub room-parents : 5120 ≤ length (m .parents)
+  pub room-parents : parentsRoom (widthIn i) ≤ length (m .parents)
   unfolding lengthsOf
   room-parents = s .sizes .parents-room
 
@@ -106,8 +109,8 @@ module _ {i : Input} {m : Lent} {r : Record} {k : ℕ} {st : State} (s : Stands 
   }
 
   -- the record's own test
-  pub stands-whole : {l : Lengths} {a : Bool} → Whole r l a → l ≡ lengthsOf m → a ≡ true
-  stands-whole w e = w .alive (s .reads .alive) i (s .reads .cap) ∙ ap (roomFor i) e ∙ s .has-room
+  pub stands-whole : {l : Lengths} {a : Bool} → Whole (i .settings .kind) r l a → l ≡ lengthsOf m → a ≡ true
+  stands-whole w e = w .alive (s .reads .alive) i refl (s .reads .cap) ∙ ap (roomFor i) e ∙ s .has-room
 
   -- what a call gives is the walk's next step
   pub says-step : (p : Step) → next (walkOf i) (stateAfter i k) ≡ p → (o : Out) (m′ : Lent) → o .answer ≡ given (p .answer) → m′ .parents ≡ parentsGiven (p .answer) (m .parents)
@@ -138,15 +141,25 @@ first-state i st e = ap stateOf e
 -- ---- a record that is whole
 
 -- an input with so many places
-unfoldable placed : ℕ → Input
-placed n = record { store = []; graph = []; tips = replicate (20 * n) 0; hidden = []; excluded = []; settings = record { sorting = BreadthFirst; parents = All } }
+unfoldable placed : Kind → ℕ → Input
+placed kind n = record { store = []; graph = []; tips = replicate (widthOf kind * n) 0; hidden = []; excluded = []; settings = record { sorting = BreadthFirst; parents = All; kind = kind } }
 
-placed-P : (n : ℕ) → P (placed n) ≡ n
+placed-P : (kind : Kind) (n : ℕ) → P (placed kind n) ≡ n
 unfolding P placed graphCount
-placed-P n = let z : ℕ = 0 in omega (arith, length-replicate (20 * n) z)
+placed-P kind n =
+    by-kind (λ w. length (replicate {A = ℕ} (w * n) 0) / w + length {A = ℕ} [] / w + length {A = ℕ} [] / parentSize w + 0 ≡ n)
+    (let z : ℕ = 0 in omega (arith, length-replicate (20 * n) z)) (let z : ℕ = 0 in omega (arith, length-replicate (32 * n) z)) kind
 
-pub whole-room : {r : Record} {l : Lengths} {a : Bool} → Whole r l a → a ≡ true → (r .live ≡ true) × (5120 ≤ l .parents)
-whole-room {r} {l} w e =
+placed-kind : (kind : Kind) (n : ℕ) → placed kind n .settings .kind ≡ kind
+unfolding placed
+placed-kind kind n = refl
+
+at-placed : (kind : Kind) (n : ℕ) {b : ℕ} → 256 * widthOf (placed kind n .settings .kind) ≤ b → 256 * widthOf kind ≤ b
+unfolding placed
+at-placed kind n h = h
+
+pub whole-room : {kind : Kind} {r : Record} {l : Lengths} {a : Bool} → Whole kind r l a → a ≡ true → (r .live ≡ true) × (256 * widthOf kind ≤ l .parents)
+whole-room {kind} {r} {l} w e =
     byCases (r .live)
-    (λ h. (h, room (placed (r .queue .cap)) l (sym (w .alive h (placed (r .queue .cap)) (sym (placed-P (r .queue .cap)))) ∙ e) .parents-room))
+    (λ h. (h, at-placed kind (r .queue .cap) (room (placed kind (r .queue .cap)) l (sym (w .alive h (placed kind (r .queue .cap)) (placed-kind kind (r .queue .cap)) (sym (placed-P kind (r .queue .cap)))) ∙ e) .parents-room)))
     (λ h. clash e (w .shut h))

@@ -15,7 +15,7 @@ use Rattle.walk.specs.declared.Outcome.the-variants.{Commit, End, Refused}
 use Rattle.walk.specs.declared.OpenOutcome.the-variants.{Accepted, NotOpened}
 use Rattle.walk.specs.declared.OpenAnswer.{OpenAnswer}
 use Rattle.walk.specs.State.{State}
-use Rattle.walk.specs.Opening.{Input, walkOf, listIds, refusal, roomFor, P, Opening, closed, opened, openTips, openOr, openWalk}
+use Rattle.walk.specs.Opening.{Input, widthIn, walkOf, listIds, refusal, roomFor, P, Opening, closed, opened, openTips, openOr, openWalk}
 use Rattle.walk.specs.Next.{Kind, end, refused, handed, Answer}
 use Rattle.walk.specs.Calls.{answerAt, answers}
 use Rattle.walk.specs.Reach.{Mem, NoDup}
@@ -31,6 +31,8 @@ use Rattle.walk.proofs.Refused.{refused-by-call}
 use Rattle.traverse.specs.declared.Opened.{Opened}
 use Rattle.traverse.specs.Contract.{Files, Lent, lengthsOf, OpenSays}
 use Rattle.traverse.specs.Demand.{Call, Calls, filesOf, CallIs, answersOf, handedOut, refusedCommits, Gives, OfTheWalk, Lists, Delivered, AnyCalls, Shut, ThirdDemand}
+use Rattle.hash.proofs.Widths.{width-most}
+use Rattle.traverse.proofs.Wide.{answers-wide}
 use Rattle.traverse.proofs.Numbered.{length-upTo, HandsAt, hands-at, hands-ids, given-ids, sum-at, ends-at}
 use Rattle.traverse.proofs.Calls.{calls-walk, answers-upTo, take-upTo, calls-shut}
 
@@ -79,12 +81,12 @@ says-end g e = gave g .0 ∙ ap outcomeOf e
 -- ---- what holds of every list of the walk's answers
 
 module _ (i : Input) (cs : List Call) (w : (k : ℕ) (c : Call) → CallIs cs k c → Gives c (answerAt i k)) where
-  ids-are : handedOut (answersOf cs) ≡ handedIds (answers i (length cs))
+  ids-are : handedOut (widthIn i) (answersOf cs) ≡ handedIds (answers i (length cs))
   ids-are =
-      ap handedOut (answers-upTo (answerAt i) cs w ∙ ap (λ (l : List Answer). map given l) (sym (answers-at i (length cs))))
-      ∙ given-ids (answers i (length cs))
+      ap (handedOut (widthIn i)) (answers-upTo (answerAt i) cs w ∙ ap (λ (l : List Answer). map given l) (sym (answers-at i (length cs))))
+      ∙ given-ids (widthIn i) (width-most (i .settings .kind)) (answers i (length cs)) (answers-wide i (length cs))
 
-  ids-once : NoDup (handedOut (answersOf cs))
+  ids-once : NoDup (handedOut (widthIn i) (answersOf cs))
   unfolding Once
   ids-once = subst NoDup (sym ids-are) (once i (length cs))
 
@@ -101,19 +103,19 @@ module _ (i : Input) (cs : List Call) (w : (k : ℕ) (c : Call) → CallIs cs k 
     where
       summed : (k : ℕ) (c : Call) → CallIs cs k c → c .out .answer ≡ given (answerAt i k)
           → c .out .answer .admitted
-          ≡ length (handedOut (take (suc k) (answersOf cs))) + refusedCommits (take (suc k) (answersOf cs)) + c .out .answer .struck + c .out .answer .waiting
+          ≡ length (handedOut (widthIn i) (take (suc k) (answersOf cs))) + refusedCommits (take (suc k) (answersOf cs)) + c .out .answer .struck + c .out .answer .waiting
       summed k c p g =
           let t = take-upTo (answerAt i) cs w k c p in
-          let s = sum-at (answerAt i) k (subst (Sums 0) (answers-at i (suc k)) (sum-law i st e (suc k))) in
-          subst (λ (a : Given). a .admitted ≡ length (handedOut (take (suc k) (answersOf cs))) + refusedCommits (take (suc k) (answersOf cs)) + a .struck + a .waiting) (sym g)
-          (subst (λ (l : List Given). answerAt i k .admitted ≡ length (handedOut l) + refusedCommits l + answerAt i k .struck + answerAt i k .waiting) (sym t) s)
+          let s = sum-at (widthIn i) (answerAt i) k (subst (Sums 0) (answers-at i (suc k)) (sum-law i st e (suc k))) in
+          subst (λ (a : Given). a .admitted ≡ length (handedOut (widthIn i) (take (suc k) (answersOf cs))) + refusedCommits (take (suc k) (answersOf cs)) + a .struck + a .waiting) (sym g)
+          (subst (λ (l : List Given). answerAt i k .admitted ≡ length (handedOut (widthIn i) l) + refusedCommits l + answerAt i k .struck + answerAt i k .waiting) (sym t) s)
 
   module _ (d : Delivers i) where
     -- number k of the list, or end
     at : (k : ℕ) → HandsAt (d .list) k (answerAt i k)
     at k = hands-at (d .list) (answerAt i) k (subst (Hands (d .list)) (answers-at i (suc k)) (d .handed-out (suc k)))
 
-    ids-taken : handedOut (answersOf cs) ≡ take (length cs) (d .list)
+    ids-taken : handedOut (widthIn i) (answersOf cs) ≡ take (length cs) (d .list)
     ids-taken =
         let n : length (answers i (length cs)) ≡ length cs = ap (λ (l : List Answer). length l) (answers-at i (length cs)) ∙ length-upTo (answerAt i) (length cs) in
         ids-are ∙ hands-ids (d .list) (answers i (length cs)) (d .handed-out (length cs)) ∙ ap (λ (k : ℕ). take k (d .list)) n
@@ -150,7 +152,7 @@ module _ (i : Input) (m : Lent) (o : Opened) (m′ : Lent) (s : OpenSays i m o m
       let z : 0 + k ≡ k = omega arith in
       subst (λ (j : ℕ). Gives c (answerAt i j)) z (calls-walk i st (r .1) 0 (o .record) m′ cs (ap (roomFor i) (s .same-lengths) ∙ r .0) (s .accepted-open st e) q k c p)
 
-  demanded : refusal i ≡ none → roomFor i (lengthsOf m) ≡ true → Premises (walkOf i) (listIds (i .tips)) → Delivered i o m′
+  demanded : refusal i ≡ none → roomFor i (lengthsOf m) ≡ true → Premises (walkOf i) (listIds (widthIn i) (i .tips)) → Delivered i o m′
   unfolding Third openGiven
   demanded e room pre =
       let d = third i e pre in

@@ -1,10 +1,11 @@
 -- What an opening and a next call promise (document 01: Opening, A next call, and what follows its table). Assumes nothing.
 use Prim.Native.Nat.{ℕ, suc, _≤_}
-use Rattle.hash.specs.Bytes.{Id, idBytes}
+use Rattle.hash.specs.Bytes.{Id, widthOf}
 use Rattle.object.specs.Header.{most}
 use mathlib.Core.Path.{_≡_}
 use mathlib.Core.Logic.{_⊎_}
-use mathlib.Core.Option.{none}
+use mathlib.Core.Option.{Option, none}
+use lib.IntN.{ℤ}
 use mathlib.Core.Bool.{false}
 use mathlib.Core.List.{List, []}
 use lib.ListN.{length}
@@ -14,7 +15,7 @@ use Rattle.walk.specs.declared.Refusal.the-variants.{CommitNotFound, TooManyPar
 use Rattle.walk.specs.declared.Outcome.the-variants.{Refused}
 use Rattle.walk.specs.State.{State}
 use Rattle.walk.specs.Opening.{Input, Lengths, roomFor, openWalk, closed, opened}
-use Rattle.walk.specs.Next.{Answer, end, refused}
+use Rattle.walk.specs.Next.{Answer, end, refused, handed}
 use Rattle.walk.specs.Calls.{stateAfter, answerAt, shut}
 use Rattle.walk.specs.Reach.{Mem}
 use Rattle.walk.specs.AnyInput.{OfCall}
@@ -77,9 +78,9 @@ abbrev pub closedAnswer : Given
 closedAnswer = given shut
 
 -- "On touched memory … a call gives some answer of this paper": a commit, the end, or a refusal 9 to 12, with document 01's zeros and as
--- many parents as that answer can have; the ids that it counts, of 20 bytes each, stand at the start of parents, and "parents past the ids
+-- many parents as that answer can have; the ids that it counts, each as wide as the kind says, stand at the start of parents, and "parents past the ids
 -- given keeps its bytes"
-pub record OfPaper (a : Given) (before after : List ℕ) : Type 0 where
+pub record OfPaper (width : ℕ) (a : Given) (before after : List ℕ) : Type 0 where
   pub model : Answer
   pub is : a ≡ given model
   pub kind : (r : Refusal) → model .kind ≡ refused r → OfCall r ⊎ (model ≡ shut)
@@ -91,7 +92,8 @@ pub record OfPaper (a : Given) (before after : List ℕ) : Type 0 where
   pub bare-lost : model .kind ≡ refused CommitNotFound → model .parents ≡ []
   pub crowded : model .kind ≡ refused TooManyParents → (length (model .parents) ≡ most) ⊎ (model .parents ≡ [])
   pub few : length (model .parents) ≤ most
-  pub wide : (x : Id) → Mem x (model .parents) → length x ≡ idBytes
+  pub id-wide : (x : Id) (g : Option ℕ) (t : Option ℤ) → model .kind ≡ handed x g t → length x ≡ width
+  pub wide : (x : Id) → Mem x (model .parents) → length x ≡ width
   pub set-down : after ≡ parentsGiven model before
 
 -- what a call promises for the files f, the record r and the memory m, with what it gives back o and the memory after it m′
@@ -107,5 +109,5 @@ pub record NextSays (f : Files) (r : Record) (m : Lent) (o : Out) (m′ : Lent) 
   pub closed-call : r .live ≡ false → o .answer ≡ closedAnswer
   pub twelve : o .answer .outcome ≡ Refused Closed → (o .record ≡ r) × (m′ ≡ m) × (o .answer ≡ closedAnswer)
   -- always
-  pub of-paper : OfPaper (o .answer) (m .parents) (m′ .parents)
+  pub of-paper : OfPaper (widthOf (f .settings .kind)) (o .answer) (m .parents) (m′ .parents)
   pub same-lengths : lengthsOf m′ ≡ lengthsOf m

@@ -9,12 +9,13 @@ use mathlib.Core.List.{List, [], _∷_, _++_, map}
 use lib.ListN.{length, take, getD}
 use lib.Dec.{ltb}
 use Rattle.hash.specs.Bytes.{Id}
+use Rattle.object.specs.Ids.{padded, idIn}
 use Rattle.walk.specs.declared.Refusal.{Refusal}
 use Rattle.walk.specs.declared.Outcome.{Outcome}
 use Rattle.walk.specs.declared.Outcome.the-variants.{Commit, End, Refused}
 use Rattle.walk.specs.declared.OpenOutcome.the-variants.{Accepted, NotOpened}
 use Rattle.walk.specs.State.{State}
-use Rattle.walk.specs.Opening.{Input, walkOf, listIds, refusal, roomFor, P}
+use Rattle.walk.specs.Opening.{Input, walkOf, listIds, refusal, roomFor, P, widthIn}
 use Rattle.walk.specs.Next.{Answer}
 use Rattle.walk.specs.Calls.{answerAt}
 use Rattle.walk.specs.Reach.{Mem, NoDup}
@@ -67,10 +68,10 @@ idIf Commit x = x ∷ []
 idIf End x = []
 idIf (Refused r) x = []
 
--- the ids handed out, in order
-unfoldable pub handedOut : List Given → List Id
-handedOut [] = []
-handedOut (a ∷ rest) = idIf (a .outcome) (a .info .id) ++ handedOut rest
+-- the ids handed out, in order, by their width
+unfoldable pub handedOut : ℕ → List Given → List Id
+handedOut width [] = []
+handedOut width (a ∷ rest) = idIf (a .outcome) (idIn width (a .info .id)) ++ handedOut width rest
 
 unfoldable pub refusedIf : Outcome → Bool → ℕ
 refusedIf Commit left = 0
@@ -98,11 +99,11 @@ pub record Lists (i : Input) (list : List Id) (cs : List Call) : Type 0 where
   -- "Then the answers are those of 01's walk,"
   pub of-the-walk : OfTheWalk i cs
   -- "and the first n, or all if the calls are fewer, hand out different ones of these n,"
-  pub first-n : (k : ℕ) (c : Call) → CallIs cs k c → k < length list → (c .out .answer .outcome ≡ Commit) × (c .out .answer .info .id ≡ getD list k noId)
-  pub different : NoDup (handedOut (answersOf cs))
-  pub of-these : (x : Id) → Mem x (handedOut (answersOf cs)) → Mem x list
+  pub first-n : (k : ℕ) (c : Call) → CallIs cs k c → k < length list → (c .out .answer .outcome ≡ Commit) × (c .out .answer .info .id ≡ padded (getD list k noId))
+  pub different : NoDup (handedOut (widthIn i) (answersOf cs))
+  pub of-these : (x : Id) → Mem x (handedOut (widthIn i) (answersOf cs)) → Mem x list
   -- "so n calls hand out exactly them, each once."
-  pub n-calls : length list ≤ length cs → handedOut (answersOf cs) ≡ list
+  pub n-calls : length list ≤ length cs → handedOut (widthIn i) (answersOf cs) ≡ list
   -- "Every answer after the first n says end,"
   pub after-n : (k : ℕ) (c : Call) → CallIs cs k c → length list ≤ k → c .out .answer .outcome ≡ End
   -- "and no answer is a refusal."
@@ -115,7 +116,7 @@ pub record Delivered (i : Input) (o : Opened) (m : Lent) : Type 0 where
   -- the n different "commits reachable from an admitted tip over admitted links and from no hidden tip", and no others
   pub list : List Id
   pub no-repeats : NoDup list
-  pub exactly : (x : Id) → Mem x list ↔ Listed (walkOf i) (listIds (i .tips)) x
+  pub exactly : (x : Id) → Mem x list ↔ Listed (walkOf i) (listIds (widthIn i) (i .tips)) x
   -- "Take any list of next calls, also an empty one"
   pub every-list : (cs : List Call) → Calls (filesOf i) (o .record) m cs → Lists i list cs
 
@@ -123,11 +124,11 @@ pub record Delivered (i : Input) (o : Opened) (m : Lent) : Type 0 where
 pub record AnyCalls (i : Input) (cs : List Call) : Type 0 where
   pub of-the-walk : OfTheWalk i cs
   -- no commit is handed out twice
-  pub different : NoDup (handedOut (answersOf cs))
+  pub different : NoDup (handedOut (widthIn i) (answersOf cs))
   -- "handed and refused counted from the answers: admitted = handed + refused commits + struck by painting + waiting"
   pub sum : (k : ℕ) (c : Call) → CallIs cs k c
       → c .out .answer .admitted
-      ≡ length (handedOut (take (suc k) (answersOf cs))) + refusedCommits (take (suc k) (answersOf cs)) + c .out .answer .struck + c .out .answer .waiting
+      ≡ length (handedOut (widthIn i) (take (suc k) (answersOf cs))) + refusedCommits (take (suc k) (answersOf cs)) + c .out .answer .struck + c .out .answer .waiting
   -- "call P + 2 at latest says end" (its number is P + 1 counted from 0), and once said it stays
   pub end-by : (k : ℕ) (c : Call) → CallIs cs k c → P i + 1 ≤ k → c .out .answer .outcome ≡ End
   pub end-stays : (j k : ℕ) (c d : Call) → CallIs cs j c → CallIs cs k d → j ≤ k → c .out .answer .outcome ≡ End → d .out .answer .outcome ≡ End
@@ -145,7 +146,7 @@ pub record Shut (c : Call) : Type 0 where
 -- of an opening with the input i and the lent memory m, whatever it gave back (o, and memory left as m′), and every list of next calls after it
 pub record ThirdDemand (i : Input) (m : Lent) : Type 0 where
   -- none of 1 to 6 applies, and the premises hold
-  pub demanded : (o : Opened) (m′ : Lent) → OpenSays i m o m′ → refusal i ≡ none → roomFor i (lengthsOf m) ≡ true → Premises (walkOf i) (listIds (i .tips)) → Delivered i o m′
+  pub demanded : (o : Opened) (m′ : Lent) → OpenSays i m o m′ → refusal i ≡ none → roomFor i (lengthsOf m) ≡ true → Premises (walkOf i) (listIds (widthIn i) (i .tips)) → Delivered i o m′
   -- any accepted opening
   pub accepted-calls : (o : Opened) (m′ : Lent) → OpenSays i m o m′ → o .answer .outcome ≡ Accepted
       → (cs : List Call) → Calls (filesOf i) (o .record) m′ cs → AnyCalls i cs

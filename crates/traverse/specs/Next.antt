@@ -8,7 +8,8 @@ use Rattle.walk.specs.declared.Settings.{Settings}
 use Rattle.walk.specs.declared.Refusal.the-variants.{Closed}
 use Rattle.walk.specs.declared.Outcome.the-variants.{Refused}
 use Rattle.walk.specs.State.{State}
-use Rattle.walk.specs.Opening.{Input, Lengths, P, roomFor, openWalk, opened}
+use Rattle.hash.specs.declared.Kind.{Kind}
+use Rattle.walk.specs.Opening.{parentsRoom, Input, Lengths, P, roomFor, openWalk, opened}
 use Rattle.walk.specs.Calls.{stateAfter, answerAt}
 use Rattle.walk.specs.Given.{given, parentsGiven}
 use Rattle.state.specs.declared.Record.{Record}
@@ -17,14 +18,15 @@ use Rattle.state.specs.Shapes.{shapeOf}
 use Rattle.visit.specs.declared.next.Taken.{Taken}
 use Rattle.traverse.specs.declared.Out.{Out}
 use Rattle.traverse.specs.Contract.{Files, inputWith, Lent, lengthsOf, closedAnswer, OfPaper}
+use Rattle.hash.specs.Bytes.{widthOf}
 
 abbrev pub filesLent : List ℕ → List ℕ → List ℕ → List ℕ → Settings → Files
 filesLent store graph hidden excluded settings = record { store = store; graph = graph; hidden = hidden; excluded = excluded; settings = settings }
 
--- is_whole, with its answer a: the record is open, and every lent buffer has its size for the record's places
-pub record Whole (r : Record) (l : Lengths) (a : Bool) : Type 0 where
+-- is_whole, with its answer a: the record is open, and every lent buffer has its size for the record's places, with ids of this kind
+pub record Whole (kind : Kind) (r : Record) (l : Lengths) (a : Bool) : Type 0 where
   pub shut : r .live ≡ false → a ≡ false
-  pub alive : r .live ≡ true → (i : Input) → r .queue .cap ≡ P i → a ≡ roomFor i l
+  pub alive : r .live ≡ true → (i : Input) → i .settings .kind ≡ kind → r .queue .cap ≡ P i → a ≡ roomFor i l
 
 -- what a call gives back is this answer, and this record
 pub record GivesBack (t : Taken) (o : Out) : Type 0 where
@@ -44,4 +46,4 @@ pub record Goes (painted : Bool) (f : Files) (r : Record) (m : Lent) (o : Out) (
       × (m′ .parents ≡ parentsGiven (answerAt (inputWith f tips) k) (m .parents))
       × Reads (o .record) (m′ .memory) (shapeOf (inputWith f tips)) (stateAfter (inputWith f tips) (suc k))
   pub not-twelve : o .answer .outcome ≡ Refused Closed → ⊥
-  pub of-paper : 5120 ≤ length (m .parents) → OfPaper (o .answer) (m .parents) (m′ .parents)
+  pub of-paper : parentsRoom (widthOf (f .settings .kind)) ≤ length (m .parents) → OfPaper (widthOf (f .settings .kind)) (o .answer) (m .parents) (m′ .parents)

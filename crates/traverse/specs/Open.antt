@@ -6,14 +6,14 @@ use mathlib.Core.Option.{none}
 use mathlib.Core.List.{List, [], _∷_, List·Memᴰ}
 use lib.ListN.{length}
 use lib.IntN.{ℤ, pos}
-use Rattle.hash.specs.Bytes.{Id, idBytes, among}
+use Rattle.hash.specs.Bytes.{Id, widthOf, among}
 use Rattle.odb.specs.Store.{storeOk}
 use Rattle.walk.specs.declared.Sorting.{Sorting}
 use Rattle.walk.specs.declared.Refusal.{Refusal}
 use Rattle.walk.specs.Settings.{timed, cutoffOf, notBefore}
 use Rattle.walk.specs.Lookup.{World, worldOf}
 use Rattle.walk.specs.State.{Walk, State, emptyState, sees, waits}
-use Rattle.walk.specs.Opening.{Input, listIds, P, walkOf, refusal, closed, opened}
+use Rattle.walk.specs.Opening.{Input, listIds, P, walkOf, refusal, closed, opened, widthIn}
 use Rattle.walk.specs.Given.{openGiven}
 use Rattle.reading.specs.declared.tip.TipRead.{TipRead}
 use Rattle.reading.specs.declared.tip.TipRead.the-variants.{Good, Missing, Unreadable}
@@ -86,27 +86,27 @@ pub record Admits (r : Record) (times times′ : List ℤ) (line line′ : List 
   pub turned : how ≡ OnlySeen → Kept r times times′ line line′ r′
   pub joins : a .fresh ≡ true → (t : ℤ) → how ≡ Admitted (record { 0 = t }) → steps.Waits r times times′ line line′ (a .slot) t r′
 
--- a walk over these files
-abbrev pub Over : List ℕ → List ℕ → Sorting → Walk → Type 0
-Over store excluded o w = (graph : List ℕ) × (w .world ≡ worldOf store graph) × (w .excluded ≡ listIds excluded) × (w .settings .sorting ≡ o)
+-- a walk over these files, with ids so wide
+abbrev pub Over : ℕ → List ℕ → List ℕ → Sorting → Walk → Type 0
+Over width store excluded o w = (graph : List ℕ) × (w .world ≡ worldOf width store graph) × (w .excluded ≡ listIds width excluded) × (w .settings .sorting ≡ o)
 
 -- take_tip, with its answer r′: the tip x has come in, where there is room for all ids of u
-pub record TakesTip (store excluded : List ℕ) (o : Sorting) (m m′ : Memory) (x : Id) (r r′ : Record) : Type 0 where
+pub record TakesTip (width : ℕ) (store excluded : List ℕ) (o : Sorting) (m m′ : Memory) (x : Id) (r r′ : Record) : Type 0 where
   pub long : SameLengths m m′
-  pub taken : (w : Walk) (n : ℕ) (f : Fixed) (k : ℕ) (u : List Id) (st : State) → storeOk idBytes store ≡ true → Over store excluded o w → length x ≡ idBytes → List·Memᴰ x u → n ≤ 1048576 → k < 1048576
+  pub taken : (w : Walk) (n : ℕ) (f : Fixed) (k : ℕ) (u : List Id) (st : State) → widthOf (f .kind) ≡ width → storeOk width store ≡ true → Over width store excluded o w → length x ≡ width → List·Memᴰ x u → n ≤ 1048576 → k < 1048576
       → Early (shapeFor (w .settings) n f) u k r m st → Early (shapeFor (w .settings) n f) u (suc k) r′ m′ (tipIn w st x)
 
 -- filtered, with its answer r′: all tips have come in
-pub record TakesTips (store tips excluded : List ℕ) (o : Sorting) (m m′ : Memory) (r r′ : Record) : Type 0 where
+pub record TakesTips (width : ℕ) (store tips excluded : List ℕ) (o : Sorting) (m m′ : Memory) (r r′ : Record) : Type 0 where
   pub long : SameLengths m m′
-  pub taken : (w : Walk) (n : ℕ) (f : Fixed) (st : State) → storeOk idBytes store ≡ true → Over store excluded o w → n ≤ 1048576
-      → Early (shapeFor (w .settings) n f) (listIds tips) 0 r m st → Early (shapeFor (w .settings) n f) (listIds tips) (length tips / idBytes) r′ m′ (tipsAll w (listIds tips) st)
+  pub taken : (w : Walk) (n : ℕ) (f : Fixed) (st : State) → widthOf (f .kind) ≡ width → storeOk width store ≡ true → Over width store excluded o w → n ≤ 1048576
+      → Early (shapeFor (w .settings) n f) (listIds width tips) 0 r m st → Early (shapeFor (w .settings) n f) (listIds width tips) (length tips / width) r′ m′ (tipsAll w (listIds width tips) st)
 
 -- fill, with its answer r′: the memory reads as the walk's first state
 pub record Fills (i : Input) (m m′ : Memory) (r′ : Record) : Type 0 where
   pub long : SameLengths m m′
-  pub filled : refusal i ≡ none → steps.Lent (m .names) (m .marks) (m .times) (m .line) (P i)
-      → Reads r′ m′ (shapeOf i) (tipsAll (walkOf i) (listIds (i .tips)) emptyState)
+  pub filled : refusal i ≡ none → steps.Lent (widthIn i) (m .names) (m .marks) (m .times) (m .line) (P i)
+      → Reads r′ m′ (shapeOf i) (tipsAll (walkOf i) (listIds (widthIn i) (i .tips)) emptyState)
 
 pub record Refuses (r : Refusal) (o : Opened) : Type 0 where
   pub answer : o .answer ≡ openGiven (closed r)

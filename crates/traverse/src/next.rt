@@ -1,6 +1,7 @@
 // A next call: the first of a walk paints, and each takes the next commit of the queue. The record of counters comes and goes by value.
 use super::Out;
 use date::Zone;
+use hash::Kind;
 use painting::Painted;
 use state::Record;
 use visit::Taken;
@@ -27,6 +28,7 @@ ghost use Rattle.traverse.specs.Next.{filesLent, Whole, GivesBack, shutW
 
 // Whether the record is open, and every lent buffer has its size for the record's places.
 fn is_whole(
+    kind: Kind,
     record: Record,
     names: &[u8],
     marks: &[u8],
@@ -35,13 +37,14 @@ fn is_whole(
     line: &[u32],
     parents: &[u8],
 ) -> bool
-    ensures { λ a. ⌜ Whole «record» (lengthsOf (length (now (names .entry))) (length (now (marks .entry))) (length (now (levels .entry))) (length (now (times .entry))) (length (now (line .entry))) (length (now (parents .entry)))) a ⌝ }
+    ensures { λ a. ⌜ Whole kind «record» (lengthsOf (length (now (names .entry))) (length (now (marks .entry))) (length (now (levels .entry))) (length (now (times .entry))) (length (now (line .entry))) (length (now (parents .entry)))) a ⌝ }
 {
     if !record.live {
         return false;
     }
     let q = record.queue;
     opening::has_room(
+        kind,
         q.cap,
         names.len(),
         marks.len(),
@@ -57,7 +60,7 @@ fn no_commit() -> Info
     ensures { λ i. ⌜ i ≡ record { id = noId; parents = 0; generation = NoGeneration; time = NoTime; zone = NoZone } ⌝ }
 {
     Info {
-        id: [0u8; 20],
+        id: [0u8; 32],
         parents: 0,
         generation: MaybeLevel::NoGeneration,
         time: MaybeSeconds::NoTime,
@@ -171,7 +174,8 @@ pub fn step(
 ) -> Out
     ensures { λ o. ⌜ NextSays (filesLent (now (store .entry)) (now (graph .entry)) (now (hidden .entry)) (now (excluded .entry)) settings) «record» (lentOf (now (names .entry)) (now (marks .entry)) (now (levels .entry)) (now (times .entry)) (now (line .entry)) (now (parents .entry))) o (lentOf (now (names .exit)) (now (marks .exit)) (now (levels .exit)) (now (times .exit)) (now (line .exit)) (now (parents .exit))) ⌝ }
 {
-    if !is_whole(record, names, marks, levels, times, line, parents) {
+    let kind = settings.kind;
+    if !is_whole(kind, record, names, marks, levels, times, line, parents) {
         return closed(record);
     }
     if record.painted {

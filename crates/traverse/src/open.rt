@@ -29,7 +29,7 @@ ghost use Rattle.state.specs.Shapes.{fixedOf, freshRecord};
 ghost use Rattle.state.specs.Steps.{mem};
 ghost use Rattle.traverse.specs.Contract.{OpenSays};
 ghost use Rattle.traverse.specs.Open.{lentOf, readAs, admissionOf, Admits, TakesTip, TakesTips, Fills, Refuses, Accepts};
-ghost use Rattle.hash.specs.Bytes.{idBytes};
+ghost use Rattle.hash.specs.Bytes.{widthOf};
 
 // How a tip that is neither excluded nor a repeat comes in: it waits, with its seconds, or a cutoff turns it away and it is only seen.
 pub enum Admission {
@@ -87,13 +87,13 @@ fn read_as(sorting: Sorting, read: TipRead) -> Admission
 }
 
 // How a tip comes in: under a time order it is read, from the store alone.
-fn tip_admission(store: &[u8], sorting: Sorting, id: &[u8]) -> Admission
-    ensures { λ r. ⌜ (storeOk idBytes (now (store .entry)) ≡ true → (graph : List ℕ) → r ≡ admissionOf (worldOf (now (store .entry)) graph) sorting (now (id .entry))) ⌝ }
+fn tip_admission(kind: Kind, store: &[u8], sorting: Sorting, id: &[u8]) -> Admission
+    ensures { λ r. ⌜ (storeOk (widthOf kind) (now (store .entry)) ≡ true → (graph : List ℕ) → r ≡ admissionOf (worldOf (widthOf kind) (now (store .entry)) graph) sorting (now (id .entry))) ⌝ }
 {
     if !walk::is_timed(sorting) {
         return Admission::Admitted(Seconds(0));
     }
-    read_as(sorting, reading::read_tip(store, id))
+    read_as(sorting, reading::read_tip(kind, store, id))
 }
 
 // A tip that is new waits in its slot, or is only seen.
@@ -117,6 +117,7 @@ fn add_to_queue(
 
 // One tip of the list: an excluded one and a repeat are passed over.
 fn take_tip(
+    kind: Kind,
     r: Record,
     names: &mut [u8],
     marks: &mut [u8],
@@ -127,17 +128,24 @@ fn take_tip(
     sorting: Sorting,
     id: &[u8],
 ) -> Record
-    ensures { λ a. ⌜ TakesTip (now (store .entry)) (now (excluded .entry)) sorting (mem (now (names .entry)) (now (marks .entry)) (now (times .entry)) (now (line .entry))) (mem (now (names .exit)) (now (marks .exit)) (now (times .exit)) (now (line .exit))) (now (id .entry)) r a ⌝ }
+    ensures { λ a. ⌜ TakesTip (widthOf kind) (now (store .entry)) (now (excluded .entry)) sorting (mem (now (names .entry)) (now (marks .entry)) (now (times .entry)) (now (line .entry))) (mem (now (names .exit)) (now (marks .exit)) (now (times .exit)) (now (line .exit))) (now (id .entry)) r a ⌝ }
 {
-    if reading::is_among(excluded, id) {
+    if reading::is_among(kind, excluded, id) {
         return r;
     }
     let seen = state::see(r, names, marks, id);
-    add_to_queue(r, times, line, seen, tip_admission(store, sorting, id))
+    add_to_queue(
+        r,
+        times,
+        line,
+        seen,
+        tip_admission(kind, store, sorting, id),
+    )
 }
 
 // All tips, in list order (`filtered`, then `sorting`: each is tested, seen and queued where the order will want it).
 fn filtered(
+    kind: Kind,
     first: Record,
     names: &mut [u8],
     marks: &mut [u8],
@@ -148,14 +156,25 @@ fn filtered(
     excluded: &[u8],
     sorting: Sorting,
 ) -> Record
-    ensures { λ a. ⌜ TakesTips (now (store .entry)) (now (tips .entry)) (now (excluded .entry)) sorting (mem (now (names .entry)) (now (marks .entry)) (now (times .entry)) (now (line .entry))) (mem (now (names .exit)) (now (marks .exit)) (now (times .exit)) (now (line .exit))) first a ⌝ }
+    ensures { λ a. ⌜ TakesTips (widthOf kind) (now (store .entry)) (now (tips .entry)) (now (excluded .entry)) sorting (mem (now (names .entry)) (now (marks .entry)) (now (times .entry)) (now (line .entry))) (mem (now (names .exit)) (now (marks .exit)) (now (times .exit)) (now (line .exit))) first a ⌝ }
 {
-    let n = hash::ids_in(Kind::Sha1, tips.len());
+    let n = hash::ids_in(kind, tips.len());
     let mut r = first;
     let mut k = 0;
     while k < n {
-        let id = hash::nth(Kind::Sha1, tips, k);
-        r = take_tip(r, names, marks, times, line, store, excluded, sorting, id);
+        let id = hash::nth(kind, tips, k);
+        r = take_tip(
+            kind,
+            r,
+            names,
+            marks,
+            times,
+            line,
+            store,
+            excluded,
+            sorting,
+            id,
+        );
         k += 1;
     }
     r
@@ -173,11 +192,12 @@ fn first_record(settings: Settings, cap: usize, fixed: Fixed) -> Record
 }
 
 // What is found once, in the commit-graph file, for all calls.
-fn fixed_for(graph: &[u8]) -> Fixed
-    ensures { λ f. ⌜ f ≡ fixedOf (now (graph .entry)) ⌝ }
+fn fixed_for(kind: Kind, graph: &[u8]) -> Fixed
+    ensures { λ f. ⌜ f ≡ fixedOf kind (now (graph .entry)) ⌝ }
 {
     Fixed {
-        layout: commitgraph::parse(Kind::Sha1, graph),
+        layout: commitgraph::parse(kind, graph),
+        kind,
     }
 }
 
@@ -196,11 +216,23 @@ fn fill(
 ) -> Record
     ensures { λ a. ⌜ Fills (inputOf (now (store .entry)) (now (graph .entry)) (now (tips .entry)) (now (hidden .entry)) (now (excluded .entry)) settings) (mem (now (names .entry)) (now (marks .entry)) (now (times .entry)) (now (line .entry))) (mem (now (names .exit)) (now (marks .exit)) (now (times .exit)) (now (line .exit))) a ⌝ }
 {
-    let cap = opening::capacity(store, graph, tips, hidden);
+    let kind = settings.kind;
+    let cap = opening::capacity(kind, store, graph, tips, hidden);
     state::start(marks, cap);
-    let r = first_record(settings, cap, fixed_for(graph));
+    let r = first_record(settings, cap, fixed_for(kind, graph));
     let sorting = settings.sorting;
-    filtered(r, names, marks, times, line, store, tips, excluded, sorting)
+    filtered(
+        kind,
+        r,
+        names,
+        marks,
+        times,
+        line,
+        store,
+        tips,
+        excluded,
+        sorting,
+    )
 }
 
 // The record of a walk that is not open.
@@ -222,6 +254,7 @@ fn closed_record() -> Record
                 count: 0,
                 levels: false,
             },
+            kind: Kind::Sha1,
         },
         queue: Queue {
             timed: false,

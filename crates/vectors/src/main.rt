@@ -82,10 +82,10 @@ fn store_id(store: &[u8], id: &[u8]) {
 }
 
 fn store_ids(store: &[u8], ids: &[u8]) {
-    let n = ids.len() / 20;
+    let n = hash::ids_in(Kind::Sha1, ids.len());
     let mut k = 0;
     while k < n {
-        store_id(store, hash::id_at(Kind::Sha1, ids, 20 * k));
+        store_id(store, hash::nth(Kind::Sha1, ids, k));
         k += 1;
     }
 }
@@ -132,9 +132,10 @@ fn parent_lines(body: &[u8]) {
     };
     parent_at(body, at);
     let after = object::after_parents(Kind::Sha1, body, at);
+    let size = object::parent_size(Kind::Sha1);
     if at < after {
-        if 48 <= after {
-            parent_at(body, after - 48);
+        if size <= after {
+            parent_at(body, after - size);
         }
     }
 }
@@ -187,10 +188,10 @@ fn graph_id(graph: &[u8], l: Layout, id: &[u8]) {
 }
 
 fn graph_ids(graph: &[u8], l: Layout, ids: &[u8]) {
-    let n = ids.len() / 20;
+    let n = hash::ids_in(Kind::Sha1, ids.len());
     let mut k = 0;
     while k < n {
-        graph_id(graph, l, hash::id_at(Kind::Sha1, ids, 20 * k));
+        graph_id(graph, l, hash::nth(Kind::Sha1, ids, k));
         k += 1;
     }
 }
@@ -224,7 +225,7 @@ fn found<'a>(at: Either, graph: &'a [u8], store: &'a [u8]) {
 
 // Each id is looked for with another position tried first: the answer does not depend on it.
 fn find_ids<'a>(cache: Cache, graph: &'a [u8], store: &'a [u8], ids: &[u8]) {
-    let n = ids.len() / 20;
+    let n = hash::ids_in(Kind::Sha1, ids.len());
     let mut k = 0;
     while k < n {
         found(
@@ -233,7 +234,7 @@ fn find_ids<'a>(cache: Cache, graph: &'a [u8], store: &'a [u8], ids: &[u8]) {
                 cache,
                 graph,
                 store,
-                hash::id_at(Kind::Sha1, ids, 20 * k),
+                hash::nth(Kind::Sha1, ids, k),
                 k,
             ),
             graph,

@@ -1,9 +1,10 @@
--- What is set down stays inside the ids that are counted, and the answer has one of document 01's shapes, on any bytes: an id of at most 20
--- bytes changes nothing past its own place, and at most 256 parents come out of either file. Assumes nothing.
+-- What is set down stays inside the ids that are counted, and the answer has one of document 01's shapes, on any bytes: an id of at most its
+-- kind's bytes changes nothing past its own place, and at most 256 parents come out of either file. Assumes nothing.
 use mathlib.Core.Path.{_≡_, refl}
 use Prim.Native.Nat.{ℕ, _≤_}
 use mathlib.Core.List.{List}
 use native.Mathlib.Omega.{arith}
+use lib.ListN.{length}
 use Rattle.hash.specs.Bytes.{Id, at}
 use Rattle.object.specs.Header.{most}
 use Rattle.walk.specs.declared.Outcome.the-variants.{End, Refused}
@@ -25,10 +26,10 @@ use Rattle.visit.specs.Taking.{gave, endGiven}
 
 -- ---- the shape of an answer
 
-pub plain-end : {b : List ℕ} (r : Record) → Plain b b (gave End noId 0 NoGeneration NoTime NoZone r .answer)
+pub plain-end : {width : ℕ} {b : List ℕ} (r : Record) → Plain width b b (gave End noId 0 NoGeneration NoTime NoZone r .answer)
 plain-end r = record { shape = (record { no-id = refl; no-generation = refl; no-time = refl; no-zone = refl }, refl); few = omega arith; past = λ k h. refl }
 
-pub plain-bare : {b b′ : List ℕ} {w : Refusal} {n : ℕ} (r : Record) → OfCall w → Counted w n → n ≤ most → Past n b b′ → Plain b b′ (gave (Refused w) noId n NoGeneration NoTime NoZone r .answer)
+pub plain-bare : {width : ℕ} {b b′ : List ℕ} {why : Refusal} {n : ℕ} (r : Record) → OfCall why → Counted why n → n ≤ most → Past width n b b′ → Plain width b b′ (gave (Refused why) noId n NoGeneration NoTime NoZone r .answer)
 plain-bare r c m h p = record { shape = (record { no-id = refl; no-generation = refl; no-time = refl; no-zone = refl }, c, m); few = h; past = p .same }
 
 -- 9
@@ -44,10 +45,10 @@ counted-many : {n : ℕ} → n ≡ most → Counted TooManyParents n
 counted-many h = record { lost = λ e. let z : _≡_ {A = ℕ} 0 1 = cc in absurd (omega arith); crowded = λ e. h }
 
 -- after a body's parents
-pub plain-ends : {b b′ : List ℕ} {n : ℕ} (e : BodyEnd) (x : Id) (t : MaybeSeconds) (z : Zone) (r : Record) → (e ≡ Crowded → n ≡ most) → n ≤ most → Past n b b′ → Plain b b′ (endGiven e x n t z r .answer)
-plain-ends Whole x t z r m h p = record { shape = tt; few = h; past = p .same }
-plain-ends Unreadable x t z r m h p = plain-bare r (omega arith, omega arith) counted-bad h p
-plain-ends Crowded x t z r m h p = plain-bare r (omega arith, omega arith) (counted-many (m refl)) h p
+pub plain-ends : {width : ℕ} {b b′ : List ℕ} {n : ℕ} (e : BodyEnd) (x : Id) (t : MaybeSeconds) (z : Zone) (r : Record) → length x ≡ width → (e ≡ Crowded → n ≡ most) → n ≤ most → Past width n b b′ → Plain width b b′ (endGiven e x n t z r .answer)
+plain-ends Whole x t z r w m h p = record { shape = (x, w, refl); few = h; past = p .same }
+plain-ends Unreadable x t z r w m h p = plain-bare r (omega arith, omega arith) counted-bad h p
+plain-ends Crowded x t z r w m h p = plain-bare r (omega arith, omega arith) (counted-many (m refl)) h p
 
 -- ---- ends of a reading
 

@@ -3,8 +3,9 @@
 use Prim.Native.Nat.{ℕ, _*_, _≤_}
 use mathlib.Core.Path.{_≡_}
 use mathlib.Core.List.{List}
-use lib.ListN.{getD}
-use Rattle.hash.specs.Bytes.{idBytes}
+use lib.ListN.{length, getD}
+use Rattle.hash.specs.Bytes.{Id}
+use Rattle.object.specs.Ids.{padded}
 use Rattle.object.specs.Header.{most}
 use Rattle.walk.specs.declared.Outcome.{Outcome}
 use Rattle.walk.specs.declared.Outcome.the-variants.{Commit, End, Refused}
@@ -28,15 +29,15 @@ pub record Counted (r : Refusal) (n : ℕ) : Type 0 where
   pub lost : r ≡ CommitNotFound → n ≡ 0
   pub crowded : r ≡ TooManyParents → n ≡ most
 
--- a commit; the end, with no parents; or refusal 9, 10 or 11, with "ids already read … counted in the answer"
-abbrev pub ShapedBy : Outcome → Given → Type 0
-ShapedBy Commit a = Unit {0}
-ShapedBy End a = Bare a × (a .info .parents ≡ 0)
-ShapedBy (Refused r) a = Bare a × OfCall r × Counted r (a .info .parents)
+-- a commit, whose id is width bytes wide; the end, with no parents; or refusal 9, 10 or 11, with "ids already read … counted in the answer"
+abbrev pub ShapedBy : ℕ → Outcome → Given → Type 0
+ShapedBy width Commit a = (x : Id) × (length x ≡ width) × (a .info .id ≡ padded x)
+ShapedBy width End a = Bare a × (a .info .parents ≡ 0)
+ShapedBy width (Refused r) a = Bare a × OfCall r × Counted r (a .info .parents)
 
 -- an answer of document 01, with the buffer parents before and after it: at most 256 parents are counted, and "parents past the ids given
 -- keeps its bytes"
-pub record Plain (b b′ : List ℕ) (a : Given) : Type 0 where
-  pub shape : ShapedBy (a .outcome) a
+pub record Plain (width : ℕ) (b b′ : List ℕ) (a : Given) : Type 0 where
+  pub shape : ShapedBy width (a .outcome) a
   pub few : a .info .parents ≤ most
-  pub past : (k : ℕ) → idBytes * a .info .parents ≤ k → getD b′ k 0 ≡ getD b k 0
+  pub past : (k : ℕ) → width * a .info .parents ≤ k → getD b′ k 0 ≡ getD b k 0

@@ -7,15 +7,17 @@ use mathlib.Core.Option.{some}
 use mathlib.Core.List.{List, map, List·Memᴰ}
 use lib.ListN.{length, getD}
 use lib.IntN.{ℤ}
-use Rattle.hash.specs.Bytes.{Id}
+use Rattle.hash.specs.Bytes.{Id, widthOf}
 use Rattle.date.specs.declared.Seconds.{Seconds}
 use Rattle.date.specs.declared.Zone.{Zone}
 use Rattle.date.specs.declared.Zone.the-variants.{NoZone}
 use Rattle.object.specs.Header.{Header}
+use Rattle.object.specs.Ids.{padded}
 use Rattle.object.specs.Read.{zoneGiven}
 use Rattle.odb.specs.Store.{storeOk}
 use Rattle.commitgraph.specs.Graph.{graphOk, layoutOf}
 use Rattle.commitgraph.specs.declared.Layout.{Layout}
+use Rattle.walk.specs.Opening.{parentsRoom}
 use Rattle.walk.specs.declared.Settings.{Settings}
 use Rattle.walk.specs.declared.Outcome.{Outcome}
 use Rattle.walk.specs.declared.Outcome.the-variants.{Commit, Refused}
@@ -39,9 +41,8 @@ use Rattle.bodyvisit.specs.declared.body.BodyVisited.{BodyVisited}
 use Rattle.visit.specs.declared.next.Taken.{Taken}
 use Rattle.links.specs.Link.{GoesBy, Ready}
 use Rattle.visit.specs.Plain.{Plain}
-use Rattle.hash.specs.Bytes.{idBytes}
 
--- an answer with the running numbers of the record r
+-- an answer with the running numbers of the record r; x is an id by value
 abbrev pub gave : Outcome → Id → ℕ → MaybeLevel → MaybeSeconds → Zone → Record → Taken
 gave o x n l t z r = record {
   answer = record {
@@ -58,7 +59,7 @@ abbrev pub timeGiven : Bool → Seconds → MaybeSeconds
 timeGiven b s = cond b (Time s) NoTime
 
 abbrev pub endGiven : BodyEnd → Id → ℕ → MaybeSeconds → Zone → Record → Taken
-endGiven Whole x n t z r = gave Commit x n NoGeneration t z r
+endGiven Whole x n t z r = gave Commit (padded x) n NoGeneration t z r
 endGiven Unreadable x n t z r = gave (Refused CommitUnreadable) noId n NoGeneration NoTime NoZone r
 endGiven Crowded x n t z r = gave (Refused TooManyParents) noId n NoGeneration NoTime NoZone r
 
@@ -91,15 +92,15 @@ pub record InStore (v : Walk) (u : List Id) : Type 0 where
 
 -- the commit x, queued with t seconds and out of the queue already, from its body with the header h, where the store has that under x
 pub record TakesBody (excluded : List ℕ) (settings : Settings) (store : List ℕ) (h : Header) (r : Record) (x : Id) (t : ℤ) (m m′ : Memory) (b b′ : List ℕ) (a : Taken) : Type 0 where
-  pub right : storeOk idBytes store ≡ true → (g : List ℕ) (v : Walk) (sh : Shape) (st : State) (u : List Id) (t′ : ℤ) → GoesBy v sh excluded settings → v .world ≡ worldOf store g
-      → v .world .store x ≡ some h → Ready sh r m st u 256 → InStore v u → (sh .timed ≡ true → t ≡ t′) → 5120 ≤ length b → Gives sh m m′ b b′ a (fromBody v st x t′ (some h))
-  pub plain : Plain b b′ (a .answer)
+  pub right : storeOk (widthOf (settings .kind)) store ≡ true → (g : List ℕ) (v : Walk) (sh : Shape) (st : State) (u : List Id) (t′ : ℤ) → GoesBy v sh excluded settings → v .world ≡ worldOf (widthOf (settings .kind)) store g
+      → v .world .store x ≡ some h → Ready sh r m st u 256 → InStore v u → (sh .timed ≡ true → t ≡ t′) → parentsRoom (widthOf (settings .kind)) ≤ length b → Gives sh m m′ b b′ a (fromBody v st x t′ (some h))
+  pub plain : Plain (widthOf (settings .kind)) b b′ (a .answer)
 
 -- the first of the queue, from the store alone
 pub record TakesStored (excluded : List ℕ) (settings : Settings) (store : List ℕ) (r : Record) (m m′ : Memory) (b b′ : List ℕ) (a : Taken) : Type 0 where
-  pub right : storeOk idBytes store ≡ true → (g : List ℕ) (v : Walk) (sh : Shape) (st : State) (u : List Id) → GoesBy v sh excluded settings → v .world ≡ worldOf store g
-      → Rests sh r m st u → InStore v u → 5120 ≤ length b → Gives sh m m′ b b′ a (takeStore v st (st .queue))
-  pub plain : Plain b b′ (a .answer)
+  pub right : storeOk (widthOf (settings .kind)) store ≡ true → (g : List ℕ) (v : Walk) (sh : Shape) (st : State) (u : List Id) → GoesBy v sh excluded settings → v .world ≡ worldOf (widthOf (settings .kind)) store g
+      → Rests sh r m st u → InStore v u → parentsRoom (widthOf (settings .kind)) ≤ length b → Gives sh m m′ b b′ a (takeStore v st (st .queue))
+  pub plain : Plain (widthOf (settings .kind)) b b′ (a .answer)
 
 -- n was popped: the first of the state's queue, which was y ∷ l; m is the memory since
 pub record Popped (sh : Shape) (m : Memory) (st : State) (u : List Id) (y : Id × ℤ) (l : List (Id × ℤ)) (n : Next) : Type 0 where
@@ -110,12 +111,12 @@ pub record Popped (sh : Shape) (m : Memory) (st : State) (u : List Id) (y : Id �
 
 -- the popped commit from its row at position p, or, where that is corrupt, the first of the queue from the store alone
 pub record TakesCached (excluded : List ℕ) (settings : Settings) (graph : List ℕ) (l : Layout) (p : ℕ) (store : List ℕ) (n : Next) (m m′ : Memory) (b b′ : List ℕ) (a : Taken) : Type 0 where
-  pub right : storeOk idBytes store ≡ true → graphOk idBytes graph ≡ true → l ≡ layoutOf idBytes graph → (v : Walk) (sh : Shape) (st : State) (u : List Id) (y : Id × ℤ) (ys : List (Id × ℤ))
-      → GoesBy v sh excluded settings → v .world ≡ worldOf store graph → Popped sh m st u y ys n → st .kept ≡ true → v .world .graph (y .0) ≡ rowAt graph p → InRows v u → InStore v u → 5120 ≤ length b
-      → Gives sh m m′ b b′ a (takeRow v st y ys (rowAt graph p))
-  pub plain : Plain b b′ (a .answer)
+  pub right : storeOk (widthOf (settings .kind)) store ≡ true → graphOk (widthOf (settings .kind)) graph ≡ true → l ≡ layoutOf (widthOf (settings .kind)) graph → (v : Walk) (sh : Shape) (st : State) (u : List Id) (y : Id × ℤ) (ys : List (Id × ℤ))
+      → GoesBy v sh excluded settings → v .world ≡ worldOf (widthOf (settings .kind)) store graph → Popped sh m st u y ys n → st .kept ≡ true → v .world .graph (y .0) ≡ rowAt (widthOf (settings .kind)) graph p → InRows v u → InStore v u → parentsRoom (widthOf (settings .kind)) ≤ length b
+      → Gives sh m m′ b b′ a (takeRow v st y ys (rowAt (widthOf (settings .kind)) graph p))
+  pub plain : Plain (widthOf (settings .kind)) b b′ (a .answer)
 
 -- the next commit, where the opening found what it fixed in this graph file
 pub record TakesNext (excluded : List ℕ) (settings : Settings) (graph store : List ℕ) (r : Record) (m m′ : Memory) (b b′ : List ℕ) (a : Taken) : Type 0 where
-  pub right : storeOk idBytes store ≡ true → (isEmpty graph || graphOk idBytes graph) ≡ true → (v : Walk) (sh : Shape) (st : State) (u : List Id) → GoesBy v sh excluded settings → sh .fixed ≡ fixedOf graph
-      → v .world ≡ worldOf store graph → Rests sh r m st u → InRows v u → InStore v u → 5120 ≤ length b → Gives sh m m′ b b′ a (takeNext v st)
+  pub right : storeOk (widthOf (settings .kind)) store ≡ true → (isEmpty graph || graphOk (widthOf (settings .kind)) graph) ≡ true → (v : Walk) (sh : Shape) (st : State) (u : List Id) → GoesBy v sh excluded settings → sh .fixed ≡ fixedOf (settings .kind) graph
+      → v .world ≡ worldOf (widthOf (settings .kind)) store graph → Rests sh r m st u → InRows v u → InStore v u → parentsRoom (widthOf (settings .kind)) ≤ length b → Gives sh m m′ b b′ a (takeNext v st)

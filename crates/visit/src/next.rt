@@ -28,9 +28,9 @@ ghost use Rattle.walk.specs.declared.MaybeLevel.the-variants.{NoGeneration};
 ghost use Rattle.walk.specs.declared.MaybeSeconds.the-variants.{NoTime};
 ghost use Rattle.walk.specs.Given.{noId, levelGiven};
 ghost use Rattle.walk.specs.Next.{levelShown};
-ghost use Rattle.hash.specs.Bytes.{idBytes};
+ghost use Rattle.hash.specs.Bytes.{widthOf};
 ghost use Rattle.object.specs.Header.{header};
-ghost use Rattle.object.specs.Ids.{idIn};
+ghost use Rattle.object.specs.Ids.{padded, idIn};
 ghost use Rattle.date.specs.declared.Zone.the-variants.{NoZone};
 ghost use Rattle.state.specs.Steps.{mem};
 ghost use Rattle.visit.specs.Taking.{gave, timeGiven, EndsBody, TakesBody, TakesStored, TakesCached, TakesNext};
@@ -42,13 +42,11 @@ pub struct Taken {
     pub after: Record,
 }
 
-// An id as an answer has it.
-fn id_given(id: ObjectId) -> [u8; 20]
-    ensures { λ r. ⌜ r ≡ idIn idBytes (id .bytes) ⌝ }
+// An id as an answer has it: zeros stand after it.
+fn id_given(kind: Kind, id: ObjectId) -> ObjectId
+    ensures { λ r. ⌜ r .bytes ≡ padded (idIn (widthOf kind) (id .bytes)) ⌝ }
 {
-    let mut bytes = [0u8; 20];
-    hash::set_down(&mut bytes, 0, object::id_slice(Kind::Sha1, &id.bytes));
-    bytes
+    object::id_of(object::id_slice(kind, &id.bytes))
 }
 
 // An answer with the running numbers of a record.
@@ -61,10 +59,10 @@ fn give(
     zone: Zone,
     r: Record,
 ) -> Taken
-    ensures { λ a. ⌜ a ≡ gave outcome (idIn idBytes (id .bytes)) parents generation time zone r ⌝ }
+    ensures { λ a. ⌜ a ≡ gave outcome (id .bytes) parents generation time zone r ⌝ }
 {
     let q = r.queue;
-    let bytes = id_given(id);
+    let bytes = id.bytes;
     let info = Info {
         id: bytes,
         parents,
@@ -108,13 +106,21 @@ fn time_given(timed: bool, s: Seconds) -> MaybeSeconds
 }
 
 // The answer for a commit from its row, of which n parents were visited.
-fn give_row(r: Record, id: ObjectId, s: Seconds, n: usize, level: Level, after: Record) -> Taken
-    ensures { λ a. ⌜ a ≡ gave Outcome.Commit (idIn idBytes (id .bytes)) n (levelGiven (levelShown (level .0))) (timeGiven (r .queue .timed) s) NoZone after ⌝ }
+fn give_row(
+    kind: Kind,
+    r: Record,
+    id: ObjectId,
+    s: Seconds,
+    n: usize,
+    level: Level,
+    after: Record,
+) -> Taken
+    ensures { λ a. ⌜ a ≡ gave Outcome.Commit (padded (idIn (widthOf kind) (id .bytes))) n (levelGiven (levelShown (level .0))) (timeGiven (r .queue .timed) s) NoZone after ⌝ }
 {
     let q = r.queue;
     give(
         Outcome::Commit,
-        id,
+        id_given(kind, id),
         n,
         reading::level_shown(level),
         time_given(q.timed, s),
@@ -124,18 +130,18 @@ fn give_row(r: Record, id: ObjectId, s: Seconds, n: usize, level: Level, after: 
 }
 
 // The answer after the parents of a body, with the zone of its committer line, which is read past all parents.
-fn end_body(seen: BodyVisited, id: ObjectId, time: MaybeSeconds, body: &[u8]) -> Taken
-    ensures { λ a. ⌜ EndsBody seen (header idBytes (now (body .entry))) (idIn idBytes (id .bytes)) time a ⌝ }
+fn end_body(kind: Kind, seen: BodyVisited, id: ObjectId, time: MaybeSeconds, body: &[u8]) -> Taken
+    ensures { λ a. ⌜ EndsBody seen (header (widthOf kind) (now (body .entry))) (idIn (widthOf kind) (id .bytes)) time a ⌝ }
 {
     let ends = seen.ends;
     match ends {
         BodyEnd::Whole => give(
             Outcome::Commit,
-            id,
+            id_given(kind, id),
             seen.parents,
             MaybeLevel::NoGeneration,
             time,
-            reading::zone_past(body, seen.parents),
+            reading::zone_past(kind, body, seen.parents),
             seen.after,
         ),
         BodyEnd::Unreadable => refuse(Refusal::CommitUnreadable, seen.parents, seen.after),
@@ -159,8 +165,9 @@ fn take_body(
     excluded: &[u8],
     settings: Settings,
 ) -> Taken
-    ensures { λ a. ⌜ TakesBody (now (excluded .entry)) settings (now (store .entry)) (header idBytes (now (body .entry))) r (idIn idBytes (id .bytes)) (s .0) (mem (now (names .entry)) (now (marks .entry)) (now (times .entry)) (now (line .entry))) (mem (now (names .exit)) (now (marks .exit)) (now (times .exit)) (now (line .exit))) (now (parents .entry)) (now (parents .exit)) a ⌝ }
+    ensures { λ a. ⌜ TakesBody (now (excluded .entry)) settings (now (store .entry)) (header (widthOf (settings .kind)) (now (body .entry))) r (idIn (widthOf (settings .kind)) (id .bytes)) (s .0) (mem (now (names .entry)) (now (marks .entry)) (now (times .entry)) (now (line .entry))) (mem (now (names .exit)) (now (marks .exit)) (now (times .exit)) (now (line .exit))) (now (parents .entry)) (now (parents .exit)) a ⌝ }
 {
+    let kind = settings.kind;
     let q = r.queue;
     let seen = visit_body(
         r,
@@ -175,7 +182,7 @@ fn take_body(
         excluded,
         settings,
     );
-    end_body(seen, id, time_given(q.timed, s), body)
+    end_body(kind, seen, id, time_given(q.timed, s), body)
 }
 
 // The end of the walk.
@@ -233,18 +240,14 @@ fn take_stored(
 ) -> Taken
     ensures { λ a. ⌜ TakesStored (now (excluded .entry)) settings (now (store .entry)) r (mem (now (names .entry)) (now (marks .entry)) (now (times .entry)) (now (line .entry))) (mem (now (names .exit)) (now (marks .exit)) (now (times .exit)) (now (line .exit))) (now (parents .entry)) (now (parents .exit)) a ⌝ }
 {
+    let kind = settings.kind;
     let first = state::pop(r, names, times, line);
     if !first.found {
         return end_walk(r);
     }
     let id = first.id;
     let near = noted(levels, first.slot);
-    let at = odb::locate_near(
-        Kind::Sha1,
-        store,
-        object::id_slice(Kind::Sha1, &id.bytes),
-        near,
-    );
+    let at = odb::locate_near(kind, store, object::id_slice(kind, &id.bytes), near);
     match at {
         Located::Body { .. } => take_body(
             first.rest,
@@ -284,6 +287,7 @@ fn take_cached(
 ) -> Taken
     ensures { λ a. ⌜ TakesCached (now (excluded .entry)) settings (now (graph .entry)) l position (now (store .entry)) first (mem (now (names .entry)) (now (marks .entry)) (now (times .entry)) (now (line .entry))) (mem (now (names .exit)) (now (marks .exit)) (now (times .exit)) (now (line .exit))) (now (parents .entry)) (now (parents .exit)) a ⌝ }
 {
+    let kind = settings.kind;
     match rowvisit::visit_cached(
         first.rest,
         graph,
@@ -302,7 +306,7 @@ fn take_cached(
             after,
             parents: n,
             level,
-        } => give_row(first.rest, first.id, first.seconds, n, level, after),
+        } => give_row(kind, first.rest, first.id, first.seconds, n, level, after),
         RowVisited::Corrupt => {
             let back = state::drop_graph(first.rest, times, line, first.slot);
             take_stored(
@@ -336,8 +340,9 @@ pub fn next_by_topology_or_commit_date(
     excluded: &[u8],
     settings: Settings,
 ) -> Taken
-    ensures { λ a. ⌜ TakesNext (now (excluded .entry)) settings (now (graph .entry)) (now (store .entry)) r (mem (now (names .entry)) (now (marks .entry)) (now (times .entry)) (now (line .entry))) (mem (now (names .exit)) (now (marks .exit)) (now (times .exit)) (now (line .exit))) (now (parents .entry)) (now (parents .exit)) a × Plain (now (parents .entry)) (now (parents .exit)) (a .answer) ⌝ }
+    ensures { λ a. ⌜ TakesNext (now (excluded .entry)) settings (now (graph .entry)) (now (store .entry)) r (mem (now (names .entry)) (now (marks .entry)) (now (times .entry)) (now (line .entry))) (mem (now (names .exit)) (now (marks .exit)) (now (times .exit)) (now (line .exit))) (now (parents .entry)) (now (parents .exit)) a × Plain (widthOf (settings .kind)) (now (parents .entry)) (now (parents .exit)) (a .answer) ⌝ }
 {
+    let kind = settings.kind;
     let first = state::pop(r, names, times, line);
     if !first.found {
         return end_walk(r);
@@ -348,11 +353,11 @@ pub fn next_by_topology_or_commit_date(
     let id = first.id;
     let near = noted(levels, first.slot);
     let at = commit::find(
-        Kind::Sha1,
+        kind,
         cache,
         graph,
         store,
-        object::id_slice(Kind::Sha1, &id.bytes),
+        object::id_slice(kind, &id.bytes),
         near,
     );
     match at {

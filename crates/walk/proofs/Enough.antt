@@ -15,7 +15,7 @@ use Rattle.commitgraph.specs.Graph.{graphCount}
 use Rattle.walk.specs.declared.Refusal.the-variants.{CommitUnreadable, TooManyParents}
 use Rattle.walk.specs.Lookup.{World, Row, no-row, corrupt, row, fail, good, fromStore, readRow, read, parentsOf, Pair, noGeneration}
 use Rattle.walk.specs.State.{ids, State}
-use Rattle.walk.specs.Opening.{Input, walkOf, P, openWalk, opened}
+use Rattle.walk.specs.Opening.{Input, walkOf, P, openWalk, opened, widthIn}
 use Rattle.walk.specs.Painting.{Paint, Painting, stop, going, then, turn, turns, fresh, paint, markAll, sorted, unpainted, VISIBLE, HIDDEN}
 use Rattle.walk.specs.Universe.{storeParents, rowIds, names}
 use Rattle.walk.specs.Reach.{Mem}
@@ -92,11 +92,11 @@ turns-suffice i st e =
     omega (
       arith,
       f .short,
-      length-append (storeParents (i .store)) (rowIds (i .graph) (graphCount (i .graph))),
-      rowIds-length (i .graph) (graphCount (i .graph)),
-      storeParents-length (i .store) (a .store-ok),
-      length-list (i .tips),
-      length-list (i .hidden),
+      length-append (storeParents (widthIn i) (i .store)) (rowIds (widthIn i) (i .graph) (graphCount (i .graph))),
+      rowIds-length (widthIn i) (i .graph) (graphCount (i .graph)),
+      storeParents-length (widthIn i) (i .store) (a .store-ok),
+      length-list (widthIn i) (i .tips),
+      length-list (widthIn i) (i .hidden),
       length-ids (st .queue),
     )
 

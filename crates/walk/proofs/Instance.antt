@@ -22,7 +22,7 @@ use Rattle.walk.specs.Next.{Kind}
 use Rattle.walk.specs.Calls.{walkAll}
 use Rattle.walk.specs.Reach.{Mem, links, Reaches, itself, through}
 use Rattle.walk.specs.Demand.{Readable, Agrees, Region, Premises, pairAt, rowGeneration, Third, Delivers}
-use Rattle.walk.specs.Runs.{sample, all, firstOnly, idFor, names, kinds}
+use Rattle.walk.specs.Runs.{sample, all, firstOnly, kinds, sampleWide}
 use Rattle.walk.specs.Slips.{idsFor, inputWith, fork, listing, grown, earlier}
 use Rattle.walk.specs.Instances.{Meets, hiding, firstHiding, allListed, partListed, Instances}
 use Rattle.walk.proofs.Open.{among-mem}
@@ -126,58 +126,58 @@ module _ (v : Walk) (tips us : List Id) (all-agree : AllAgree (v .world) us)
 history : List Id
 history = idsFor (1 ∷ 2 ∷ 3 ∷ 4 ∷ 5 ∷ 6 ∷ 7 ∷ 8 ∷ [])
 
-sample-rows : (x : Id) → worldOf sample [] .graph x ≡ no-row
+sample-rows : (x : Id) → worldOf 20 sample [] .graph x ≡ no-row
 unfolding worldOf
-sample-rows x = rw (find-nil x)
+sample-rows x = rw (find-nil 20 x)
 
-sample-fit : every (fit (worldOf sample []) history) history ≡ true
-unfolding every fit isGood links pairAt rowGeneration history idsFor sample bytesAll idListAll headerAll storeAll graphAll walkAll
+sample-fit : every (fit (worldOf 20 sample []) history) history ≡ true
+unfolding every fit isGood links pairAt rowGeneration history idsFor sampleWide bytesAll idListAll headerAll storeAll graphAll walkAll
 sample-fit = refl
 
-hiding-tips : every (λ x. among x history) (listIds (hiding .tips)) ≡ true
-unfolding every hiding history idsFor bytesAll walkAll
+hiding-tips : every (λ x. among x history) (listIds 20 (hiding .tips)) ≡ true
+unfolding every hiding all history idsFor bytesAll walkAll
 hiding-tips = refl
 
 hiding-hidden : every (λ x. among x history) (walkOf hiding .hidden) ≡ true
-unfolding every hiding history idsFor bytesAll walkAll
+unfolding every hiding all history idsFor bytesAll walkAll
 hiding-hidden = refl
 
-hiding-premises : Premises (walkOf hiding) (listIds (hiding .tips))
-unfolding hiding walkOf
+hiding-premises : Premises (walkOf hiding) (listIds 20 (hiding .tips))
+unfolding hiding all walkOf
 hiding-premises =
-    premises (walkOf hiding) (listIds (hiding .tips)) history (all-unlisted (worldOf sample []) sample-rows history) hiding-tips hiding-hidden sample-fit
+    premises (walkOf hiding) (listIds 20 (hiding .tips)) history (all-unlisted (worldOf 20 sample []) sample-rows history) hiding-tips hiding-hidden sample-fit
 
-first-tips : every (λ x. among x history) (listIds (firstHiding .tips)) ≡ true
-unfolding every firstHiding history idsFor bytesAll walkAll
+first-tips : every (λ x. among x history) (listIds 20 (firstHiding .tips)) ≡ true
+unfolding every firstHiding firstOnly history idsFor bytesAll walkAll
 first-tips = refl
 
 first-hidden : every (λ x. among x history) (walkOf firstHiding .hidden) ≡ true
-unfolding every firstHiding history idsFor bytesAll walkAll
+unfolding every firstHiding firstOnly history idsFor bytesAll walkAll
 first-hidden = refl
 
-first-premises : Premises (walkOf firstHiding) (listIds (firstHiding .tips))
-unfolding firstHiding walkOf
+first-premises : Premises (walkOf firstHiding) (listIds 20 (firstHiding .tips))
+unfolding firstHiding firstOnly walkOf
 first-premises =
-    premises (walkOf firstHiding) (listIds (firstHiding .tips)) history (all-unlisted (worldOf sample []) sample-rows history) first-tips first-hidden sample-fit
+    premises (walkOf firstHiding) (listIds 20 (firstHiding .tips)) history (all-unlisted (worldOf 20 sample []) sample-rows history) first-tips first-hidden sample-fit
 
 forked : List Id
 forked = idsFor (1 ∷ 2 ∷ 3 ∷ 4 ∷ [])
 
 -- each of its commits has a row
 forked-agree : AllAgree (walkOf allListed .world) forked
-unfolding forked allListed idsFor fork listing links bytesAll idListAll headerAll storeAll graphAll walkAll
+unfolding forked allListed all idsFor fork listing links bytesAll idListAll headerAll storeAll graphAll walkAll
 forked-agree = ((refl, refl), ((refl, refl), ((refl, refl), ((refl, refl), tt))))
 
-forked-tips : every (λ x. among x forked) (listIds (allListed .tips)) ≡ true
-unfolding every allListed forked idsFor bytesAll walkAll
+forked-tips : every (λ x. among x forked) (listIds 20 (allListed .tips)) ≡ true
+unfolding every allListed all forked idsFor bytesAll walkAll
 forked-tips = refl
 
 forked-hidden : every (λ x. among x forked) (walkOf allListed .hidden) ≡ true
-unfolding every allListed forked idsFor bytesAll walkAll
+unfolding every allListed all forked idsFor bytesAll walkAll
 forked-hidden = refl
 
 forked-fit : every (fit (walkOf allListed .world) forked) forked ≡ true
-unfolding every fit isGood links pairAt rowGeneration forked allListed idsFor fork listing bytesAll idListAll headerAll storeAll graphAll walkAll
+unfolding every fit isGood links pairAt rowGeneration forked allListed all idsFor fork listing bytesAll idListAll headerAll storeAll graphAll walkAll
 forked-fit = refl
 
 grownUp : List Id
@@ -185,34 +185,34 @@ grownUp = idsFor (1 ∷ 2 ∷ 3 ∷ 4 ∷ 5 ∷ [])
 
 -- 2 has none
 grown-agree : AllAgree (walkOf partListed .world) grownUp
-unfolding grownUp partListed idsFor grown earlier links bytesAll idListAll headerAll storeAll graphAll walkAll
+unfolding grownUp partListed all idsFor grown earlier links bytesAll idListAll headerAll storeAll graphAll walkAll
 grown-agree = ((refl, refl), (tt, ((refl, refl), ((refl, refl), ((refl, refl), tt)))))
 
-grown-tips : every (λ x. among x grownUp) (listIds (partListed .tips)) ≡ true
-unfolding every partListed grownUp idsFor bytesAll walkAll
+grown-tips : every (λ x. among x grownUp) (listIds 20 (partListed .tips)) ≡ true
+unfolding every partListed all grownUp idsFor bytesAll walkAll
 grown-tips = refl
 
 grown-hidden : every (λ x. among x grownUp) (walkOf partListed .hidden) ≡ true
-unfolding every partListed grownUp idsFor bytesAll walkAll
+unfolding every partListed all grownUp idsFor bytesAll walkAll
 grown-hidden = refl
 
 grown-fit : every (fit (walkOf partListed .world) grownUp) grownUp ≡ true
-unfolding every fit isGood links pairAt rowGeneration grownUp partListed idsFor grown earlier bytesAll idListAll headerAll storeAll graphAll walkAll
+unfolding every fit isGood links pairAt rowGeneration grownUp partListed all idsFor grown earlier bytesAll idListAll headerAll storeAll graphAll walkAll
 grown-fit = refl
 
 pub instances : Instances
-unfolding kinds hiding firstHiding allListed partListed all firstOnly sample fork listing grown earlier bytesAll idListAll headerAll storeAll graphAll walkAll
+unfolding kinds hiding firstHiding allListed partListed all firstOnly sampleWide fork listing grown earlier bytesAll idListAll headerAll storeAll graphAll walkAll
 instances = record {
   no-graph = record { accepted = refl; premises = hiding-premises; says = refl };
   by-first = record { accepted = refl; premises = first-premises; says = refl };
   with-graph = record {
     accepted = refl;
-    premises = premises (walkOf allListed) (listIds (allListed .tips)) forked forked-agree forked-tips forked-hidden forked-fit;
+    premises = premises (walkOf allListed) (listIds 20 (allListed .tips)) forked forked-agree forked-tips forked-hidden forked-fit;
     says = refl;
   };
   with-part = record {
     accepted = refl;
-    premises = premises (walkOf partListed) (listIds (partListed .tips)) grownUp grown-agree grown-tips grown-hidden grown-fit;
+    premises = premises (walkOf partListed) (listIds 20 (partListed .tips)) grownUp grown-agree grown-tips grown-hidden grown-fit;
     says = refl;
   };
 }

@@ -8,7 +8,7 @@ use mathlib.Core.List.{List, map}
 use native.Mathlib.Omega.{arith}
 use lib.IntN.{ℤ}
 use borrow.Author.Tests.{eq-eqb, ne-eqb}
-use Rattle.hash.specs.Bytes.{Id, ifSome, idBytes}
+use Rattle.hash.specs.Bytes.{Id, ifSome}
 use Rattle.object.specs.Header.{Header}
 use Rattle.commitgraph.specs.Graph.{graphFind, graphParents, graphId, graphSeconds, generation, noGeneration, statedLevel, layoutOf, placesOf, rowIn}
 use Rattle.commitgraph.proofs.Levels.{zero-level, levels-all, level-used}
@@ -17,7 +17,7 @@ use Rattle.walk.specs.declared.Refusal.the-variants.{CommitNotFound, Com
 use Rattle.walk.specs.Lookup.{World, Row, no-row, corrupt, row, rowAt, worldOf, Read, fail, good, fromStore, readRow, read, Pair}
 use Rattle.walk.specs.Demand.{rowGeneration, pairAt}
 use Rattle.walk.specs.State.{Walk, State}
-use Rattle.walk.specs.Opening.{Input, walkOf, Opening, closed, opened, openWalk}
+use Rattle.walk.specs.Opening.{Input, walkOf, Opening, closed, opened, openWalk, widthIn}
 use Rattle.walk.specs.Next.{Kind, end, refused, handed, levelShown, Step, step, dropped, queuedSeconds, ending, kindOf, paintedWith, next}
 use Rattle.walk.specs.Calls.{answerOn, answerAt, stateAfter}
 use Rattle.walk.specs.Levels.{ZeroRow, NoLevels, NeverComputed}
@@ -38,20 +38,20 @@ shown-some l e = rw (ne-eqb l noGeneration e)
 pub record Unlevelled (w : World) : Type 0 where
   pub rows : (x : Id) (ps : List (Id × ℤ)) (l : ℕ) (s : ℤ) → w .graph x ≡ row ps l s → l ≡ noGeneration
 
-module _ (b g : List ℕ) (z : ZeroRow g) where
-  world-unlevelled : Unlevelled (worldOf b g)
+module _ (width : ℕ) (b g : List ℕ) (z : ZeroRow width g) where
+  world-unlevelled : Unlevelled (worldOf width b g)
   unfolding worldOf rowAt
-  world-unlevelled = record { rows = λ x ps l s e. go x ps l s (graphFind idBytes g x) refl e }
+  world-unlevelled = record { rows = λ x ps l s e. go x ps l s (graphFind width g x) refl e }
     where
       on : (p : ℕ) (ps : List (Id × ℤ)) (l : ℕ) (s : ℤ) (o : Option (List ℕ))
-          → ifSome o corrupt (λ qs. row (map (λ q. (graphId idBytes g q, graphSeconds idBytes g q)) qs) (generation idBytes g p) (graphSeconds idBytes g p)) ≡ row ps l s
+          → ifSome o corrupt (λ qs. row (map (λ q. (graphId width g q, graphSeconds width g q)) qs) (generation width g p) (graphSeconds width g p)) ≡ row ps l s
           → l ≡ noGeneration
       on p ps l s none e = let n : _≡_ {A = ℕ} 0 1 = cc in absurd (omega arith)
-      on p ps l s (some qs) e = let n : l ≡ generation idBytes g p = cc in n ∙ zero-level idBytes g (z .position) p (z .below) (z .zero)
+      on p ps l s (some qs) e = let n : l ≡ generation width g p = cc in n ∙ zero-level width g (z .position) p (z .below) (z .zero)
 
-      go : (x : Id) (ps : List (Id × ℤ)) (l : ℕ) (s : ℤ) (o : Option ℕ) → graphFind idBytes g x ≡ o → ifSome o no-row (λ p. rowAt g p) ≡ row ps l s → l ≡ noGeneration
+      go : (x : Id) (ps : List (Id × ℤ)) (l : ℕ) (s : ℤ) (o : Option ℕ) → graphFind width g x ≡ o → ifSome o no-row (λ p. rowAt width g p) ≡ row ps l s → l ≡ noGeneration
       go x ps l s none k e = let n : _≡_ {A = ℕ} 0 1 = cc in absurd (omega arith)
-      go x ps l s (some p) k e = on p ps l s (graphParents idBytes g p) e
+      go x ps l s (some p) k e = on p ps l s (graphParents width g p) e
 
 module _ (w : World) (u : Unlevelled w) where
   pairs-none : (x : Id) → pairAt w x .generation ≡ noGeneration
@@ -132,15 +132,15 @@ answer-plain i u k = go (openWalk i true)
     go (closed r) = refused-plain Closed
     go (opened q) = moves-plain (walkOf i) u (moves (walkOf i) (stateAfter i k))
 
-no-levels : (i : Input) → ZeroRow (i .graph) → NoLevels i
+no-levels : (i : Input) → ZeroRow (widthIn i) (i .graph) → NoLevels i
 unfolding walkOf
 no-levels i z =
-    let u = world-unlevelled (i .store) (i .graph) z in
+    let u = world-unlevelled (widthIn i) (i .store) (i .graph) z in
     record { pairs = pairs-none (walkOf i .world) u; painted = painted-none (walkOf i .world) u; shown = answer-plain i u }
 
 pub never-computed : (i : Input) → NeverComputed i
 unfolding generation layoutOf placesOf statedLevel rowIn
 never-computed i = record {
   none-used = no-levels i;
-  all-used = λ n p. level-used idBytes (i .graph) (layoutOf idBytes (i .graph)) p (levels-all idBytes (i .graph) (placesOf (i .graph)) _ (λ q h e. n (record { position = q; below = h; zero = e })));
+  all-used = λ n p. level-used (widthIn i) (i .graph) (layoutOf (widthIn i) (i .graph)) p (levels-all (widthIn i) (i .graph) (placesOf (i .graph)) _ (λ q h e. n (record { position = q; below = h; zero = e })));
 }

@@ -12,7 +12,7 @@ use Rattle.hash.specs.Bytes.{Id}
 use Rattle.commitgraph.specs.Graph.{graphCount}
 use Rattle.walk.specs.Lookup.{World, Read, fail, good, read, Pair}
 use Rattle.walk.specs.State.{ids, State}
-use Rattle.walk.specs.Opening.{Input, walkOf, P, openWalk, opened}
+use Rattle.walk.specs.Opening.{Input, walkOf, P, openWalk, opened, widthIn}
 use Rattle.walk.specs.Painting.{Paint, Painting, stop, going, Marks, then, markRead, mark, markAll, lacks, pass, passed, withPending, turn, turns, fresh, also, addPending, sorted, unpainted, VISIBLE, HIDDEN, paint}
 use Rattle.walk.specs.Universe.{storeParents, rowIds, names, universe}
 use Rattle.walk.specs.Reach.{Mem}
@@ -386,11 +386,11 @@ lists-short i st e =
     omega (
       arith,
       f .short,
-      length-append (storeParents (i .store)) (rowIds (i .graph) (graphCount (i .graph))),
-      rowIds-length (i .graph) (graphCount (i .graph)),
-      storeParents-length (i .store) (a .store-ok),
-      length-list (i .tips),
-      length-list (i .hidden),
+      length-append (storeParents (widthIn i) (i .store)) (rowIds (widthIn i) (i .graph) (graphCount (i .graph))),
+      rowIds-length (widthIn i) (i .graph) (graphCount (i .graph)),
+      storeParents-length (widthIn i) (i .store) (a .store-ok),
+      length-list (widthIn i) (i .tips),
+      length-list (widthIn i) (i .hidden),
       length-ids (st .queue),
     )
 

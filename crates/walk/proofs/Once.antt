@@ -12,7 +12,7 @@ use Rattle.hash.specs.Bytes.{Id}
 use Rattle.walk.specs.declared.Refusal.{Refusal}
 use Rattle.walk.specs.Settings.{goesBefore, byTime, followed}
 use Rattle.walk.specs.State.{Walk, State, add, ids, queued, enter, withQueue, nobody, waits, sees}
-use Rattle.walk.specs.Opening.{Input, walkOf, listIds, Opening, closed, opened, openWalk}
+use Rattle.walk.specs.Opening.{Input, walkOf, listIds, Opening, closed, opened, openWalk, widthIn}
 use Rattle.walk.specs.Painting.{bothMarks}
 use Rattle.walk.specs.Next.{Kind, end, refused, handed, Step, step, admits, visit, visitAll, dropped, back, withSeconds, queuedSeconds, ending, kindOf, outside, paintedWith, next}
 use Rattle.walk.specs.Calls.{calls, shutCalls, answersFrom, answers}
@@ -229,7 +229,7 @@ open-held i st e =
         apart = λ x k. absurd (List·Memᴰ·not-nil k);
         out-once = empty;
       };
-      unlike = distinct-once (walkOf i .excluded) [] (listIds (i .tips));
+      unlike = distinct-once (walkOf i .excluded) [] (listIds (widthIn i) (i .tips));
       unseen = λ x k e. clash e refl;
     }) st e .held
 

@@ -16,7 +16,7 @@ use Rattle.commitgraph.specs.Graph.{graphCount}
 use Rattle.walk.specs.Settings.{followed}
 use Rattle.walk.specs.Lookup.{row}
 use Rattle.walk.specs.State.{Walk, State, ids, withQueue, waits, sees}
-use Rattle.walk.specs.Opening.{Input, walkOf, listIds, P, refusal, distinct, Opening, opened, openWalk}
+use Rattle.walk.specs.Opening.{Input, walkOf, listIds, P, refusal, distinct, Opening, opened, openWalk, widthIn}
 use Rattle.walk.specs.Next.{Step, step, admits, visit, visitAll, dropped, back, withSeconds, paintedWith, next}
 use Rattle.walk.specs.Calls.{stateOf, stateAfter}
 use Rattle.walk.specs.Universe.{storeParents, rowIds, names, universe}
@@ -146,13 +146,13 @@ painted-roomy i st q f d s j r = record {
 }
 
 -- the tips that wait are at most those lent
-tips-few : (i : Input) (st : State) → openWalk i true ≡ opened st → st .admitted ≤ length (listIds (i .tips))
+tips-few : (i : Input) (st : State) → openWalk i true ≡ opened st → st .admitted ≤ length (listIds (widthIn i) (i .tips))
 unfolding waits sees
 tips-few i st e =
-    let n = length (distinct [] (walkOf i .excluded) (listIds (i .tips))) in
+    let n = length (distinct [] (walkOf i .excluded) (listIds (widthIn i) (i .tips))) in
     let a : st .admitted + length {A = Id} [] ≤ n =
     open-keep i (λ xs s. s .admitted + length xs ≤ n) (λ x xs s t h. omega (arith, h)) (λ x xs s h. omega (arith, h)) (omega arith) st e in
-    omega (arith, a, distinct-length (walkOf i .excluded) [] (listIds (i .tips)))
+    omega (arith, a, distinct-length (walkOf i .excluded) [] (listIds (widthIn i) (i .tips)))
 
 pub open-roomy : (i : Input) (st : State) → openWalk i true ≡ opened st → Roomy i st
 unfolding owed P
@@ -166,10 +166,10 @@ open-roomy i st e =
         arith,
         tips-few i st e,
         unseen-bound (st .seen) (names i),
-        length-append (storeParents (i .store)) (rowIds (i .graph) (graphCount (i .graph))),
-        rowIds-length (i .graph) (graphCount (i .graph)),
-        storeParents-length (i .store) (a .store-ok),
-        length-list (i .tips),
+        length-append (storeParents (widthIn i) (i .store)) (rowIds (widthIn i) (i .graph) (graphCount (i .graph))),
+        rowIds-length (widthIn i) (i .graph) (graphCount (i .graph)),
+        storeParents-length (widthIn i) (i .store) (a .store-ok),
+        length-list (widthIn i) (i .tips),
       );
     }
 

@@ -12,7 +12,7 @@ use Rattle.walk.specs.declared.Refusal.{Refusal}
 use Rattle.walk.specs.declared.Refusal.the-variants.{TipNotFound, TipUnreadable}
 use Rattle.walk.specs.Settings.{notBefore, cutoffOf, timed}
 use Rattle.walk.specs.State.{Walk, State, waits, sees, emptyState}
-use Rattle.walk.specs.Opening.{distinct, opened, tipsIn, Input, walkOf, listIds, openWalk, openOr, openTips, refusal, closed, Opening}
+use Rattle.walk.specs.Opening.{distinct, opened, tipsIn, Input, walkOf, listIds, openWalk, openOr, openTips, refusal, closed, Opening, widthIn}
 
 -- ---- an opening that is accepted
 
@@ -58,7 +58,7 @@ open-accepted i st e = go (refusal i) refl e
     go none k f = k
     go (some r) k f = no-opened r st (or-closed i r st f)
 
-pub open-tips : (i : Input) (st : State) → openWalk i true ≡ opened st → tipsIn (walkOf i) (distinct [] (walkOf i .excluded) (listIds (i .tips))) emptyState ≡ opened st
+pub open-tips : (i : Input) (st : State) → openWalk i true ≡ opened st → tipsIn (walkOf i) (distinct [] (walkOf i .excluded) (listIds (widthIn i) (i .tips))) emptyState ≡ opened st
 unfolding openWalk openOr openTips walkOf
 open-tips i st e = sym (ap (λ (n : Option Refusal). openOr i true n) (open-accepted i st e)) ∙ e
 
@@ -66,5 +66,5 @@ open-tips i st e = sym (ap (λ (n : Option Refusal). openOr i true n) (open-acce
 pub open-keep : (i : Input) (Q : List Id → State → Type 0)
     → ((x : Id) (xs : List Id) (st : State) (t : ℤ) → Q (x ∷ xs) st → Q xs (waits (walkOf i) st x t))
     → ((x : Id) (xs : List Id) (st : State) → Q (x ∷ xs) st → Q xs (sees st x))
-    → Q (distinct [] (walkOf i .excluded) (listIds (i .tips))) emptyState → (st : State) → openWalk i true ≡ opened st → Q [] st
-open-keep i Q w t q st e = tips-keep (walkOf i) Q w t (distinct [] (walkOf i .excluded) (listIds (i .tips))) emptyState st q (open-tips i st e)
+    → Q (distinct [] (walkOf i .excluded) (listIds (widthIn i) (i .tips))) emptyState → (st : State) → openWalk i true ≡ opened st → Q [] st
+open-keep i Q w t q st e = tips-keep (walkOf i) Q w t (distinct [] (walkOf i .excluded) (listIds (widthIn i) (i .tips))) emptyState st q (open-tips i st e)

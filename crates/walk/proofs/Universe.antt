@@ -17,7 +17,7 @@ use Rattle.walk.specs.declared.Refusal.{Refusal}
 use Rattle.walk.specs.Settings.{goesBefore, byTime, followed}
 use Rattle.walk.specs.Lookup.{row}
 use Rattle.walk.specs.State.{Walk, State, add, ids, enter, withQueue, nobody, waits, sees}
-use Rattle.walk.specs.Opening.{Input, walkOf, listIds, P, refusal, Opening, opened, openWalk}
+use Rattle.walk.specs.Opening.{Input, walkOf, listIds, P, refusal, Opening, opened, openWalk, widthIn}
 use Rattle.walk.specs.Painting.{Paint, going, paint, bothMarks}
 use Rattle.walk.specs.Next.{handed, Answer, Step, step, admits, visit, visitAll, dropped, back, withSeconds, queuedSeconds, ending, kindOf, outside, paintedWith, next}
 use Rattle.walk.specs.Calls.{calls, answers, stateOf, stateAfter}
@@ -173,26 +173,26 @@ universe-length i e =
     let a = accepted i e in
     omega (
       arith,
-      length-append (listIds (i .tips)) (listIds (i .hidden) ++ names i),
-      length-append (listIds (i .hidden)) (names i),
-      length-append (storeParents (i .store)) (rowIds (i .graph) (graphCount (i .graph))),
-      rowIds-length (i .graph) (graphCount (i .graph)),
-      storeParents-length (i .store) (a .store-ok),
-      length-list (i .tips),
-      length-list (i .hidden),
+      length-append (listIds (widthIn i) (i .tips)) (listIds (widthIn i) (i .hidden) ++ names i),
+      length-append (listIds (widthIn i) (i .hidden)) (names i),
+      length-append (storeParents (widthIn i) (i .store)) (rowIds (widthIn i) (i .graph) (graphCount (i .graph))),
+      rowIds-length (widthIn i) (i .graph) (graphCount (i .graph)),
+      storeParents-length (widthIn i) (i .store) (a .store-ok),
+      length-list (widthIn i) (i .tips),
+      length-list (widthIn i) (i .hidden),
     )
 
-pub tip-in : (i : Input) (x : Id) → Mem x (listIds (i .tips)) → Mem x (universe i)
+pub tip-in : (i : Input) (x : Id) → Mem x (listIds (widthIn i) (i .tips)) → Mem x (universe i)
 unfolding universe
-tip-in i x m = Memᴰ·append-left (listIds (i .hidden) ++ names i) m
+tip-in i x m = Memᴰ·append-left (listIds (widthIn i) (i .hidden) ++ names i) m
 
 pub hidden-in : (i : Input) (x : Id) → Mem x (walkOf i .hidden) → Mem x (universe i)
 unfolding universe walkOf
-hidden-in i x m = Memᴰ·append-right (listIds (i .tips)) (Memᴰ·append-left (names i) m)
+hidden-in i x m = Memᴰ·append-right (listIds (widthIn i) (i .tips)) (Memᴰ·append-left (names i) m)
 
 pub name-in : (i : Input) (x : Id) → Mem x (names i) → Mem x (universe i)
 unfolding universe
-name-in i x m = Memᴰ·append-right (listIds (i .tips)) (Memᴰ·append-right (listIds (i .hidden)) m)
+name-in i x m = Memᴰ·append-right (listIds (widthIn i) (i .tips)) (Memᴰ·append-right (listIds (widthIn i) (i .hidden)) m)
 
 pub row-in : (i : Input) (x p : Id) (ps : List (Id × ℤ)) (l : ℕ) (s : ℤ) → walkOf i .world .graph x ≡ row ps l s → Mem p (map (λ q. q .0) ps) → Mem p (universe i)
 row-in i x p ps l s e m = name-in i p (names-rows i x p ps l s e m)
@@ -235,7 +235,7 @@ unfolding ids
 open-named i st e =
     open-keep i (Before (universe i)) (tip-waits (walkOf i) (universe i)) (tip-sees (walkOf i) (universe i)) (record {
       named = record { queue-in = λ x k. absurd (List·Memᴰ·not-nil k); seen-in = λ x k. clash k refl; front-in = λ x k. clash k refl };
-      due = λ x k. tip-in i x (distinct-out (walkOf i .excluded) [] (listIds (i .tips)) x k .0);
+      due = λ x k. tip-in i x (distinct-out (walkOf i .excluded) [] (listIds (widthIn i) (i .tips)) x k .0);
     }) st e .named
 
 -- after every number of calls the ids that wait, are seen or are in the frontier lie in the universe

@@ -14,7 +14,6 @@ use Rattle.hash.specs.Bytes.{Id, among, idsOf}
 use Rattle.walk.specs.declared.Refusal.{Refusal}
 use Rattle.object.specs.Header.{Header, header}
 use Rattle.odb.specs.Store.{storeOk, storeFind}
-use Rattle.hash.specs.declared.Kind.the-variants.{Sha1}
 use Rattle.commitgraph.specs.Graph.{hashVersion, graphHead, graphOk, graphCount}
 use Rattle.hash.proofs.Tests.{clash, or-cases, some-of, some-in, no-some}
 use Rattle.walk.proofs.Laws.{Coherent}
@@ -22,7 +21,7 @@ use Rattle.walk.specs.Settings.{goesBefore, byTime}
 use Rattle.walk.specs.Lookup.{row, worldOf}
 use Rattle.walk.specs.declared.Refusal.the-variants.{InputTooLarge, PartialId, CorruptStore, UnknownGraph, CorruptGraph}
 use Rattle.walk.specs.State.{waits, sees, Walk, State, isEmpty, emptyState, enter}
-use Rattle.walk.specs.Opening.{sizesOk, wholeIds, Input, walkOf, listIds, P, refusal, openWalk, openOr, openTips, opened, tipsIn, distinct}
+use Rattle.walk.specs.Opening.{sizesOk, wholeIds, Input, walkOf, listIds, P, refusal, openWalk, openOr, openTips, opened, tipsIn, distinct, widthIn}
 use Rattle.walk.specs.Next.{Answer}
 use Rattle.walk.specs.Calls.{answers, answersFrom, calls}
 use Rattle.walk.specs.Universe.{storeParents, rowIds, names}
@@ -39,13 +38,12 @@ use Rattle.walk.proofs.Tips.{open-accepted, open-keep}
 use Rattle.walk.proofs.Tally.{calls-sum, calls-end}
 use Rattle.walk.proofs.Files.{find-parents, storeParents-length}
 use Rattle.walk.proofs.Rows.{coherent-world, no-rows, rows-in, rowIds-length}
-use Rattle.hash.specs.Bytes.{idBytes}
 
 -- ---- what an accepted opening shows
 
 pub record Accepted (i : Input) : Type 0 where
-  pub store-ok : storeOk idBytes (i .store) ≡ true
-  pub graph-ok : (isEmpty (i .graph) ≡ true) ⊎ (graphOk idBytes (i .graph) ≡ true)
+  pub store-ok : storeOk (widthIn i) (i .store) ≡ true
+  pub graph-ok : (isEmpty (i .graph) ≡ true) ⊎ (graphOk (widthIn i) (i .graph) ≡ true)
 
 pick-none : (b : Bool) (n : Option Refusal) (r : Refusal) → cond b n (some r) ≡ none → (b ≡ true) × (n ≡ none)
 pick-none true n r e = (refl, e)
@@ -56,47 +54,47 @@ unfolding refusal
 accepted i e =
     let a = pick-none (sizesOk i) _ InputTooLarge e in
     let b = pick-none (wholeIds i) _ PartialId (a .1) in
-    let c = pick-none (storeOk idBytes (i .store)) _ CorruptStore (b .1) in
-    let d = pick-none (isEmpty (i .graph) || graphHead (hashVersion Sha1) (i .graph)) _ UnknownGraph (c .1) in
-    let f = pick-none (isEmpty (i .graph) || graphOk idBytes (i .graph)) none CorruptGraph (d .1) in
-    record { store-ok = c .0; graph-ok = or-cases {a = isEmpty (i .graph)} {b = graphOk idBytes (i .graph)} (f .0) }
+    let c = pick-none (storeOk (widthIn i) (i .store)) _ CorruptStore (b .1) in
+    let d = pick-none (isEmpty (i .graph) || graphHead (hashVersion (i .settings .kind)) (i .graph)) _ UnknownGraph (c .1) in
+    let f = pick-none (isEmpty (i .graph) || graphOk (widthIn i) (i .graph)) none CorruptGraph (d .1) in
+    record { store-ok = c .0; graph-ok = or-cases {a = isEmpty (i .graph)} {b = graphOk (widthIn i) (i .graph)} (f .0) }
 
 empty-is : (g : List ℕ) → isEmpty g ≡ true → g ≡ []
 unfolding isEmpty
 empty-is [] e = refl
 empty-is (x ∷ g) e = clash refl (sym e)
 
-coherent-of : (i : Input) → Accepted i → Coherent (worldOf (i .store) (i .graph))
+coherent-of : (i : Input) → Accepted i → Coherent (worldOf (widthIn i) (i .store) (i .graph))
 coherent-of i a = go (i .graph) (a .graph-ok)
   where
     none-there : (g : List ℕ) → isEmpty g ≡ true → g ≡ []
     none-there g e = empty-is g e
 
-    go : (g : List ℕ) → (isEmpty g ≡ true) ⊎ (graphOk idBytes g ≡ true) → Coherent (worldOf (i .store) g)
-    go g (inl e) = subst (λ (h : List ℕ). Coherent (worldOf (i .store) h)) (sym (none-there g e)) (no-rows (i .store))
-    go g (inr e) = coherent-world (i .store) g e
+    go : (g : List ℕ) → (isEmpty g ≡ true) ⊎ (graphOk (widthIn i) g ≡ true) → Coherent (worldOf (widthIn i) (i .store) g)
+    go g (inl e) = subst (λ (h : List ℕ). Coherent (worldOf (widthIn i) (i .store) h)) (sym (none-there g e)) (no-rows (widthIn i) (i .store))
+    go g (inr e) = coherent-world (widthIn i) (i .store) g e
 
 -- ---- the ids of a list
 
-length-cut : (k : ℕ) (b : List ℕ) → length (idsOf idBytes k b) ≡ k
+length-cut : (width : ℕ) (k : ℕ) (b : List ℕ) → length (idsOf width k b) ≡ k
 unfolding idsOf
-length-cut zero b = refl
-length-cut (suc k) b = ap suc (length-cut k _)
+length-cut width zero b = refl
+length-cut width (suc k) b = ap suc (length-cut width k _)
 
-pub length-list : (b : List ℕ) → length (listIds b) ≡ length b / 20
+pub length-list : (width : ℕ) (b : List ℕ) → length (listIds width b) ≡ length b / width
 unfolding listIds
-length-list b = length-cut (length b / 20) b
+length-list width b = length-cut width (length b / width) b
 
 -- ---- what the store names
 
-store-names : (i : Input) (x p : Id) (h : Header) → worldOf (i .store) (i .graph) .store x ≡ some h → Mem p (h .ids) → Mem p (storeParents (i .store))
+store-names : (i : Input) (x p : Id) (h : Header) → worldOf (widthIn i) (i .store) (i .graph) .store x ≡ some h → Mem p (h .ids) → Mem p (storeParents (widthIn i) (i .store))
 unfolding worldOf
 store-names i x p h e m =
-    let o = some-of (storeFind idBytes (i .store) x) (λ body. some (header idBytes body)) h e in
-    let k : header idBytes (o .0) ≡ h = some-in (o .2) in
-    find-parents (i .store) x (o .0) (o .1) p (subst (λ (q : Header). Mem p (q .ids)) (sym k) m)
+    let o = some-of (storeFind (widthIn i) (i .store) x) (λ body. some (header (widthIn i) body)) h e in
+    let k : header (widthIn i) (o .0) ≡ h = some-in (o .2) in
+    find-parents (widthIn i) (i .store) x (o .0) (o .1) p (subst (λ (q : Header). Mem p (q .ids)) (sym k) m)
 
-store-names′ : (i : Input) (x p : Id) (h : Header) → walkOf i .world .store x ≡ some h → Mem p (h .ids) → Mem p (storeParents (i .store))
+store-names′ : (i : Input) (x p : Id) (h : Header) → walkOf i .world .store x ≡ some h → Mem p (h .ids) → Mem p (storeParents (widthIn i) (i .store))
 unfolding walkOf
 store-names′ i x p h e m = store-names i x p h e m
 
@@ -104,17 +102,17 @@ world-coherent : (i : Input) → Accepted i → Coherent (walkOf i .world)
 unfolding walkOf
 world-coherent i a = coherent-of i a
 
-turns-enough : (i : Input) → Accepted i → 3 * length (storeParents (i .store)) + length (listIds (i .tips)) + length (walkOf i .hidden) ≤ walkOf i .fuel
+turns-enough : (i : Input) → Accepted i → 3 * length (storeParents (widthIn i) (i .store)) + length (listIds (widthIn i) (i .tips)) + length (walkOf i .hidden) ≤ walkOf i .fuel
 unfolding walkOf P
-turns-enough i a = omega (arith, storeParents-length (i .store) (a .store-ok), length-list (i .tips), length-list (i .hidden))
+turns-enough i a = omega (arith, storeParents-length (widthIn i) (i .store) (a .store-ok), length-list (widthIn i) (i .tips), length-list (widthIn i) (i .hidden))
 
-room : (i : Input) → Accepted i → length (listIds (i .tips)) + length (storeParents (i .store)) ≤ P i
+room : (i : Input) → Accepted i → length (listIds (widthIn i) (i .tips)) + length (storeParents (widthIn i) (i .store)) ≤ P i
 unfolding P
-room i a = omega (arith, storeParents-length (i .store) (a .store-ok), length-list (i .tips))
+room i a = omega (arith, storeParents-length (widthIn i) (i .store) (a .store-ok), length-list (widthIn i) (i .tips))
 
 -- ---- the third demand
 
-opened-as : (i : Input) → refusal i ≡ none → (st : State) → tipsIn (walkOf i) (distinct [] (walkOf i .excluded) (listIds (i .tips))) emptyState ≡ opened st
+opened-as : (i : Input) → refusal i ≡ none → (st : State) → tipsIn (walkOf i) (distinct [] (walkOf i .excluded) (listIds (widthIn i) (i .tips))) emptyState ≡ opened st
     → openWalk i true ≡ opened st
 unfolding openWalk openOr openTips
 opened-as i e st k = ap (λ (n : Option Refusal). openOr i true n) e ∙ k
@@ -125,30 +123,30 @@ answers-calls i st e k = ap (answersFrom (walkOf i) k) e
 
 -- the tips that are left; they lose nothing more
 abbrev left-tips : Input → List Id
-left-tips i = kept (walkOf i) (listIds (i .tips))
+left-tips i = kept (walkOf i) (listIds (widthIn i) (i .tips))
 
 left-same : (i : Input) → distinct [] (walkOf i .excluded) (left-tips i) ≡ left-tips i
 unfolding among
 left-same i =
-    distinct-same (walkOf i .excluded) [] (left-tips i) (distinct-once (walkOf i .excluded) [] (listIds (i .tips)))
-    (λ x m. distinct-out (walkOf i .excluded) [] (listIds (i .tips)) x m .1)
+    distinct-same (walkOf i .excluded) [] (left-tips i) (distinct-once (walkOf i .excluded) [] (listIds (widthIn i) (i .tips)))
+    (λ x m. distinct-out (walkOf i .excluded) [] (listIds (widthIn i) (i .tips)) x m .1)
 
-left-few : (i : Input) → length (left-tips i) ≤ length (listIds (i .tips))
-left-few i = distinct-length (walkOf i .excluded) [] (listIds (i .tips))
+left-few : (i : Input) → length (left-tips i) ≤ length (listIds (widthIn i) (i .tips))
+left-few i = distinct-length (walkOf i .excluded) [] (listIds (widthIn i) (i .tips))
 
 pub third-of-kept : (i : Input) → ThirdOfKept i
 unfolding ThirdOfKept
 third-of-kept i e pre =
     let a = accepted i e in
     let co : Coherent (walkOf i .world) = world-coherent i a in
-    let r = third-model (walkOf i) (left-tips i) pre co (storeParents (i .store))
+    let r = third-model (walkOf i) (left-tips i) pre co (storeParents (widthIn i) (i .store))
     (λ x p d m. let h = header-at (walkOf i) (left-tips i) pre co x d in
     store-names′ i x p (h .0) (h .1) (subst (λ (l : List Id). Mem p l) (sym (h .2 .ids-are)) m))
     (omega (arith, turns-enough i a, left-few i)) in
     let t : tipsIn (walkOf i) (left-tips i) emptyState ≡ opened (r .state) =
     subst (λ (l : List Id). tipsIn (walkOf i) l emptyState ≡ opened (r .state)) (left-same i) (r .accepted) in
     let o : openWalk i true ≡ opened (r .state) = opened-as i e (r .state) t in
-    let listed = kept-listed (walkOf i) (listIds (i .tips)) in
+    let listed = kept-listed (walkOf i) (listIds (widthIn i) (i .tips)) in
     record {
       state = r .state;
       accepted = o;
@@ -161,7 +159,7 @@ third-of-kept i e pre =
 
 pub third : (i : Input) → Third i
 unfolding Third ThirdOfKept
-third i e pre = third-of-kept i e (kept-premises (walkOf i) (listIds (i .tips)) pre)
+third i e pre = third-of-kept i e (kept-premises (walkOf i) (listIds (widthIn i) (i .tips)) pre)
 
 -- ---- the sum and the end, with no premises
 
@@ -175,22 +173,22 @@ entered-length : (v : Walk) (x : Id) (t : ℤ) (l : List (Id × ℤ)) → length
 unfolding enter
 entered-length v x t l = length-queued (goesBefore (v .settings)) (x, cond (byTime (v .settings)) t (pos 0)) l
 
-pub open-fresh : (i : Input) (st : State) → openWalk i true ≡ opened st → Fresh (length (listIds (i .tips))) st
+pub open-fresh : (i : Input) (st : State) → openWalk i true ≡ opened st → Fresh (length (listIds (widthIn i) (i .tips))) st
 unfolding waits sees
 open-fresh i st e =
-    let xs = distinct [] (walkOf i .excluded) (listIds (i .tips)) in
+    let xs = distinct [] (walkOf i .excluded) (listIds (widthIn i) (i .tips)) in
     let f = open-keep i (λ ys s. (s .painted ≡ false) × (s .admitted ≡ 0 + s .struck + length (s .queue)) × (length (s .queue) + length ys ≤ length xs))
     (λ x ys s t h. (h .0, omega (arith, h .1, entered-length (walkOf i) x t (s .queue)), omega (arith, h .2, entered-length (walkOf i) x t (s .queue))))
     (λ x ys s h. (h .0, h .1, omega (arith, h .2)))
     (refl, refl, omega arith) st e in
-    record { not-painted = f .0; tallied = f .1; short = omega (arith, f .2, distinct-length (walkOf i .excluded) [] (listIds (i .tips))) }
+    record { not-painted = f .0; tallied = f .1; short = omega (arith, f .2, distinct-length (walkOf i .excluded) [] (listIds (widthIn i) (i .tips))) }
 
 pub names-rows : (i : Input) (x p : Id) (ps : List (Id × ℤ)) (l : ℕ) (s : ℤ) → walkOf i .world .graph x ≡ row ps l s → Mem p (map (λ q. q .0) ps) → Mem p (names i)
 unfolding walkOf
-names-rows i x p ps l s e m = Memᴰ·append-right (storeParents (i .store)) (rows-in (i .store) (i .graph) x p ps l s e m)
+names-rows i x p ps l s e m = Memᴰ·append-right (storeParents (widthIn i) (i .store)) (rows-in (widthIn i) (i .store) (i .graph) x p ps l s e m)
 
 pub names-store : (i : Input) (x p : Id) (h : Header) → walkOf i .world .store x ≡ some h → Mem p (h .ids) → Mem p (names i)
-names-store i x p h e m = Memᴰ·append-left (rowIds (i .graph) (graphCount (i .graph))) (store-names′ i x p h e m)
+names-store i x p h e m = Memᴰ·append-left (rowIds (widthIn i) (i .graph) (graphCount (i .graph))) (store-names′ i x p h e m)
 
 pub sum-law : (i : Input) → SumLaw i
 unfolding SumLaw
@@ -208,10 +206,10 @@ end-law i st e k =
       arith,
       f .short,
       unseen-bound (st .seen) (names i),
-      length-append (storeParents (i .store)) (rowIds (i .graph) (graphCount (i .graph))),
-      rowIds-length (i .graph) (graphCount (i .graph)),
-      storeParents-length (i .store) (a .store-ok),
-      length-list (i .tips),
+      length-append (storeParents (widthIn i) (i .store)) (rowIds (widthIn i) (i .graph) (graphCount (i .graph))),
+      rowIds-length (widthIn i) (i .graph) (graphCount (i .graph)),
+      storeParents-length (widthIn i) (i .store) (a .store-ok),
+      length-list (widthIn i) (i .tips),
     ) in
     let n : suc (P i) ≡ P i + 1 = omega arith in
     subst (λ (m : ℕ). EndsBy m (answers i k)) n

@@ -1,4 +1,4 @@
--- Every id that an accepted walk names has 20 bytes: a list is cut into 20 bytes each, a parent line has 40 digits, and a commit-graph file
+-- Every id that an accepted walk names has the width of its kind: a list is cut into so many bytes each, a parent line has two digits for each, and a commit-graph file
 -- of a good layout has room for each of its ids. Assumes nothing.
 use mathlib.Core.Path.{_≡_, refl, sym, _∙_, ap, subst}
 use mathlib.Core.Logic.{_⊎_, inl, inr, ⊎-elim}
@@ -7,9 +7,11 @@ use mathlib.Core.Bool.{true}
 use mathlib.Core.Option.{none}
 use mathlib.Core.List.{List, [], _∷_, _++_, List·Memᴰ·cases-cons, List·Memᴰ·not-nil, List·Memᴰ·append-cases}
 use native.Mathlib.Omega.{arith}
+use native.Mathlib.Nat.{mul-div-le}
 use lib.ListN.{length, take, drop, getD, length-take, length-drop}
-use Rattle.hash.specs.Bytes.{Id, idBytes, idsOf}
+use Rattle.hash.specs.Bytes.{Id, idsOf}
 use Rattle.hash.proofs.Tests.{byCases, clash}
+use Rattle.hash.proofs.Widths.{width-least}
 use Rattle.idlist.specs.IdList.{Stands}
 use Rattle.idlist.proofs.Place.{length-idOf}
 use Rattle.object.specs.Header.{Header, header}
@@ -18,7 +20,7 @@ use Rattle.odb.specs.Store.{entries, body}
 use Rattle.commitgraph.specs.Graph.{graphCount, graphIds, graphId, graphOk}
 use Rattle.commitgraph.proofs.LayoutRight.{right}
 use Rattle.walk.specs.State.{State, ids, isEmpty}
-use Rattle.walk.specs.Opening.{Input, listIds, refusal, openWalk, opened}
+use Rattle.walk.specs.Opening.{Input, listIds, refusal, openWalk, opened, widthIn}
 use Rattle.walk.specs.Calls.{stateAfter}
 use Rattle.walk.specs.Universe.{parentsUpTo, storeParents, rowIds, names, universe}
 use Rattle.walk.specs.Reach.{Mem}
@@ -26,75 +28,75 @@ use Rattle.walk.proofs.Tips.{open-accepted}
 use Rattle.walk.proofs.Whole.{accepted}
 use Rattle.walk.proofs.Universe.{all-named}
 
-abbrev Wide : List Id → Type 0
-Wide l = (x : Id) → Mem x l → length x ≡ idBytes
+abbrev Wide : ℕ → List Id → Type 0
+Wide width l = (x : Id) → Mem x l → length x ≡ width
 
-wide-nil : Wide []
-wide-nil x m = absurd (List·Memᴰ·not-nil m)
+wide-nil : (width : ℕ) → Wide width []
+wide-nil width x m = absurd (List·Memᴰ·not-nil m)
 
-wide-cons : (y : Id) (l : List Id) → length y ≡ idBytes → Wide l → Wide (y ∷ l)
-wide-cons y l h w x m = ⊎-elim (λ e. ap length e ∙ h) (w x) (List·Memᴰ·cases-cons m)
+wide-cons : (width : ℕ) (y : Id) (l : List Id) → length y ≡ width → Wide width l → Wide width (y ∷ l)
+wide-cons width y l h v x m = ⊎-elim (λ e. ap length e ∙ h) (v x) (List·Memᴰ·cases-cons m)
 
-wide-append : (k l : List Id) → Wide k → Wide l → Wide (k ++ l)
-wide-append k l v w x m = ⊎-elim (v x) (w x) (List·Memᴰ·append-cases k m)
+wide-append : (width : ℕ) (k l : List Id) → Wide width k → Wide width l → Wide width (k ++ l)
+wide-append width k l v u x m = ⊎-elim (v x) (u x) (List·Memᴰ·append-cases k m)
 
 -- by places
-wide-at : (l : List Id) → ((k : ℕ) → k < length l → length (getD l k []) ≡ idBytes) → Wide l
-wide-at [] h = wide-nil
-wide-at (y ∷ l) h = wide-cons y l (h 0 (omega arith)) (wide-at l (λ k d. h (suc k) (omega arith)))
+wide-at : (width : ℕ) (l : List Id) → ((k : ℕ) → k < length l → length (getD l k []) ≡ width) → Wide width l
+wide-at width [] h = wide-nil width
+wide-at width (y ∷ l) h = wide-cons width y l (h 0 (omega arith)) (wide-at width l (λ k d. h (suc k) (omega arith)))
 
-cut-wide : (k : ℕ) (b : List ℕ) → idBytes * k ≤ length b → Wide (idsOf idBytes k b)
+cut-wide : (width : ℕ) (k : ℕ) (b : List ℕ) → width * k ≤ length b → Wide width (idsOf width k b)
 unfolding idsOf
-cut-wide zero b h = wide-nil
-cut-wide (suc k) b h =
-    wide-cons (take idBytes b) (idsOf idBytes k (drop idBytes b)) (simp length-take (omega arith)) (cut-wide k (drop idBytes b) (simp length-drop (omega arith)))
+cut-wide width zero b h = wide-nil width
+cut-wide width (suc k) b h =
+    wide-cons width (take width b) (idsOf width k (drop width b)) (simp length-take (omega arith)) (cut-wide width k (drop width b) (simp length-drop (omega arith)))
 
 -- the ids of a list
-pub list-wide : (b : List ℕ) → Wide (listIds b)
+pub list-wide : (width : ℕ) (b : List ℕ) → Wide width (listIds width b)
 unfolding listIds
-list-wide b = cut-wide (length b / idBytes) b (omega arith)
+list-wide width b = cut-wide width (length b / width) b (mul-div-le (length b) width)
 
 -- the parents of a body
-header-wide : (b : List ℕ) → Wide (header idBytes b .ids)
-header-wide b =
-    byCases (header idBytes b .tree)
-    (λ g. wide-at (header idBytes b .ids) (parent-width idBytes b g))
-    (λ g. subst Wide (sym (ap (λ (h : Header). h .ids) (no-header idBytes b g))) wide-nil)
+header-wide : (width : ℕ) (b : List ℕ) → Wide width (header width b .ids)
+header-wide width b =
+    byCases (header width b .tree)
+    (λ g. wide-at width (header width b .ids) (parent-width width b g))
+    (λ g. subst (Wide width) (sym (ap (λ (h : Header). h .ids) (no-header width b g))) (wide-nil width))
 
-upTo-wide : (b : List ℕ) (k : ℕ) → Wide (parentsUpTo b k)
+upTo-wide : (width : ℕ) (b : List ℕ) (k : ℕ) → Wide width (parentsUpTo width b k)
 unfolding parentsUpTo
-upTo-wide b zero = wide-nil
-upTo-wide b (suc k) = wide-append (parentsUpTo b k) (header idBytes (body idBytes b k) .ids) (upTo-wide b k) (header-wide (body idBytes b k))
+upTo-wide width b zero = wide-nil width
+upTo-wide width b (suc k) = wide-append width (parentsUpTo width b k) (header width (body width b k) .ids) (upTo-wide width b k) (header-wide width (body width b k))
 
 -- the rows
-ids-stand : (g : List ℕ) → graphOk idBytes g ≡ true → Stands (graphIds idBytes g) (graphCount g)
+ids-stand : (width : ℕ) (g : List ℕ) → 0 < width → graphOk width g ≡ true → Stands (graphIds width g) (graphCount g)
 unfolding graphIds
-ids-stand g ok = record { moves = omega arith; apart = omega arith; inside = omega (arith, right idBytes g ok .places .ids) }
+ids-stand width g p ok = record { moves = p; apart = omega arith; inside = omega (arith, right width g ok .places .ids) }
 
-rows-wide : (g : List ℕ) (k : ℕ) → Stands (graphIds idBytes g) (graphCount g) → k ≤ graphCount g → Wide (rowIds g k)
+rows-wide : (width : ℕ) (g : List ℕ) (k : ℕ) → Stands (graphIds width g) (graphCount g) → k ≤ graphCount g → Wide width (rowIds width g k)
 unfolding rowIds graphId graphIds
-rows-wide g zero s h = wide-nil
-rows-wide g (suc k) s h = wide-cons (graphId idBytes g k) (rowIds g k) (length-idOf (graphIds idBytes g) (graphCount g) k s h) (rows-wide g k s (omega arith))
+rows-wide width g zero s h = wide-nil width
+rows-wide width g (suc k) s h = wide-cons width (graphId width g k) (rowIds width g k) (length-idOf (graphIds width g) (graphCount g) k s h) (rows-wide width g k s (omega arith))
 
-graph-wide : (g : List ℕ) → (isEmpty g ≡ true) ⊎ (graphOk idBytes g ≡ true) → Wide (rowIds g (graphCount g))
+graph-wide : (width : ℕ) (g : List ℕ) → 0 < width → (isEmpty g ≡ true) ⊎ (graphOk width g ≡ true) → Wide width (rowIds width g (graphCount g))
 unfolding isEmpty graphCount rowIds
-graph-wide [] o = wide-nil
-graph-wide (y ∷ g) (inl e) = clash refl (sym e)
-graph-wide (y ∷ g) (inr e) = rows-wide (y ∷ g) (graphCount (y ∷ g)) (ids-stand (y ∷ g) e) (omega arith)
+graph-wide width [] p o = wide-nil width
+graph-wide width (y ∷ g) p (inl e) = clash refl (sym e)
+graph-wide width (y ∷ g) p (inr e) = rows-wide width (y ∷ g) (graphCount (y ∷ g)) (ids-stand width (y ∷ g) p e) (omega arith)
 
 -- ---- of an accepted opening
 
-pub universe-wide : (i : Input) → refusal i ≡ none → Wide (universe i)
+pub universe-wide : (i : Input) → refusal i ≡ none → Wide (widthIn i) (universe i)
 unfolding universe storeParents
 universe-wide i e =
     let a = accepted i e in
-    wide-append (listIds (i .tips)) _ (list-wide (i .tips))
-    (wide-append (listIds (i .hidden)) (names i) (list-wide (i .hidden))
-    (wide-append (storeParents (i .store)) (rowIds (i .graph) (graphCount (i .graph))) (upTo-wide (i .store) (entries (i .store))) (graph-wide (i .graph) (a .graph-ok))))
+    wide-append (widthIn i) (listIds (widthIn i) (i .tips)) _ (list-wide (widthIn i) (i .tips))
+    (wide-append (widthIn i) (listIds (widthIn i) (i .hidden)) (names i) (list-wide (widthIn i) (i .hidden))
+    (wide-append (widthIn i) (storeParents (widthIn i) (i .store)) (rowIds (widthIn i) (i .graph) (graphCount (i .graph))) (upTo-wide (widthIn i) (i .store) (entries (i .store))) (graph-wide (widthIn i) (i .graph) (omega (arith, width-least (i .settings .kind))) (a .graph-ok))))
 
 -- every id that waits, is seen or is in the frontier after k calls
 pub all-wide : (i : Input) (st : State) → openWalk i true ≡ opened st → (k : ℕ) (x : Id)
-    → Mem x (ids (stateAfter i k .queue)) ⊎ ((stateAfter i k .seen x ≡ true) ⊎ (stateAfter i k .frontier x ≡ true)) → length x ≡ idBytes
+    → Mem x (ids (stateAfter i k .queue)) ⊎ ((stateAfter i k .seen x ≡ true) ⊎ (stateAfter i k .frontier x ≡ true)) → length x ≡ widthIn i
 all-wide i st e k x m =
     let n = all-named i st e k in
     universe-wide i (open-accepted i st e) x (⊎-elim (n .queue-in x) (⊎-elim (n .seen-in x) (n .front-in x)) m)

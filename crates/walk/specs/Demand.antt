@@ -12,7 +12,7 @@ use Rattle.hash.specs.Bytes.{Id, among, ifSome}
 use Rattle.walk.specs.Settings.{timed, cutoffOf, notBefore, onlyFirst, followed}
 use Rattle.walk.specs.Lookup.{World, Row, no-row, row, corrupt, good, fromStore, Pair, ltPair, noGeneration, storeSeconds, secondsFor}
 use Rattle.walk.specs.State.{Walk, State}
-use Rattle.walk.specs.Opening.{Input, walkOf, listIds, refusal, P, distinct, openWalk, opened}
+use Rattle.walk.specs.Opening.{Input, walkOf, listIds, refusal, P, distinct, openWalk, opened, widthIn}
 use Rattle.walk.specs.Next.{Answer, end, handed}
 use Rattle.walk.specs.Calls.{answers}
 use Rattle.walk.specs.Reach.{Mem, NoDup, links, Reaches}
@@ -108,15 +108,15 @@ pub record Delivers (i : Input) : Type 0 where
   pub accepted : openWalk i true ≡ opened state
   pub list : List Id
   pub different : NoDup list
-  pub exactly : (x : Id) → Mem x list ↔ Listed (walkOf i) (listIds (i .tips)) x
+  pub exactly : (x : Id) → Mem x list ↔ Listed (walkOf i) (listIds (widthIn i) (i .tips)) x
   pub within : length list ≤ P i
   pub handed-out : (k : ℕ) → Hands list (answers i k)
 
 -- under the premises, "an opening to which none of 01's 1 to 6 applies"
 unfoldable pub Third : Input → Type 0
-Third i = refusal i ≡ none → Premises (walkOf i) (listIds (i .tips)) → Delivers i
+Third i = refusal i ≡ none → Premises (walkOf i) (listIds (widthIn i) (i .tips)) → Delivers i
 
 -- the same with weaker premises: they are asked of what is reachable from the hidden tips and from the tips that are left once "[t]ips lose
 -- repeats and barred ids", and of nothing that only an excluded tip reaches
 unfoldable pub ThirdOfKept : Input → Type 0
-ThirdOfKept i = refusal i ≡ none → Premises (walkOf i) (distinct [] (walkOf i .excluded) (listIds (i .tips))) → Delivers i
+ThirdOfKept i = refusal i ≡ none → Premises (walkOf i) (distinct [] (walkOf i .excluded) (listIds (widthIn i) (i .tips))) → Delivers i

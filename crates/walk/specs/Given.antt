@@ -5,7 +5,8 @@ use mathlib.Core.Option.{Option, none, some}
 use mathlib.Core.List.{List, [], _∷_, _++_}
 use lib.ListN.{length, replicate}
 use lib.IntN.{ℤ, pos}
-use Rattle.hash.specs.Bytes.{Id, idBytes, setDown}
+use Rattle.hash.specs.Bytes.{Id, setDown}
+use Rattle.object.specs.Ids.{idRoom, padded}
 use Rattle.walk.specs.declared.Outcome.{Outcome}
 use Rattle.walk.specs.declared.Outcome.the-variants.{Commit, End, Refused}
 use Rattle.walk.specs.declared.MaybeLevel.{MaybeLevel}
@@ -36,12 +37,13 @@ outcomeOf (handed x g t) = Commit
 
 -- "A refusal or end carries no id, level or seconds (zeros there)"
 abbrev pub noId : Id
-noId = replicate idBytes 0
+noId = replicate idRoom 0
 
+-- an id by value: zeros stand after it
 abbrev pub idOfKind : Kind → Id
 idOfKind end = noId
 idOfKind (refused r) = noId
-idOfKind (handed x g t) = x
+idOfKind (handed x g t) = padded x
 
 abbrev pub levelGiven : Option ℕ → MaybeLevel
 levelGiven none = NoGeneration

@@ -7,7 +7,7 @@ use mathlib.Core.List.{List, [], _∷_}
 use lib.ListN.{length}
 use lib.IntN.{pos}
 use Rattle.walk.specs.declared.Sorting.the-variants.{BreadthFirst}
-use Rattle.walk.specs.Opening.{Input, walkOf, listIds, refusal}
+use Rattle.walk.specs.Opening.{Input, walkOf, listIds, refusal, widthIn}
 use Rattle.walk.specs.Next.{Kind, end, handed}
 use Rattle.walk.specs.Calls.{answers}
 use Rattle.walk.specs.Demand.{Premises}
@@ -17,7 +17,7 @@ use Rattle.walk.specs.Slips.{inputWith, fork, listing, grown, earlier}
 -- none of 2 to 6 applies to the input, it meets the premises, and its answers are of these kinds
 pub record Meets (i : Input) (ks : List Kind) : Type 0 where
   pub accepted : refusal i ≡ none
-  pub premises : Premises (walkOf i) (listIds (i .tips))
+  pub premises : Premises (walkOf i) (listIds (widthIn i) (i .tips))
   pub says : kinds (answers i (length ks)) ≡ ks
 
 -- document 01's history: tip 8, hide 5, breadth order; no graph file

@@ -15,7 +15,6 @@ pub use Rattle.commitgraph.specs.Graph.{noGeneration}
 use Rattle.walk.specs.declared.GenThenTime.{GenThenTime}
 use Rattle.walk.specs.declared.Refusal.{Refusal}
 use Rattle.walk.specs.declared.Refusal.the-variants.{CommitNotFound, CommitUnreadable, TooManyParents}
-use Rattle.hash.specs.Bytes.{idBytes}
 
 -- what the commit-graph file says of an id: it does not list it; it lists it with a corrupt parent list; or with a good one, and then
 -- come the parents in order, each with the seconds of its own row, the generation (the level of its pair) and the seconds
@@ -29,15 +28,15 @@ pub record World : Type 0 where
   pub graph : Id → Row
   pub store : Id → Option Header
 
-unfoldable pub rowAt : List ℕ → ℕ → Row
-rowAt g p =
-    ifSome (graphParents idBytes g p) corrupt λ ps.
-    row (map (λ q. (graphId idBytes g q, graphSeconds idBytes g q)) ps) (generation idBytes g p) (graphSeconds idBytes g p)
+unfoldable pub rowAt : ℕ → List ℕ → ℕ → Row
+rowAt width g p =
+    ifSome (graphParents width g p) corrupt λ ps.
+    row (map (λ q. (graphId width g q, graphSeconds width g q)) ps) (generation width g p) (graphSeconds width g p)
 
-unfoldable pub worldOf : List ℕ → List ℕ → World
-worldOf store g = record {
-  graph = λ x. ifSome (graphFind idBytes g x) no-row (λ p. rowAt g p);
-  store = λ x. ifSome (storeFind idBytes store x) none (λ body. some (header idBytes body));
+unfoldable pub worldOf : ℕ → List ℕ → List ℕ → World
+worldOf width store g = record {
+  graph = λ x. ifSome (graphFind width g x) no-row (λ p. rowAt width g p);
+  store = λ x. ifSome (storeFind width store x) none (λ body. some (header width body));
 }
 
 -- the committer time in the store; none where the commit is absent or its header not good through committer. "Where only seconds are

@@ -7,9 +7,9 @@ use mathlib.Core.List.{List, [], _∷_}
 use lib.ListN.{length}
 use lib.Dec.{eqb, leb}
 use lib.IntN.{pos}
-use Rattle.hash.specs.Bytes.{Id, idBytes, among, idsOf, ifSome}
+use Rattle.hash.specs.Bytes.{Id, widthOf, among, idsOf, ifSome}
+use Rattle.object.specs.Header.{parentSize}
 use Rattle.odb.specs.Store.{storeOk}
-use Rattle.hash.specs.declared.Kind.the-variants.{Sha1}
 use Rattle.commitgraph.specs.Graph.{hashVersion, graphHead, graphOk, graphCount}
 use Rattle.walk.specs.declared.Settings.{Settings}
 use Rattle.walk.specs.declared.Refusal.{Refusal}
@@ -27,49 +27,50 @@ pub record Input : Type 0 where
   pub excluded : List ℕ
   pub settings : Settings
 
--- the ids of a list
-unfoldable pub listIds : List ℕ → List Id
-listIds b = idsOf idBytes (length b / idBytes) b
+-- "A setting at opening … gives the id width" (document 02, card 13)
+abbrev pub widthIn : Input → ℕ
+widthIn i = widthOf (i .settings .kind)
 
--- "`parent ` likewise (48 bytes)": the length of a parent line
-abbrev pub parentBytes : ℕ
-parentBytes = 2 * idBytes + 8
+-- the ids of a list, by their width
+unfoldable pub listIds : ℕ → List ℕ → List Id
+listIds width b = idsOf width (length b / width) b
 
--- "P = tips + hidden tips + ⌊book bytes/48⌋ + N, both lists counted as lent, repeats and barred ids too"
+-- "P = tips + hidden tips + ⌊book bytes/48⌋ + N, both lists counted as lent, repeats and barred ids too"; 48 is the length of a parent line,
+-- and "P divides the book by 72" where ids have 32 bytes
 unfoldable pub P : Input → ℕ
-P i = length (i .tips) / idBytes + length (i .hidden) / idBytes + length (i .store) / parentBytes + graphCount (i .graph)
+P i = length (i .tips) / widthIn i + length (i .hidden) / widthIn i + length (i .store) / parentSize (widthIn i) + graphCount (i .graph)
 
 unfoldable pub walkOf : Input → Walk
 walkOf i = record {
-  world = worldOf (i .store) (i .graph);
+  world = worldOf (widthIn i) (i .store) (i .graph);
   settings = i .settings;
-  excluded = listIds (i .excluded);
-  hidden = listIds (i .hidden);
+  excluded = listIds (widthIn i) (i .excluded);
+  hidden = listIds (widthIn i) (i .hidden);
   fuel = 4 * P i;
 }
 
 -- ---- 2 to 6
 
--- the bytes of 1,024 ids: 20,480
-abbrev pub listLimit : ℕ
-listLimit = 1024 * idBytes
+-- the bytes of 1,024 ids: 20,480 where an id has 20
+abbrev pub listLimit : ℕ → ℕ
+listLimit width = 1024 * width
 
 -- 2: "book or graph over 16,777,216 bytes, or a list over 1,024 ids (20,480 bytes)"
 unfoldable pub sizesOk : Input → Bool
 sizesOk i =
     leb (length (i .store)) 16777216 && leb (length (i .graph)) 16777216
-    && leb (length (i .tips)) listLimit && leb (length (i .hidden)) listLimit && leb (length (i .excluded)) listLimit
+    && leb (length (i .tips)) (listLimit (widthIn i)) && leb (length (i .hidden)) (listLimit (widthIn i)) && leb (length (i .excluded)) (listLimit (widthIn i))
 
--- 3: "list bytes not a multiple of 20"
+-- 3: "list bytes not a multiple of 20"; "A list must be a multiple of the chosen width"
 unfoldable pub wholeIds : Input → Bool
-wholeIds i = eqb (length (i .tips) % idBytes) 0 && eqb (length (i .hidden) % idBytes) 0 && eqb (length (i .excluded) % idBytes) 0
+wholeIds i = eqb (length (i .tips) % widthIn i) 0 && eqb (length (i .hidden) % widthIn i) 0 && eqb (length (i .excluded) % widthIn i) 0
 
--- the first of 2 to 6 that applies. "A zero-length graph means none"
+-- the first of 2 to 6 that applies. "A zero-length graph means none"; "a graph of the other width is 5"
 unfoldable pub refusal : Input → Option Refusal
 refusal i =
-    let six : Option Refusal = cond (isEmpty (i .graph) || graphOk idBytes (i .graph)) none (some CorruptGraph) in
-    let five : Option Refusal = cond (isEmpty (i .graph) || graphHead (hashVersion Sha1) (i .graph)) six (some UnknownGraph) in
-    let four : Option Refusal = cond (storeOk idBytes (i .store)) five (some CorruptStore) in
+    let six : Option Refusal = cond (isEmpty (i .graph) || graphOk (widthIn i) (i .graph)) none (some CorruptGraph) in
+    let five : Option Refusal = cond (isEmpty (i .graph) || graphHead (hashVersion (i .settings .kind)) (i .graph)) six (some UnknownGraph) in
+    let four : Option Refusal = cond (storeOk (widthIn i) (i .store)) five (some CorruptStore) in
     let three : Option Refusal = cond (wholeIds i) four (some PartialId) in
     cond (sizesOk i) three (some InputTooLarge)
 
@@ -84,15 +85,15 @@ pub record Lengths : Type 0 where
   pub line : ℕ
   pub parents : ℕ
 
--- the bytes of 256 parents' ids: 5,120
-abbrev pub parentsRoom : ℕ
-parentsRoom = 256 * idBytes
+-- the bytes of 256 parents' ids: 5,120 where an id has 20
+abbrev pub parentsRoom : ℕ → ℕ
+parentsRoom width = 256 * width
 
 -- "Lent: names 20·P bytes, marks P bytes, levels P u32, times P i64, line 5·P u32, parents 5,120 bytes": every buffer has its size
 unfoldable pub roomFor : Input → Lengths → Bool
 roomFor i l =
-    leb (idBytes * P i) (l .names) && leb (P i) (l .marks) && leb (P i) (l .levels) && leb (P i) (l .times) && leb (5 * P i) (l .line)
-    && leb parentsRoom (l .parents)
+    leb (widthIn i * P i) (l .names) && leb (P i) (l .marks) && leb (P i) (l .levels) && leb (P i) (l .times) && leb (5 * P i) (l .line)
+    && leb (parentsRoom (widthIn i)) (l .parents)
 
 -- ---- 7 and 8, and the tips
 
@@ -128,7 +129,7 @@ tipsIn w (x ∷ xs) st =
 unfoldable pub openTips : Input → Bool → Opening
 openTips i room =
     let w = walkOf i in
-    let r = tipsIn w (distinct [] (w .excluded) (listIds (i .tips))) emptyState in
+    let r = tipsIn w (distinct [] (w .excluded) (listIds (widthIn i) (i .tips))) emptyState in
     cond room r (closed BufferTooSmall)
 
 unfoldable pub openOr : Input → Bool → Option Refusal → Opening

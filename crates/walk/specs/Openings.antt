@@ -13,7 +13,7 @@ use Rattle.commitgraph.specs.Graph.{graphAll}
 use Rattle.walk.specs.Refusals.{numberOf}
 use Rattle.walk.specs.Opening.{Input, Lengths, roomFor, Opening, closed, opened, openWalk}
 use Rattle.walk.specs.Calls.{walkAll}
-use Rattle.walk.specs.Runs.{idFor, u32, names, all, newest}
+use Rattle.walk.specs.Runs.{idFor, u32, names, all, newest, idWide, namesWide}
 
 -- the number of a refused opening; none of an accepted one
 unfoldable pub openingNumber : Opening → Option ℕ
@@ -36,12 +36,16 @@ short = record { names = 40; marks = 2; levels = 2; times = 2; line = 10; parent
 
 -- a store of commit 1 alone, whose body is one byte: no header line is good
 unfoldable pub blurred : List ℕ
-unfolding idFor u32
+unfolding idWide u32
 blurred = 120 ∷ (idFor 1 ++ (u32 1 ++ (u32 1 ++ u32 1)))
 
 -- `CGPH`, version 1, hash version 1, no chunk, base count 0, and nothing more
 unfoldable pub headAlone : List ℕ
 headAlone = 67 ∷ 71 ∷ 80 ∷ 72 ∷ 1 ∷ 1 ∷ 0 ∷ 0 ∷ []
+
+-- the same of a graph file with ids of 32 bytes
+unfoldable pub wideHead : List ℕ
+wideHead = 67 ∷ 71 ∷ 80 ∷ 72 ∷ 1 ∷ 2 ∷ 0 ∷ 0 ∷ []
 
 -- one byte is a foreign graph file, and no bytes are a torn store; commit 9 is in no store
 pub record EachRefused : Type 0 where
@@ -49,6 +53,7 @@ pub record EachRefused : Type 0 where
   pub ragged-list : opensBy [] (0 ∷ []) (0 ∷ []) short ≡ some 3
   pub torn-store : opensBy [] (0 ∷ []) (names (9 ∷ 1 ∷ [])) short ≡ some 4
   pub foreign-graph : opensBy blurred (0 ∷ []) (names (9 ∷ 1 ∷ [])) short ≡ some 5
+  pub other-width : opensBy blurred wideHead (names (9 ∷ 1 ∷ [])) short ≡ some 5
   pub torn-graph : opensBy blurred headAlone (names (9 ∷ 1 ∷ [])) short ≡ some 6
   pub short-memory : opensBy blurred [] (names (9 ∷ 1 ∷ [])) short ≡ some 1
   -- "the first tip at fault in list order decides which"
@@ -58,12 +63,13 @@ pub record EachRefused : Type 0 where
   pub accepted : opensBy blurred [] [] enough ≡ none
 
 pub each-refused : EachRefused
-unfolding opensBy blurred headAlone names bytesAll idListAll headerAll storeAll graphAll walkAll
+unfolding opensBy blurred headAlone wideHead namesWide bytesAll idListAll headerAll storeAll graphAll walkAll
 each-refused = record {
   oversize = refl;
   ragged-list = refl;
   torn-store = refl;
   foreign-graph = refl;
+  other-width = refl;
   torn-graph = refl;
   short-memory = refl;
   lost-tip = refl;

@@ -8,18 +8,18 @@ use mathlib.Core.List.{List, [], _∷_, _++_}
 use lib.ListN.{length, replicate}
 use lib.Dec.{leb}
 use lib.IntN.{pos}
-use Rattle.hash.specs.Bytes.{Id, bytesAll}
+use Rattle.hash.specs.Bytes.{Id, idBytes, bytesAll}
 use Rattle.idlist.specs.IdList.{idListAll}
 use Rattle.object.specs.Header.{headerAll}
 use Rattle.odb.specs.Store.{storeAll}
-use Rattle.commitgraph.specs.Graph.{OIDF, OIDL, CDAT, EDGE, graphAll}
+use Rattle.commitgraph.specs.Graph.{OIDF, OIDL, CDAT, EDGE, rowSize, graphAll}
 use Rattle.walk.specs.declared.Settings.{Settings}
 use Rattle.walk.specs.declared.Sorting.the-variants.{BreadthFirst}
 use Rattle.walk.specs.Opening.{Input}
 use Rattle.walk.specs.declared.Refusal.the-variants.{CommitNotFound, Closed}
 use Rattle.walk.specs.Next.{Kind, end, refused, handed, Answer}
 use Rattle.walk.specs.Calls.{answers, walkAll}
-use Rattle.walk.specs.Runs.{idFor, u32, storeOf, names, kinds, says, out, outAt, all, firstOnly, newest, newestFrom, sample, lost}
+use Rattle.walk.specs.Runs.{idFor, u32, storeOf, names, kinds, says, out, outAt, all, firstOnly, newest, newestFrom, sample, lost, idWide, namesWide, sampleWide, storeWide}
 
 -- ---- a commit-graph file from rows
 
@@ -43,15 +43,15 @@ fanFrom zero x rs = []
 fanFrom (suc k) x rs = u32 (counted x rs) ++ fanFrom k (suc x) rs
 
 unfoldable pub idBytesOf : List GraphRow → List ℕ
-unfolding idFor
+unfolding idWide
 idBytesOf [] = []
 idBytesOf (r ∷ rs) = idFor (r .name) ++ idBytesOf rs
 
--- 36 bytes for each row; the tree id is of zeros
+-- a row: the tree's id, which is of zeros, and four u32
 unfoldable pub rowBytesOf : List GraphRow → List ℕ
 unfolding u32
 rowBytesOf [] = []
-rowBytesOf (r ∷ rs) = replicate 20 0 ++ (u32 (r .first) ++ (u32 (r .second) ++ (u32 (r .level * 4) ++ (u32 (r .time) ++ rowBytesOf rs))))
+rowBytesOf (r ∷ rs) = replicate idBytes 0 ++ (u32 (r .first) ++ (u32 (r .second) ++ (u32 (r .level * 4) ++ (u32 (r .time) ++ rowBytesOf rs))))
 
 unfoldable pub edgeBytesOf : List ℕ → List ℕ
 unfolding u32
@@ -68,13 +68,15 @@ unfoldable pub graphOf : List GraphRow → List ℕ → List ℕ
 unfolding fanFrom idBytesOf rowBytesOf edgeBytesOf chunkRow
 graphOf rs es =
     let n = length rs in
+    let rows : ℕ = 1092 + idBytes * n in
+    let edges : ℕ = rows + rowSize idBytes * n in
     67 ∷ 71 ∷ 80 ∷ 72 ∷ 1 ∷ 1 ∷ 4 ∷ 0
-    ∷ (chunkRow OIDF 68 ++ (chunkRow OIDL 1092 ++ (chunkRow CDAT (1092 + 20 * n) ++ (chunkRow EDGE (1092 + 56 * n) ++ (chunkRow 0 (1092 + 56 * n + 4 * length es)
-    ++ (fanFrom 256 0 rs ++ (idBytesOf rs ++ (rowBytesOf rs ++ (edgeBytesOf es ++ replicate 20 0)))))))))
+    ∷ (chunkRow OIDF 68 ++ (chunkRow OIDL 1092 ++ (chunkRow CDAT rows ++ (chunkRow EDGE edges ++ (chunkRow 0 (edges + 4 * length es)
+    ++ (fanFrom 256 0 rs ++ (idBytesOf rs ++ (rowBytesOf rs ++ (edgeBytesOf es ++ replicate idBytes 0)))))))))
 
 -- a store with a graph file
 unfoldable pub inputWith : List ℕ → List ℕ → List ℕ → List ℕ → Settings → Input
-unfolding names
+unfolding namesWide
 inputWith store graph tips hidden s =
     record { store = store; graph = graph; tips = names tips; hidden = names hidden; excluded = []; settings = s }
 
@@ -94,21 +96,21 @@ lastOf p = 0x80000000 + p
 -- 1 at 30 from 3 and 4; 2 at 25 from 4; 3 at 20; 4 at 7 from 5; 5 at 10 from 3: 4 stands twice in painting's queue when it is taken with
 -- both marks, and 5 is taken before its second turn
 unfoldable pub twoTurns : List ℕ
-unfolding storeOf
+unfolding storeWide
 twoTurns = storeOf (
     record { name = 1; time = 30; from = 3 ∷ 4 ∷ [] } ∷ record { name = 2; time = 25; from = 4 ∷ [] } ∷ record { name = 3; time = 20; from = [] }
     ∷ record { name = 4; time = 7; from = 5 ∷ [] } ∷ record { name = 5; time = 10; from = 3 ∷ [] } ∷ [])
 
 -- 1 at 30 from 2 and 3; 2 at 20; 3 at 7 from 4; 4 at 6 from 2; 5 at 5 from 3
 unfoldable pub lentTwice : List ℕ
-unfolding storeOf
+unfolding storeWide
 lentTwice = storeOf (
     record { name = 1; time = 30; from = 2 ∷ 3 ∷ [] } ∷ record { name = 2; time = 20; from = [] } ∷ record { name = 3; time = 7; from = 4 ∷ [] }
     ∷ record { name = 4; time = 6; from = 2 ∷ [] } ∷ record { name = 5; time = 5; from = 3 ∷ [] } ∷ [])
 
 -- 1 at 9 from 2, 3 and 4; 2 at 5, 3 at 6, 4 at 6
 unfoldable pub fork : List ℕ
-unfolding storeOf
+unfolding storeWide
 fork = storeOf (
     record { name = 1; time = 9; from = 2 ∷ 3 ∷ 4 ∷ [] } ∷ record { name = 2; time = 5; from = [] } ∷ record { name = 3; time = 6; from = [] }
     ∷ record { name = 4; time = 6; from = [] } ∷ [])
@@ -138,7 +140,7 @@ cut = graphOf (
 
 -- 1 at 9 from 3 and 5; 2 at 8 from 3; 3 at 3 from 4; 4 at 2 from 5; 5 at 1
 unfoldable pub grown : List ℕ
-unfolding storeOf
+unfolding storeWide
 grown = storeOf (
     record { name = 1; time = 9; from = 3 ∷ 5 ∷ [] } ∷ record { name = 2; time = 8; from = 3 ∷ [] } ∷ record { name = 3; time = 3; from = 4 ∷ [] }
     ∷ record { name = 4; time = 2; from = 5 ∷ [] } ∷ record { name = 5; time = 1; from = [] } ∷ [])
@@ -152,7 +154,7 @@ earlier = graphOf (
 
 -- 1 at 20 from 2 and 5; 2 at 17 from 4; 3 at 19; 4 at 8 from 5; 5 at 3
 unfoldable pub onward : List ℕ
-unfolding storeOf
+unfolding storeWide
 onward = storeOf (
     record { name = 1; time = 20; from = 2 ∷ 5 ∷ [] } ∷ record { name = 2; time = 17; from = 4 ∷ [] } ∷ record { name = 3; time = 19; from = [] }
     ∷ record { name = 4; time = 8; from = 5 ∷ [] } ∷ record { name = 5; time = 3; from = [] } ∷ [])
@@ -198,7 +200,7 @@ pub record Slips : Type 0 where
   pub computed : saysWith onward (rising 1) (1 ∷ []) (2 ∷ []) (all BreadthFirst) 3 ≡ out 1 ∷ handed (idFor 5) (some 3) none ∷ end ∷ []
 
 pub slips : Slips
-unfolding says saysWith all firstOnly sample twoTurns lentTwice fork stale grown earlier onward rising bytesAll idListAll headerAll storeAll graphAll walkAll
+unfolding says saysWith all firstOnly sampleWide twoTurns lentTwice fork stale grown earlier onward rising bytesAll idListAll headerAll storeAll graphAll walkAll
 slips = record {
   not-itself = refl;
   hides-all = refl;
@@ -215,7 +217,7 @@ slips = record {
 -- ---- answers in all their fields
 
 unfoldable pub idsFor : List ℕ → List Id
-unfolding idFor
+unfolding idWide
 idsFor [] = []
 idsFor (n ∷ ns) = idFor n ∷ idsFor ns
 
@@ -251,7 +253,7 @@ pub record Fields : Type 0 where
   pub closed-record : answers (inputWith lost [] (9 ∷ []) [] (all newest)) 1 ≡ whole (refused Closed) [] 0 0 0 ∷ []
 
 pub fields : Fields
-unfolding inputWith idsFor all firstOnly sample fork lost listing unlevelled cut bytesAll idListAll headerAll storeAll graphAll walkAll
+unfolding inputWith idsFor all firstOnly sampleWide fork lost listing unlevelled cut bytesAll idListAll headerAll storeAll graphAll walkAll
 fields = record {
   struck = refl;
   graph-row = refl;

@@ -9,6 +9,7 @@ ghost use Rattle.walk.specs.Settings.{timed, cutoffOf, notBefore};
 use commitgraph::Level;
 use date::Seconds;
 use date::Zone;
+use hash::Kind;
 
 // Which of two commits a time order takes first (document 01: newest, oldest).
 pub enum CommitTimeOrder {
@@ -32,10 +33,11 @@ pub enum Parents {
     First,
 }
 
-// The settings of a walk.
+// The settings of a walk, and the kind of the ids that its files and lists hold (document 02, card 13).
 pub struct Settings {
     pub sorting: Sorting,
     pub parents: Parents,
+    pub kind: Kind,
 }
 
 // A commit's place in the painting's order (document 01: the pair of level and seconds).
@@ -92,10 +94,10 @@ pub enum MaybeSeconds {
     NoTime,
 }
 
-// What an answer says of a commit (gix_traverse::commit::Info). The parents' ids stand at the start of the lent buffer `parents`; here is
-// their number. In a refusal and at the end all else is zeros and none.
+// What an answer says of a commit (gix_traverse::commit::Info). Its id has the width of its kind, and zeros stand after it. The parents' ids
+// stand at the start of the lent buffer `parents`; here is their number. In a refusal and at the end all else is zeros and none.
 pub struct Info {
-    pub id: [u8; 20],
+    pub id: [u8; 32],
     pub parents: usize,
     pub generation: MaybeLevel,
     pub time: MaybeSeconds,

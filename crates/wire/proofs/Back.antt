@@ -1,5 +1,5 @@
--- A record comes back from its words: each field is read at the place where its word stands, a yes is 1, and the number that the next
--- commit is queued under is below 2 ^ 32. Assumes nothing.
+-- A record comes back from its words: each field is read at the place where its word stands, a yes is 1, the number that the next commit is
+-- queued under is below 2 ^ 32, and either kind comes back from its word. Assumes nothing.
 use mathlib.Core.Path.{_≡_, refl, _∙_, ap}
 use Prim.Native.Nat.{ℕ, _+_, _%_, _≤_, _<_}
 use mathlib.Core.Bool.{Bool, true, false}
@@ -8,13 +8,20 @@ use native.Mathlib.Omega.{arith}
 use lib.ListN.{length, drop}
 use lib.Dec.{eqb}
 use Rattle.hash.specs.Bytes.{setDown}
+use Rattle.hash.specs.declared.Kind.{Kind}
+use Rattle.hash.specs.declared.Kind.the-variants.{Sha1, Sha256}
 use Rattle.hash.proofs.Bytes.{setDown-fits}
 use Rattle.state.specs.declared.Record.{Record}
-use Rattle.wire.specs.Words.{bitOf, recordWords, wordsOf, queueOf, fixedIn, recordOf}
+use Rattle.wire.specs.Words.{kindOf, widthWord, bitOf, recordWords, wordsOf, queueOf, fixedIn, recordOf}
 
 bit-back : (b : Bool) → eqb (bitOf b) 1 ≡ b
 bit-back true = refl
 bit-back false = refl
+
+kind-back : (kind : Kind) → kindOf (widthWord kind % 4294967296) ≡ kind
+unfolding kindOf
+kind-back Sha1 = refl
+kind-back Sha256 = refl
 
 -- whatever words stand after them
 pub words-back : (r : Record) (rest : List ℕ) → r .queue .next < 4294967296 → recordOf (wordsOf r ++ rest) ≡ r
@@ -36,6 +43,7 @@ words-back r rest h =
           count = r .fixed .layout .count;
           levels = bit-back (r .fixed .layout .levels) k;
         };
+        kind = kind-back (r .fixed .kind) k;
       };
       queue = record {
         timed = bit-back (r .queue .timed) k;

@@ -16,7 +16,8 @@ use Rattle.walk.specs.declared.Parents.{Parents}
 use Rattle.walk.specs.declared.Parents.the-variants.{All, First}
 use Rattle.walk.specs.declared.OpenAnswer.{OpenAnswer}
 use Rattle.walk.specs.Given.{Given, outcomeNumber, openNumber, secondsValue, zoneValue}
-use Rattle.wire.specs.Words.{openWords, answerWords}
+use Rattle.object.specs.Ids.{idIn}
+use Rattle.wire.specs.Words.{kindOf, openWords, answerWords}
 
 -- ---- settings
 
@@ -33,8 +34,9 @@ sortingOf sorting limited cutoff =
 abbrev pub parentsOf : ℕ → Parents
 parentsOf first = cond (eqb first 0) All First
 
-unfoldable pub settingsOf : ℕ → ℕ → ℤ → ℕ → Settings
-settingsOf sorting limited cutoff first = record { sorting = sortingOf sorting limited cutoff; parents = parentsOf first }
+-- and the kind of ids by their width
+unfoldable pub settingsOf : ℕ → ℕ → ℕ → ℤ → ℕ → Settings
+settingsOf width sorting limited cutoff first = record { sorting = sortingOf sorting limited cutoff; parents = parentsOf first; kind = kindOf width }
 
 -- ---- answers set down
 
@@ -42,8 +44,9 @@ pub record PutsOpenAnswer (a : OpenAnswer) (numbers numbers′ : List ℕ) (n : 
   pub result : n ≡ openNumber (a .outcome)
   pub numbers-are : numbers′ ≡ setDown numbers 0 (openWords a)
 
-pub record PutsAnswer (a : Given) (id id′ numbers numbers′ : List ℕ) (seconds seconds′ : List ℤ) (n : ℕ) : Type 0 where
+-- the id in its width
+pub record PutsAnswer (w : ℕ) (a : Given) (id id′ numbers numbers′ : List ℕ) (seconds seconds′ : List ℤ) (n : ℕ) : Type 0 where
   pub result : n ≡ outcomeNumber (a .outcome)
-  pub id-is : id′ ≡ setDown id 0 (a .info .id)
+  pub id-is : id′ ≡ setDown id 0 (idIn w (a .info .id))
   pub numbers-are : numbers′ ≡ setDown numbers 0 (answerWords a)
   pub seconds-are : seconds′ ≡ set (set seconds 0 (secondsValue (a .info .time))) 1 (zoneValue (a .info .zone))

@@ -1,12 +1,14 @@
 -- A record and the numbers of an answer as words, each a number below 2 ^ 64. Assumes nothing.
 use Prim.Native.Nat.{ℕ, _%_, _≤_}
-use mathlib.Core.Path.{_≡_}
+use mathlib.Core.Path.{_≡_, refl}
 use mathlib.Core.Bool.{Bool, true, false, cond, _&&_}
 use mathlib.Core.List.{List, [], _∷_}
-use lib.ListN.{length, getD}
+use lib.ListN.{length, getD, replicate}
 use lib.Dec.{eqb, leb}
 use lib.IntN.{ℤ}
-use Rattle.hash.specs.Bytes.{idBytes, setDown}
+use Rattle.hash.specs.Bytes.{pick, setDown}
+use Rattle.hash.specs.declared.Kind.{Kind}
+use Rattle.hash.specs.declared.Kind.the-variants.{Sha1, Sha256}
 use Rattle.revwalk.specs.declared.queue.Queue.{Queue}
 use Rattle.walk.specs.declared.OpenAnswer.{OpenAnswer}
 use Rattle.walk.specs.declared.MaybeLevel.{MaybeLevel}
@@ -20,27 +22,41 @@ use Rattle.walk.specs.Refusals.{numberOf}
 use Rattle.walk.specs.Given.{Given, levelValue}
 use Rattle.state.specs.declared.Fixed.{Fixed}
 use Rattle.state.specs.declared.Record.{Record}
+use Rattle.state.specs.Reads.{closedRecord}
 
 abbrev pub bitOf : Bool → ℕ
 bitOf true = 1
 bitOf false = 0
 
+-- the kind of ids by their width (document 02, card 13): 32 is SHA-256, any other number SHA-1
+unfoldable pub kindOf : ℕ → Kind
+kindOf n = pick (eqb n 32) Sha256 Sha1
+
+-- the word of the kind of ids: 0 for SHA-1, so that a closed record is zeros alone
+abbrev pub widthWord : Kind → ℕ
+widthWord Sha1 = 0
+widthWord Sha256 = 32
+
 -- ---- a record (document 01: one small record of counters)
 
 abbrev pub recordWords : ℕ
-recordWords = 19
+recordWords = 20
 
--- its words: whether it is open and what has happened, the queue, the two counts, where the graph file's chunks stand, and whether its levels are
--- used
+-- its words: whether it is open and what has happened, the queue, the two counts, where the graph file's chunks stand, whether its levels are used, and
+-- the kind of ids
 unfoldable pub wordsOf : Record → List ℕ
 wordsOf r =
     bitOf (r .live) ∷ bitOf (r .painted) ∷ bitOf (r .failed) ∷ bitOf (r .kept)
     ∷ bitOf (r .queue .timed) ∷ bitOf (r .queue .newest) ∷ r .queue .cap ∷ r .queue .head ∷ r .queue .count ∷ r .queue .next
     ∷ r .admitted ∷ r .struck
     ∷ r .fixed .layout .fan ∷ r .fixed .layout .ids ∷ r .fixed .layout .rows ∷ r .fixed .layout .edge ∷ r .fixed .layout .edges ∷ r .fixed .layout .count
-    ∷ bitOf (r .fixed .layout .levels) ∷ []
+    ∷ bitOf (r .fixed .layout .levels) ∷ widthWord (r .fixed .kind) ∷ []
 
--- a word past the end is 0, a yes or no is yes where its word is 1, and of the number that the next commit is queued under the low 32
+pub closed-words : wordsOf closedRecord ≡ replicate recordWords 0
+unfolding wordsOf closedRecord
+closed-words = refl
+
+-- a word past the end is 0, a yes or no is yes where its word is 1, and of the number that the next commit is queued under and of the kind's word the low 32
 -- bits count
 unfoldable pub queueOf : List ℕ → Queue
 queueOf w = record {
@@ -63,6 +79,7 @@ fixedIn w = record {
     count = getD w 17 0;
     levels = eqb (getD w 18 0) 1;
   };
+  kind = kindOf (getD w 19 0 % 4294967296);
 }
 
 -- the record that words stand for
@@ -121,6 +138,6 @@ answerWords a =
 unfoldable pub roomToOpen : List ℕ → List ℕ → Bool
 roomToOpen words numbers = leb recordWords (length words) && leb 3 (length numbers)
 
--- for the record's words, and a call's id, eight numbers, and seconds and zone
-unfoldable pub roomToCall : List ℕ → List ℕ → List ℕ → List ℤ → Bool
-roomToCall words id numbers seconds = leb recordWords (length words) && leb idBytes (length id) && leb 8 (length numbers) && leb 2 (length seconds)
+-- for the record's words, and a call's id of this width, eight numbers, and seconds and zone
+unfoldable pub roomToCall : ℕ → List ℕ → List ℕ → List ℕ → List ℤ → Bool
+roomToCall w words id numbers seconds = leb recordWords (length words) && leb w (length id) && leb 8 (length numbers) && leb 2 (length seconds)

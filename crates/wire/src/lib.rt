@@ -21,13 +21,13 @@ ghost use mathlib.Core.Path.{_≡_};
 ghost use Prim.Native.Nat.{_%_};
 ghost use lib.ListN.{getD, set};
 ghost use lib.Dec.{eqb};
-ghost use Rattle.hash.specs.Bytes.{setDown};
+ghost use Rattle.hash.specs.Bytes.{widthOf, setDown};
 ghost use Rattle.walk.specs.Given.{outcomeNumber, openNumber, levelValue, secondsValue, zoneValue};
-ghost use Rattle.wire.specs.Words.{bitOf, wordsOf, recordOf, queueOf, fixedIn, Encodes, PutsRecord, answerWords, hasLevel, hasSeconds, hasZone, roomToOpen, roomToCall};
+ghost use Rattle.wire.specs.Words.{kindOf, widthWord, bitOf, wordsOf, recordOf, queueOf, fixedIn, Encodes, PutsRecord, answerWords, hasLevel, hasSeconds, hasZone, roomToOpen, roomToCall};
 ghost use Rattle.wire.specs.Numbers.{timeOrder, sortingOf, parentsOf, settingsOf, PutsOpenAnswer, PutsAnswer};
 
 // How many words a record has.
-const RECORD_WORDS: usize = 19;
+const RECORD_WORDS: usize = 20;
 
 // How many numbers an opening's answer has, and a call's.
 const OPEN_NUMBERS: usize = 3;
@@ -40,6 +40,17 @@ const CLOSED: u32 = 12;
 // The number of the end, which is no refusal's.
 const END: u32 = 100;
 
+// The kind of ids of a width: 32 is SHA-256, any other number SHA-1.
+pub fn kind_of(width: u32) -> Kind
+    ensures { λ r. ⌜ r ≡ kindOf width ⌝ }
+{
+    if width == 32 {
+        Kind::Sha256
+    } else {
+        Kind::Sha1
+    }
+}
+
 // Whether there is room for the record's words and an opening's numbers.
 pub fn can_open(words: &[u64], numbers: &[u64]) -> bool
     ensures { λ r. ⌜ r ≡ roomToOpen (now (words .entry)) (now (numbers .entry)) ⌝ }
@@ -51,13 +62,13 @@ pub fn can_open(words: &[u64], numbers: &[u64]) -> bool
 }
 
 // Whether there is room for the record's words, and for a call's id, numbers and seconds.
-pub fn can_call(words: &[u64], id: &[u8], numbers: &[u64], seconds: &[i64]) -> bool
-    ensures { λ r. ⌜ r ≡ roomToCall (now (words .entry)) (now (id .entry)) (now (numbers .entry)) (now (seconds .entry)) ⌝ }
+pub fn can_call(kind: Kind, words: &[u64], id: &[u8], numbers: &[u64], seconds: &[i64]) -> bool
+    ensures { λ r. ⌜ r ≡ roomToCall (widthOf kind) (now (words .entry)) (now (id .entry)) (now (numbers .entry)) (now (seconds .entry)) ⌝ }
 {
     if words.len() < RECORD_WORDS {
         return false;
     }
-    if id.len() < hash::width(Kind::Sha1) {
+    if id.len() < hash::width(kind) {
         return false;
     }
     if numbers.len() < CALL_NUMBERS {
@@ -131,13 +142,24 @@ pub fn put(out: &mut [u64], x: &[u64])
     }
 }
 
+// The word of the kind of ids, which `kind_of` reads: 0 for SHA-1, so that a closed record is zeros alone.
+fn width_word(kind: Kind) -> u64
+    ensures { λ r. ⌜ r ≡ widthWord kind ⌝ }
+{
+    match kind {
+        Kind::Sha1 => 0,
+        Kind::Sha256 => 32,
+    }
+}
+
 // The words of a record.
-pub fn words_of(r: Record) -> [u64; 19]
+pub fn words_of(r: Record) -> [u64; 20]
     ensures { λ w. ⌜ w ≡ wordsOf r ⌝ }
 {
     let q = r.queue;
     let fixed = r.fixed;
     let l = fixed.layout;
+    let kind = fixed.kind;
     [
         bit(r.live),
         bit(r.painted),
@@ -158,6 +180,7 @@ pub fn words_of(r: Record) -> [u64; 19]
         long(l.edges),
         long(l.count),
         bit(l.levels),
+        width_word(kind),
     ]
 }
 
@@ -204,6 +227,7 @@ fn fixed_in(words: &[u64]) -> Fixed
             count: count(words, 17),
             levels: flag(words, 18),
         },
+        kind: kind_of(low(words, 19)),
     }
 }
 
@@ -258,13 +282,14 @@ fn parents_of(first: u32) -> Parents
     Parents::First
 }
 
-// The settings with these numbers: the order's, whether there is a cutoff, the cutoff, and whether only first parents are followed.
-pub fn settings_of(sorting: u32, limited: u32, cutoff: i64, first: u32) -> Settings
-    ensures { λ s. ⌜ s ≡ settingsOf sorting limited cutoff first ⌝ }
+// The settings with these numbers: the width of ids, the order's, whether there is a cutoff, the cutoff, and whether only first parents are followed.
+pub fn settings_of(width: u32, sorting: u32, limited: u32, cutoff: i64, first: u32) -> Settings
+    ensures { λ s. ⌜ s ≡ settingsOf width sorting limited cutoff first ⌝ }
 {
     Settings {
         sorting: sorting_of(sorting, limited, Seconds(cutoff)),
         parents: parents_of(first),
+        kind: kind_of(width),
     }
 }
 
@@ -401,14 +426,20 @@ fn answer_words(a: Answer) -> [u64; 8]
 }
 
 // A call's answer: its id, numbers and seconds set down, and the number of its outcome.
-pub fn put_answer(a: Answer, id: &mut [u8], numbers: &mut [u64], seconds: &mut [i64]) -> u32
-    ensures { λ n. ⌜ PutsAnswer a (now (id .entry)) (now (id .exit)) (now (numbers .entry)) (now (numbers .exit)) (now (seconds .entry)) (now (seconds .exit)) n ⌝ }
+pub fn put_answer(
+    kind: Kind,
+    a: Answer,
+    id: &mut [u8],
+    numbers: &mut [u64],
+    seconds: &mut [i64],
+) -> u32
+    ensures { λ n. ⌜ PutsAnswer (widthOf kind) a (now (id .entry)) (now (id .exit)) (now (numbers .entry)) (now (numbers .exit)) (now (seconds .entry)) (now (seconds .exit)) n ⌝ }
 {
     let w = answer_words(a);
     put(numbers, &w);
     let info = a.info;
     let x = info.id;
-    hash::set_down(id, 0, &x);
+    hash::set_down(id, 0, object::id_slice(kind, &x));
     let t = info.time;
     let s = seconds_value(t);
     put_seconds(s.0, seconds);

@@ -4,23 +4,23 @@ use hash::Kind;
 use object::ObjectId;
 use object::Reading;
 ghost use mathlib.Core.Path.{_≡_};
-ghost use Rattle.hash.specs.Bytes.{idBytes};
 ghost use Rattle.object.specs.Ids.{idIn};
 ghost use Rattle.withinreach.specs.Remembered.{Reads};
+ghost use Rattle.hash.specs.Bytes.{widthOf};
 
 // Whether every commit within d parent steps of a commit is readable, itself included. A commit that is absent is not.
-pub fn all_readable(store: &[u8], memo: &mut [u8], d: usize, id: ObjectId) -> bool
-    ensures { λ r. ⌜ Reads (now (store .entry)) d (idIn idBytes (id .bytes)) (now (memo .entry)) (now (memo .exit)) r ⌝ }
+pub fn all_readable(kind: Kind, store: &[u8], memo: &mut [u8], d: usize, id: ObjectId) -> bool
+    ensures { λ r. ⌜ Reads (widthOf kind) (now (store .entry)) d (idIn (widthOf kind) (id .bytes)) (now (memo .entry)) (now (memo .exit)) r ⌝ }
 {
-    let n = odb::count(Kind::Sha1, store);
-    let x = object::id_slice(Kind::Sha1, &id.bytes);
-    let k = memo::entry_of(store, n, x);
+    let n = odb::count(kind, store);
+    let x = object::id_slice(kind, &id.bytes);
+    let k = memo::entry_of(kind, store, n, x);
     let known = memo::recall(memo, n, k, false, d);
     if known != 0 {
         return known == 2;
     }
-    let body = reading::stored_body(Kind::Sha1, store, x);
-    let Reading::Readable { parents, .. } = object::readable(Kind::Sha1, body) else {
+    let body = reading::stored_body(kind, store, x);
+    let Reading::Readable { parents, .. } = object::readable(kind, body) else {
         return false;
     };
     if d == 0 {
@@ -29,7 +29,13 @@ pub fn all_readable(store: &[u8], memo: &mut [u8], d: usize, id: ObjectId) -> bo
     }
     let mut i = 0;
     while i < parents {
-        if !all_readable(store, memo, d - 1, reading::body_parent(body, i)) {
+        if !all_readable(
+            kind,
+            store,
+            memo,
+            d - 1,
+            reading::body_parent(kind, body, i),
+        ) {
             memo::note(memo, n, k, false, d, false);
             return false;
         }

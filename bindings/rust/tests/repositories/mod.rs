@@ -8,7 +8,9 @@ use std::io::Write;
 use std::path::{Path, PathBuf};
 use std::process::{Command, Output, Stdio};
 
+/// The empty tree.
 pub const TREE: &str = "4b825dc642cb6eb9a060e54bf8d69288fbee4904";
+pub const WIDE_TREE: &str = "6ef19b41225c5369f1c104d45d8d85efa9b057b53b14b4b9b939dd74decc5321";
 
 /// A repository in a folder of its own, which is removed at the end.
 pub struct Repository {
@@ -51,11 +53,30 @@ pub fn set(lines: &[String]) -> BTreeSet<&String> {
 
 impl Repository {
     pub fn new(name: &str) -> Repository {
+        Repository::of_format(name, "sha1").unwrap()
+    }
+
+    /// With an object format; `None` where this git does not make such.
+    pub fn of_format(name: &str, format: &str) -> Option<Repository> {
         let repository = Repository { dir: folder(name) };
         fs::create_dir_all(&repository.dir).unwrap();
-        repository.git("init -q -b main .");
+        let mut git = repository.command();
+        git.args(["init", "-q", "-b", "main", &format!("--object-format={format}"), "."]);
+        if !run(git, b"").status.success() {
+            eprintln!("skipped: this git makes no repositories with {format}");
+            return None;
+        }
         repository.git("hash-object -w -t tree --stdin");
-        repository
+        Some(repository)
+    }
+
+    fn tree(&self) -> &'static str {
+        let config = fs::read_to_string(self.dir.join(".git/config")).unwrap_or_default();
+        if config.contains("sha256") {
+            WIDE_TREE
+        } else {
+            TREE
+        }
     }
 
     pub fn command(&self) -> Command {
@@ -82,8 +103,9 @@ impl Repository {
     /// Writes a commit with these parents and further header lines. The id.
     pub fn commit_with(&self, seconds: i64, parents: &[&str], more: &str) -> String {
         let parents: String = parents.iter().map(|parent| format!("parent {parent}\n")).collect();
+        let tree = self.tree();
         let body = format!(
-            "tree {TREE}\n{parents}author A B <a@b> {seconds} +0100\ncommitter C D <c@d> {seconds} +0100\n{more}\nrun at {seconds}\n"
+            "tree {tree}\n{parents}author A B <a@b> {seconds} +0100\ncommitter C D <c@d> {seconds} +0100\n{more}\nrun at {seconds}\n"
         );
         self.git_with("hash-object -w -t commit --stdin", body.as_bytes()).remove(0)
     }
@@ -120,7 +142,11 @@ impl Repository {
 
 /// A main line of 30 commits with side branches, merges of two and of four, and two roots; the times differ and rise.
 pub fn history(name: &str) -> Repository {
-    let repository = Repository::new(name);
+    history_in(Repository::new(name))
+}
+
+/// The same in a repository without commits.
+pub fn history_in(repository: Repository) -> Repository {
     let second = |n: i64| 1_700_000_000 + 60 * n;
     let other = repository.commit(second(0), &[]);
     let mut main = vec![repository.commit(second(1), &[])];

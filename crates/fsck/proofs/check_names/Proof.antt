@@ -33,16 +33,16 @@ enum-told c = search needs
 
 check-digests-requires : tie.Need-check-digests-requires
 check-digests-requires c κs = let x = c .before .before .before .before .before .before .before .before .args in
-    passes (filesInput (x .store .now) (x .graph .now)) (fine-as (filesRefusal (x .store .now) (x .graph .now)) (sym (c .enum-told .given .1) ∙ c .before .before .check-input .ensures anySettings)) .store-good
+    passes (filesInput (x .kind) (x .store .now) (x .graph .now)) (fine-as (filesRefusal (x .kind) (x .store .now) (x .graph .now)) (sym (c .enum-told .given .1) ∙ c .before .before .check-input .ensures (anySettings (x .kind)) refl)) .store-good
 
 returns : tie.Need-returns
 returns c = let x = c .before .before .before .before .before .before .before .before .before .args in
-    sym (after-refused (x .store .now) (x .graph .now) (c .before .r .given .0 .0) (refused-as (filesRefusal (x .store .now) (x .graph .now)) (sym (c .before .r .given .1) ∙ c .before .before .before .check-input .ensures anySettings)))
+    sym (after-refused (x .kind) (x .store .now) (x .graph .now) (c .before .r .given .0 .0) (refused-as (filesRefusal (x .kind) (x .store .now) (x .graph .now)) (sym (c .before .r .given .1) ∙ c .before .before .before .check-input .ensures (anySettings (x .kind)) refl)))
 
 returns-2 : tie.Need-returns-2
 returns-2 c = let x = c .before .before .before .before .before .before .before .before .before .args in
     c .check-digests .ensures
-    ∙ sym (after-fine (x .store .now) (x .graph .now) (fine-as (filesRefusal (x .store .now) (x .graph .now)) (sym (c .before .enum-told .given .1) ∙ c .before .before .before .check-input .ensures anySettings)))
+    ∙ sym (after-fine (x .kind) (x .store .now) (x .graph .now) (fine-as (filesRefusal (x .kind) (x .store .now) (x .graph .now)) (sym (c .before .enum-told .given .1) ∙ c .before .before .before .check-input .ensures (anySettings (x .kind)) refl)))
 
 pub check-names-spec : {M : Type 1} → statement M
 check-names-spec =

@@ -1,6 +1,6 @@
 -- `graphwire::graph_length` meets its contract: without room nothing is done; else what the call says is set down. Assumes nothing.
 use Rattle.graphwire.proofs.Calls.{no-room-measures, made-measures}
-use Rattle.graphwire.specs.Wire.{kindOf}
+use Rattle.wire.specs.Words.{kindOf}
 use borrow.Author.Needs.{needs}
 use Rattle.graphwire.proofs.graph_length.Statement.{statement}
 use Rattle.graphwire.proofs.graph_length.Tie as tie

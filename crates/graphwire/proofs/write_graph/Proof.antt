@@ -1,6 +1,6 @@
 -- `graphwire::write_graph` meets its contract: without room nothing is done; else what the call says is set down. Assumes nothing.
 use Rattle.graphwire.proofs.Calls.{no-room-writes, made-writes}
-use Rattle.graphwire.specs.Wire.{kindOf}
+use Rattle.wire.specs.Words.{kindOf}
 use borrow.Author.Needs.{needs}
 use Rattle.graphwire.proofs.write_graph.Statement.{statement}
 use Rattle.graphwire.proofs.write_graph.Tie as tie

@@ -13,6 +13,9 @@ use Rattle.linenhatch.proofs.linenhatch_check_names.Tie as tie
 returns : tie.Need-returns
 returns c = record { no-room = λ e. (refl, refl); result = λ f. absurd (f (c .if1 .taken)); numbers-are = λ f. absurd (f (c .if1 .taken)) }
 
+kind-of-requires : tie.Need-kind-of-requires
+kind-of-requires c κs = search needs
+
 check-names-requires : tie.Need-check-names-requires
 check-names-requires c κs = search needs
 
@@ -29,12 +32,12 @@ same-length : tie.Need-same-length
 same-length c = search needs
 
 returns-2 : tie.Need-returns-2
-returns-2 c = let x = c .before .before .before .before .before .before .before .before .before .before .before .args in
-    let k = c .before .before .before .before .before .before .check-names in
+returns-2 c = let x = c .before .before .before .before .before .before .before .before .before .before .before .before .args in
+    let k = rw (c .before .before .before .before .before .before .before .kind-of .ensures) at (c .before .before .before .before .before .before .check-names .ensures) in
     record {
-      no-room = λ e. absurd (c .before .before .before .before .before .before .before .if1 .left e);
-      result = λ f. c .number .ensures ∙ ap (λ (r : Report). checkedNumber (r .outcome)) (k .ensures);
-      numbers-are = λ f. c .before .before .before .put .ensures ∙ ap (λ (r : Report). setDown (x .numbers .now) 0 (r .entry ∷ [])) (k .ensures);
+      no-room = λ e. absurd (c .before .before .before .before .before .before .before .before .if1 .left e);
+      result = λ f. c .number .ensures ∙ ap (λ (r : Report). checkedNumber (r .outcome)) k;
+      numbers-are = λ f. c .before .before .before .put .ensures ∙ ap (λ (r : Report). setDown (x .numbers .now) 0 (r .entry ∷ [])) k;
     }
 
 pub linenhatch-check-names-spec : {M : Type 1} → statement M
@@ -42,6 +45,7 @@ linenhatch-check-names-spec =
     tie.close
     (tie.spec
     returns
+    kind-of-requires
     check-names-requires
     slice-aggregate-put
     put-requires

@@ -46,10 +46,10 @@ returns c =
     let x = s .args in
     let l = f .feed .last in
     let told : toZ w64 (ofZ w64 (x .cutoff)) ≡ x .cutoff = toZ-ofZ (s .fits .cutoff) in
-    subst (λ (z : ℤ). LibraryFeed (readerOf (x .outside)) (x .embargoed .now) (inputOf (x .store .now) (x .graph .now) (x .tips .now) (x .hidden .now) (x .excluded .now) (settingsOf (x .sorting) (x .limited) z (x .first)))
+    subst (λ (z : ℤ). LibraryFeed (readerOf (x .outside)) (x .embargoed .now) (inputOf (x .store .now) (x .graph .now) (x .tips .now) (x .hidden .now) (x .excluded .now) (settingsOf (x .width) (x .sorting) (x .limited) z (x .first)))
     (lentOf (x .names .now) (x .marks .now) (x .levels .now) (x .times .now) (x .line .now) (x .parents .now))
-    (lentOf (l .1 .1 .1 .1 .1 .1 .1 .1 .1 .1 .1 .0) (l .1 .1 .1 .1 .1 .1 .1 .1 .1 .1 .1 .1 .0) (l .1 .1 .1 .1 .1 .1 .1 .1 .1 .1 .1 .1 .1 .0) (l .1 .1 .1 .1 .1 .1 .1 .1 .1 .1 .1 .1 .1 .1 .0) (l .1 .1 .1 .1 .1 .1 .1 .1 .1 .1 .1 .1 .1 .1 .1 .0) (l .1 .1 .1 .1 .1 .1 .1 .1 .1 .1 .1 .1 .1 .1 .1 .1 .0))
-    (x .numbers .now) (l .1 .1 .1 .1 .1 .1 .1 .1 .1 .1 .1 .1 .1 .1 .1 .1 .1 .0) (x .difference .now) (l .1 .1 .1 .1 .1 .1 .1 .1 .1 .1 .1 .1 .1 .1 .1 .1 .1 .1 .0) (f .feed .result)) told (f .feed .ensures)
+    (lentOf (l .1 .1 .1 .1 .1 .1 .1 .1 .1 .1 .1 .1 .0) (l .1 .1 .1 .1 .1 .1 .1 .1 .1 .1 .1 .1 .1 .0) (l .1 .1 .1 .1 .1 .1 .1 .1 .1 .1 .1 .1 .1 .1 .0) (l .1 .1 .1 .1 .1 .1 .1 .1 .1 .1 .1 .1 .1 .1 .1 .0) (l .1 .1 .1 .1 .1 .1 .1 .1 .1 .1 .1 .1 .1 .1 .1 .1 .0) (l .1 .1 .1 .1 .1 .1 .1 .1 .1 .1 .1 .1 .1 .1 .1 .1 .1 .0))
+    (x .numbers .now) (l .1 .1 .1 .1 .1 .1 .1 .1 .1 .1 .1 .1 .1 .1 .1 .1 .1 .1 .0) (x .difference .now) (l .1 .1 .1 .1 .1 .1 .1 .1 .1 .1 .1 .1 .1 .1 .1 .1 .1 .1 .1 .0) (f .feed .result)) told (f .feed .ensures)
 
 pub linenhatch-feed-spec : {M : Type 1} → statement M
 linenhatch-feed-spec =

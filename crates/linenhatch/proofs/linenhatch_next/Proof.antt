@@ -8,10 +8,13 @@ use borrow.Author.Tests.{not-true, not-false}
 use Rattle.traverse.specs.Open.{lentOf}
 use Rattle.traverse.specs.Next.{filesLent}
 use Rattle.wire.specs.Numbers.{settingsOf}
-use Rattle.linenhatch.proofs.Calls.{no-room-says, made-says}
+use Rattle.linenhatch.proofs.Calls.{no-room-says, made-says, next-of}
 use borrow.Author.Needs.{needs}
 use Rattle.linenhatch.proofs.linenhatch_next.Statement.{statement}
 use Rattle.linenhatch.proofs.linenhatch_next.Tie as tie
+
+settings-of-requires : tie.Need-settings-of-requires
+settings-of-requires c κs = search needs
 
 can-call-requires : tie.Need-can-call-requires
 can-call-requires c κs = search needs
@@ -30,12 +33,15 @@ same-length-4 c = search needs
 
 returns : tie.Need-returns
 returns c =
-    let x = c .before .before .before .before .before .before .before .before .before .before .before .before .before .before .before .before .before .before .args in
-    no-room-says (filesLent (x .store .now) (x .graph .now) (x .hidden .now) (x .excluded .now) (settingsOf (x .sorting) (x .limited) (x .cutoff) (x .first))) (lentOf (x .names .now) (x .marks .now) (x .levels .now) (x .times .now) (x .line .now) (x .parents .now)) (x .words .now) (x .id .now) (x .numbers .now) (x .seconds .now)
-    (c .before .can-call .ensures) (not-true (c .before .can-call .result) (c .if1 .taken))
-
-settings-of-requires : tie.Need-settings-of-requires
-settings-of-requires c κs = search needs
+    let r = c .before in
+    let t = r .before .before .before .before .before in
+    let s = t .before .before .before .before .before .before .before .before .before .before .before .before .before in
+    let x = s .args in
+    let told : toZ w64 (ofZ w64 (x .cutoff)) ≡ x .cutoff = toZ-ofZ (s .fits .cutoff) in
+    let e = t .settings-of .ensures ∙ ap (λ (z : ℤ). settingsOf (x .width) (x .sorting) (x .limited) z (x .first)) told in
+    next-of (ap (filesLent (x .store .now) (x .graph .now) (x .hidden .now) (x .excluded .now)) e)
+    (no-room-says (filesLent (x .store .now) (x .graph .now) (x .hidden .now) (x .excluded .now) (t .settings-of .result)) (lentOf (x .names .now) (x .marks .now) (x .levels .now) (x .times .now) (x .line .now) (x .parents .now)) (x .words .now) (x .id .now) (x .numbers .now) (x .seconds .now)
+    (r .can-call .ensures) (not-true (r .can-call .result) (c .if1 .taken)))
 
 decode-requires : tie.Need-decode-requires
 decode-requires c κs = search needs
@@ -84,29 +90,30 @@ returns-2 c =
     let a = c .before .before .before .before .before .before .before .before .before in
     let o = a .before .before .before .before .before .before .before .before .before .before .before .before .before .before .before in
     let d = o .before .before .before .before .before .before .before in
-    let t = d .before .before in
-    let r = t .before .before in
-    let s = r .before .before .before .before .before .before .before .before .before .before .before .before .before .before .before .before .before in
+    let r = d .before .before .before in
+    let t = r .before .before .before .before .before in
+    let s = t .before .before .before .before .before .before .before .before .before .before .before .before .before in
     let x = s .args in
     let l = o .once .last in
     let told : toZ w64 (ofZ w64 (x .cutoff)) ≡ x .cutoff = toZ-ofZ (s .fits .cutoff) in
-    let e = t .settings-of .ensures ∙ ap (λ (z : ℤ). settingsOf (x .sorting) (x .limited) z (x .first)) told in
-    made-says {m = lentOf (x .names .now) (x .marks .now) (x .levels .now) (x .times .now) (x .line .now) (x .parents .now)}
+    let e = t .settings-of .ensures ∙ ap (λ (z : ℤ). settingsOf (x .width) (x .sorting) (x .limited) z (x .first)) told in
+    next-of (ap (filesLent (x .store .now) (x .graph .now) (x .hidden .now) (x .excluded .now)) e)
+    (made-says {m = lentOf (x .names .now) (x .marks .now) (x .levels .now) (x .times .now) (x .line .now) (x .parents .now)}
     {m′ = lentOf (l .1 .1 .1 .1 .1 .1 .0) (l .1 .1 .1 .1 .1 .1 .1 .0) (l .1 .1 .1 .1 .1 .1 .1 .1 .0) (l .1 .1 .1 .1 .1 .1 .1 .1 .1 .0) (l .1 .1 .1 .1 .1 .1 .1 .1 .1 .1 .0) (l .1 .1 .1 .1 .1 .1 .1 .1 .1 .1 .1 .0)}
-    (ap (filesLent (x .store .now) (x .graph .now) (x .hidden .now) (x .excluded .now)) e) (d .decode .ensures)
-    (r .can-call .ensures) (not-false (r .can-call .result) (t .before .if1 .left)) (o .once .ensures) (a .put-answer .ensures) (c .before .before .put-record .ensures)
+    (d .decode .ensures)
+    (r .can-call .ensures) (not-false (r .can-call .result) (d .before .before .if1 .left)) (o .once .ensures) (a .put-answer .ensures) (c .before .before .put-record .ensures))
 
 pub linenhatch-next-spec : {M : Type 1} → statement M
 linenhatch-next-spec =
     tie.close
     (tie.spec
+    settings-of-requires
     can-call-requires
     same-length
     same-length-2
     same-length-3
     same-length-4
     returns
-    settings-of-requires
     decode-requires
     once-requires
     put-answer-requires

@@ -5,6 +5,7 @@ use Rattle.mergebase.proofs.Partings.{base-told}
 use borrow.Author.Needs.{needs}
 use Rattle.mergebase.proofs.answer.Statement.{statement}
 use Rattle.mergebase.proofs.answer.Tie as tie
+use Rattle.hash.specs.Bytes.{widthOf}
 
 enum-told : tie.Need-enum-told
 enum-told c = search needs
@@ -25,13 +26,13 @@ enum-known-place-2 : tie.Need-enum-known-place-2
 enum-known-place-2 c = search needs
 
 returns : tie.Need-returns
-returns c = sym (ap (answerOf (c .before .before .before .args .names .now)) (c .enum-told .given .1))
+returns c = sym (ap (answerOf (widthOf (c .before .before .before .args .kind)) (c .before .before .before .args .names .now)) (c .enum-told .given .1))
 
 returns-2 : tie.Need-returns-2
-returns-2 c = base-told (c .before .before .before .before .before .before .args .names .now) _ (c .id-of2 .ensures) (c .before .id-of .ensures) ∙ sym (ap (answerOf (c .before .before .before .before .before .before .args .names .now)) (c .before .before .before .place .given .1))
+returns-2 c = base-told (widthOf (c .before .before .before .before .before .before .args .kind)) (c .before .before .before .before .before .before .args .names .now) _ (c .id-of2 .ensures) (c .before .id-of .ensures) ∙ sym (ap (answerOf (widthOf (c .before .before .before .before .before .before .args .kind)) (c .before .before .before .before .before .before .args .names .now)) (c .before .before .before .place .given .1))
 
 returns-3 : tie.Need-returns-3
-returns-3 c = sym (ap (answerOf (c .before .before .before .before .args .names .now)) (c .before .place2 .given .1))
+returns-3 c = sym (ap (answerOf (widthOf (c .before .before .before .before .args .kind)) (c .before .before .before .before .args .names .now)) (c .before .place2 .given .1))
 
 pub answer-spec : {M : Type 1} → statement M
 answer-spec =

@@ -18,7 +18,7 @@ place-of-requires : tie.Need-place-of-requires
 place-of-requires c κs = search needs
 
 same-length : tie.Need-same-length
-same-length c = c .before .before .before .before .before .stain-all .kept .1 .1 .0 ∙ c .before .before .before .before .before .before .before .before .before .clear .kept .0
+same-length c = c .before .before .before .before .before .stain-all .kept .1 .1 .1 .0 ∙ c .before .before .before .before .before .before .before .before .before .clear .kept .0
 
 returns : tie.Need-returns
 returns c = best-chosen (c .before .before .before .before .before .before .before .before .before .before .before .before .before .before .before .before .args .levels .now) (c .before .before .before .before .before .before .before .before .before .clear .ensures) (c .before .before .before .before .before .stain-all .ensures) (c .before .choose .ensures) (c .place-of .ensures)

@@ -4,9 +4,13 @@ use borrow.Author.Tests.{not-true, not-false}
 use Rattle.opening.specs.Checks.{lengthsOf}
 use Rattle.reach.specs.Memory.{lent}
 use Rattle.mergewire.proofs.Parts.{no-room-says, made-says}
+use Rattle.wire.specs.Words.{kindOf}
 use borrow.Author.Needs.{needs}
 use Rattle.mergewire.proofs.merge_base.Statement.{statement}
 use Rattle.mergewire.proofs.merge_base.Tie as tie
+
+kind-of-requires : tie.Need-kind-of-requires
+kind-of-requires c κs = search needs
 
 can-part-requires : tie.Need-can-part-requires
 can-part-requires c κs = search needs
@@ -18,9 +22,9 @@ same-length-2 : tie.Need-same-length-2
 same-length-2 c = search needs
 
 returns : tie.Need-returns
-returns c = let x = c .before .before .before .before .before .before .before .before .before .before .before .before .before .before .args in
-    no-room-says (x .store .now) (x .one .now) (x .other .now) (lengthsOf (length (x .names .now)) (length (x .marks .now)) (length (x .levels .now)) (length (x .times .now)) (length (x .line .now)) (length (x .parents .now))) (lent (x .names .now) (x .marks .now) (x .line .now)) (x .levels .now) (x .id .now) (x .numbers .now)
-    (c .before .can-part .ensures) (not-true (c .before .can-part .result) (c .if1 .taken))
+returns c = let x = c .before .before .before .before .before .before .before .before .before .before .before .before .before .before .before .args in
+    no-room-says (kindOf (x .width)) (x .store .now) (x .one .now) (x .other .now) (lengthsOf (length (x .names .now)) (length (x .marks .now)) (length (x .levels .now)) (length (x .times .now)) (length (x .line .now)) (length (x .parents .now))) (lent (x .names .now) (x .marks .now) (x .line .now)) (x .levels .now) (x .id .now) (x .numbers .now)
+    (c .before .before .before .before .kind-of .ensures) (c .before .can-part .ensures) (not-true (c .before .can-part .result) (c .if1 .taken))
 
 id-of-requires : tie.Need-id-of-requires
 id-of-requires c κs = search needs
@@ -59,16 +63,17 @@ returns-2 c =
     let j = k .before .before .before .before .before in
     let i = j .before in
     let t = i .before .before in
-    let x = t .before .before .before .before .before .before .before .before .before .before .before .before .before .args in
+    let x = t .before .before .before .before .before .before .before .before .before .before .before .before .before .before .args in
     let l = k .merge-base .last in
     made-says {store = x .store .now} {one = x .one .now} {other = x .other .now} {l = lengthsOf (length (x .names .now)) (length (x .marks .now)) (length (x .levels .now)) (length (x .times .now)) (length (x .line .now)) (length (x .parents .now))}
-    {m = lent (x .names .now) (x .marks .now) (x .line .now)} {m′ = lent (l .1 .1 .1 .0) (l .1 .1 .1 .1 .0) (l .1 .1 .1 .1 .1 .1 .1 .0)} {levels = x .levels .now} {levels′ = l .1 .1 .1 .1 .1 .0} {id = x .id .now} {numbers = x .numbers .now}
-    (t .can-part .ensures) (not-false (t .can-part .result) (i .before .if1 .left)) (i .id-of .ensures) (j .id-of2 .ensures) (k .merge-base .ensures) (p .put-base .ensures)
+    {m = lent (x .names .now) (x .marks .now) (x .line .now)} {m′ = lent (l .1 .1 .1 .1 .0) (l .1 .1 .1 .1 .1 .0) (l .1 .1 .1 .1 .1 .1 .1 .1 .0)} {levels = x .levels .now} {levels′ = l .1 .1 .1 .1 .1 .1 .0} {id = x .id .now} {numbers = x .numbers .now}
+    (t .before .before .before .kind-of .ensures) (t .can-part .ensures) (not-false (t .can-part .result) (i .before .if1 .left)) (i .id-of .ensures) (j .id-of2 .ensures) (k .merge-base .ensures) (p .put-base .ensures)
 
 pub merge-base-spec : {M : Type 1} → statement M
 merge-base-spec =
     tie.close
     (tie.spec
+    kind-of-requires
     can-part-requires
     same-length
     same-length-2

@@ -9,7 +9,8 @@ use borrow.Author.Needs.{needs}
 use borrow.Author.Tests.{not-true, not-false}
 use borrow.Fn.Kinds.{In}
 use borrow.Fn.PlainCycle.{Measures, is, falls, and}
-use Rattle.hash.specs.Bytes.{Id, idBytes}
+use Rattle.hash.specs.Bytes.{Id, widthOf}
+use Rattle.hash.proofs.Widths.{width-most}
 use Rattle.object.specs.Ids.{idIn}
 use Rattle.walk.specs.Opening.{listIds}
 use Rattle.reading.specs.Stored.{GivesBody}
@@ -34,10 +35,10 @@ use Rattle.moves.proofs.+bed_to_move+cone_to_move.{statement}
 use Rattle.moves.proofs.+bed_to_move+cone_to_move.Tie.{close}
 
 abbrev μ-bed-to-move : Measures 3 bed-to-move-kinds.ps ℕ
-μ-bed-to-move κs a = a .1 .1 .1 .0
+μ-bed-to-move κs a = a .1 .1 .1 .1 .0
 
 abbrev μ-cone-to-move : Measures 3 cone-to-move-kinds.ps ℕ
-μ-cone-to-move κs a = a .1 .1 .1 .0
+μ-cone-to-move κs a = a .1 .1 .1 .1 .0
 
 -- what `bed_to_move` is given at the measure t, and what a call of it asks below t
 abbrev bed-at : ℕ → In 3 bed-to-move-kinds.ps
@@ -62,10 +63,10 @@ abbrev cone-hears : ℕ → cone-to-move-lts.Claims
 cone-hears t = (count-reads.Asked, count-reads.Learnt, id-slice-reads.Asked, id-slice-reads.Learnt, entry-of-reads.Asked, entry-of-reads.Learnt, settled-reads.Asked, settled-reads.Learnt, stored-body-reads.Asked, stored-body-reads.Learnt, parent-count-reads.Asked, parent-count-reads.Learnt, body-parent-reads.Asked, body-parent-reads.Learnt, bed-below t, bed-to-move.Post, note-reads.Asked, note-reads.Learnt)
 
 abbrev bed-Inv-loop : bed-to-move-lts.InvT-loop
-bed-Inv-loop store list memo₀ d n k s body count i₀ memo i = (i ≤ count) × Turning store (listIds list) true (d - 1) body memo₀ memo i
+bed-Inv-loop kind store list memo₀ d n k s body count i₀ memo i = (i ≤ count) × Turning (widthOf kind) store (listIds (widthOf kind) list) true (d - 1) body memo₀ memo i
 
 abbrev bed-μ-loop : bed-to-move-lts.MeasureT-loop
-bed-μ-loop store list memo₀ d n k s body count i₀ memo i = count - i
+bed-μ-loop kind store list memo₀ d n k s body count i₀ memo i = count - i
 
 bed-count-requires : (t : ℕ) → bed-to-move-lts.Need-count-requires (bed-hears t) (bed-at t) bed-to-move.Post bed-Inv-loop bed-μ-loop
 bed-count-requires t c κs = search needs
@@ -80,10 +81,10 @@ bed-settled-requires : (t : ℕ) → bed-to-move-lts.Need-settled-requires (bed-
 bed-settled-requires t c κs = search needs
 
 bed-same-length : (t : ℕ) → bed-to-move-lts.Need-same-length (bed-hears t) (bed-at t) bed-to-move.Post bed-Inv-loop bed-μ-loop
-bed-same-length t c = c .before .before .before .settled .kept .1 .1 .0
+bed-same-length t c = c .before .before .before .settled .kept .1 .1 .1 .0
 
 bed-returns : (t : ℕ) → bed-to-move-lts.Need-returns (bed-hears t) (bed-at t) bed-to-move.Post bed-Inv-loop bed-μ-loop
-bed-returns t c = let x = c .before .before .before .before .before .before .before .before .before .before .before .before .before .args in let sn = c .before .before .before .before .before .before .before .before .before .count .ensures in judged-as (c .before .before .before .before .before .before .id-slice .ensures) (judge-settled (x .store .now) (listIds (x .list .now)) sn _ (c .before .before .before .before .before .entry-of .ensures) (c .before .before .before .settled .ensures sn) (c .if1 .taken))
+bed-returns t c = let x = c .before .before .before .before .before .before .before .before .before .before .before .before .before .args in let sn = c .before .before .before .before .before .before .before .before .before .count .ensures in judged-as (c .before .before .before .before .before .before .id-slice .ensures) (judge-settled (widthOf (x .kind)) (x .store .now) (listIds (widthOf (x .kind)) (x .list .now)) sn _ (c .before .before .before .before .before .entry-of .ensures) (c .before .before .before .settled .ensures sn) (c .if1 .taken))
 
 bed-stored-body-requires : (t : ℕ) → bed-to-move-lts.Need-stored-body-requires (bed-hears t) (bed-at t) bed-to-move.Post bed-Inv-loop bed-μ-loop
 bed-stored-body-requires t c κs = search needs
@@ -92,7 +93,7 @@ bed-parent-count-requires : (t : ℕ) → bed-to-move-lts.Need-parent-count-requ
 bed-parent-count-requires t c κs = search needs
 
 bed-loop-holds : (t : ℕ) → bed-to-move-lts.Need-loop-holds (bed-hears t) (bed-at t) bed-to-move.Post bed-Inv-loop bed-μ-loop
-bed-loop-holds t c = let x = c .before .before .before .before .before .before .before .before .before .before .before .before .before .before .before .args in (search needs, turning-first (x .store .now) (listIds (x .list .now)) true (x .d - 1) _ _)
+bed-loop-holds t c = let x = c .before .before .before .before .before .before .before .before .before .before .before .before .before .before .before .args in (search needs, turning-first (widthOf (x .kind)) (x .store .now) (listIds (widthOf (x .kind)) (x .list .now)) true (x .d - 1) _ _)
 
 bed-sub-cone-to-move : (t : ℕ) → bed-to-move-lts.Need-sub-cone-to-move (bed-hears t) (bed-at t) bed-to-move.Post bed-Inv-loop bed-μ-loop
 bed-sub-cone-to-move t c = let p = c .before .before .before in let x = p .before .before .before .before .before .before .before .before .before .before .before .before .before .before .before .args in let sn = p .before .before .before .before .before .before .before .before .before .before .before .count .ensures in p .before .before .before .before .before .settled .ensures sn .left (p .before .before .if1 .left)
@@ -107,10 +108,10 @@ bed-note-requires : (t : ℕ) → bed-to-move-lts.Need-note-requires (bed-hears 
 bed-note-requires t c κs = search needs
 
 bed-same-length-2 : (t : ℕ) → bed-to-move-lts.Need-same-length-2 (bed-hears t) (bed-at t) bed-to-move.Post bed-Inv-loop bed-μ-loop
-bed-same-length-2 t c = c .before .before .note .kept .0 ∙ c .before .before .before .before .before .before .before .cone-to-move .kept .1 .1 .0 ∙ c .before .before .before .before .before .before .before .before .before .before .before .loop .inv .1 .long ∙ c .before .before .before .before .before .before .before .before .before .before .before .before .before .before .before .before .before .settled .kept .1 .1 .0
+bed-same-length-2 t c = c .before .before .note .kept .0 ∙ c .before .before .before .before .before .before .before .cone-to-move .kept .1 .1 .1 .0 ∙ c .before .before .before .before .before .before .before .before .before .before .before .loop .inv .1 .long ∙ c .before .before .before .before .before .before .before .before .before .before .before .before .before .before .before .before .before .settled .kept .1 .1 .1 .0
 
 bed-returns-2 : (t : ℕ) → bed-to-move-lts.Need-returns-2 (bed-hears t) (bed-at t) bed-to-move.Post bed-Inv-loop bed-μ-loop
-bed-returns-2 t c = let p = c .before .before .before .before .before .before .before .before .before .before .before .before in let x = p .before .before .before .before .before .before .before .before .before .before .before .before .before .before .before .args in let sn = p .before .before .before .before .before .before .before .before .before .before .before .count .ensures in judged-as (p .before .before .before .before .before .before .before .before .id-slice .ensures) (judge-found sn (p .before .before .before .before .before .before .before .entry-of .ensures) (p .before .before .before .before .before .settled .ensures sn) (p .before .before .if1 .left) (p .before .stored-body .ensures) (p .parent-count .ensures) (c .before .before .before .before .before .before .before .before .before .before .before .loop .inv .1) (c .before .before .before .before .before .before .before .before .body-parent .result) (c .before .before .before .before .before .before .before .before .before .before .loop-test .taken) (c .before .before .before .before .before .before .before .before .body-parent .ensures) (c .before .before .before .before .before .before .before .cone-to-move .ensures) (not-true (c .before .before .before .before .before .before .before .cone-to-move .result) (c .before .before .before .before .if2 .taken)) (c .before .before .note .ensures))
+bed-returns-2 t c = let p = c .before .before .before .before .before .before .before .before .before .before .before .before in let x = p .before .before .before .before .before .before .before .before .before .before .before .before .before .before .before .args in let sn = p .before .before .before .before .before .before .before .before .before .before .before .count .ensures in judged-as (p .before .before .before .before .before .before .before .before .id-slice .ensures) (judge-found (width-most (x .kind)) sn (p .before .before .before .before .before .before .before .entry-of .ensures) (p .before .before .before .before .before .settled .ensures sn) (p .before .before .if1 .left) (p .before .stored-body .ensures) (p .parent-count .ensures) (c .before .before .before .before .before .before .before .before .before .before .before .loop .inv .1) (c .before .before .before .before .before .before .before .before .body-parent .result) (c .before .before .before .before .before .before .before .before .before .before .loop-test .taken) (c .before .before .before .before .before .before .before .before .body-parent .ensures) (c .before .before .before .before .before .before .before .cone-to-move .ensures) (not-true (c .before .before .before .before .before .before .before .cone-to-move .result) (c .before .before .before .before .if2 .taken)) (c .before .before .note .ensures))
 
 bed-add-i : (t : ℕ) → bed-to-move-lts.Need-add-i (bed-hears t) (bed-at t) bed-to-move.Post bed-Inv-loop bed-μ-loop
 bed-add-i t c = search needs
@@ -119,22 +120,22 @@ bed-loop-less : (t : ℕ) → bed-to-move-lts.Need-loop-less (bed-hears t) (bed-
 bed-loop-less t c = search needs
 
 bed-loop-again : (t : ℕ) → bed-to-move-lts.Need-loop-again (bed-hears t) (bed-at t) bed-to-move.Post bed-Inv-loop bed-μ-loop
-bed-loop-again t c = (search needs, turning-next (c .before .before .before .before .before .before .before .loop .inv .1) (c .before .before .before .before .body-parent .result) (c .before .before .before .before .body-parent .ensures) (c .before .before .before .cone-to-move .ensures) (not-false (c .before .before .before .cone-to-move .result) (c .if2 .left)) (c .before .before .before .cone-to-move .kept .1 .1 .0))
+bed-loop-again t c = (search needs, turning-next (c .before .before .before .before .before .before .before .loop .inv .1) (c .before .before .before .before .body-parent .result) (c .before .before .before .before .body-parent .ensures) (c .before .before .before .cone-to-move .ensures) (not-false (c .before .before .before .cone-to-move .result) (c .if2 .left)) (c .before .before .before .cone-to-move .kept .1 .1 .1 .0))
 
 bed-note-requires-2 : (t : ℕ) → bed-to-move-lts.Need-note-requires-2 (bed-hears t) (bed-at t) bed-to-move.Post bed-Inv-loop bed-μ-loop
 bed-note-requires-2 t c κs = search needs
 
 bed-same-length-3 : (t : ℕ) → bed-to-move-lts.Need-same-length-3 (bed-hears t) (bed-at t) bed-to-move.Post bed-Inv-loop bed-μ-loop
-bed-same-length-3 t c = c .before .before .note2 .kept .0 ∙ c .before .before .before .before .before .loop .inv .1 .long ∙ c .before .before .before .before .before .before .before .before .before .before .before .settled .kept .1 .1 .0
+bed-same-length-3 t c = c .before .before .note2 .kept .0 ∙ c .before .before .before .before .before .loop .inv .1 .long ∙ c .before .before .before .before .before .before .before .before .before .before .before .settled .kept .1 .1 .1 .0
 
 bed-returns-3 : (t : ℕ) → bed-to-move-lts.Need-returns-3 (bed-hears t) (bed-at t) bed-to-move.Post bed-Inv-loop bed-μ-loop
-bed-returns-3 t c = let p = c .before .before .before .before .before .before in let x = p .before .before .before .before .before .before .before .before .before .before .before .before .before .before .before .args in let sn = p .before .before .before .before .before .before .before .before .before .before .before .count .ensures in judged-as (p .before .before .before .before .before .before .before .before .id-slice .ensures) (judge-ended sn (p .before .before .before .before .before .before .before .entry-of .ensures) (p .before .before .before .before .before .settled .ensures sn) (p .before .before .if1 .left) (p .before .stored-body .ensures) (p .parent-count .ensures) (c .before .before .before .before .before .loop .inv .1) (c .before .before .before .before .loop-test .left) refl (c .before .before .note2 .ensures))
+bed-returns-3 t c = let p = c .before .before .before .before .before .before in let x = p .before .before .before .before .before .before .before .before .before .before .before .before .before .before .before .args in let sn = p .before .before .before .before .before .before .before .before .before .before .before .count .ensures in judged-as (p .before .before .before .before .before .before .before .before .id-slice .ensures) (judge-ended (width-most (x .kind)) sn (p .before .before .before .before .before .before .before .entry-of .ensures) (p .before .before .before .before .before .settled .ensures sn) (p .before .before .if1 .left) (p .before .stored-body .ensures) (p .parent-count .ensures) (c .before .before .before .before .before .loop .inv .1) (c .before .before .before .before .loop-test .left) refl (c .before .before .note2 .ensures))
 
 abbrev cone-Inv-loop : cone-to-move-lts.InvT-loop
-cone-Inv-loop store list memo₀ d n k s body count i₀ memo i = (i ≤ count) × Turning store (listIds list) false (d - 1) body memo₀ memo i
+cone-Inv-loop kind store list memo₀ d n k s body count i₀ memo i = (i ≤ count) × Turning (widthOf kind) store (listIds (widthOf kind) list) false (d - 1) body memo₀ memo i
 
 abbrev cone-μ-loop : cone-to-move-lts.MeasureT-loop
-cone-μ-loop store list memo₀ d n k s body count i₀ memo i = count - i
+cone-μ-loop kind store list memo₀ d n k s body count i₀ memo i = count - i
 
 cone-count-requires : (t : ℕ) → cone-to-move-lts.Need-count-requires (cone-hears t) (cone-at t) cone-to-move.Post cone-Inv-loop cone-μ-loop
 cone-count-requires t c κs = search needs
@@ -149,10 +150,10 @@ cone-settled-requires : (t : ℕ) → cone-to-move-lts.Need-settled-requires (co
 cone-settled-requires t c κs = search needs
 
 cone-same-length : (t : ℕ) → cone-to-move-lts.Need-same-length (cone-hears t) (cone-at t) cone-to-move.Post cone-Inv-loop cone-μ-loop
-cone-same-length t c = c .before .before .before .settled .kept .1 .1 .0
+cone-same-length t c = c .before .before .before .settled .kept .1 .1 .1 .0
 
 cone-returns : (t : ℕ) → cone-to-move-lts.Need-returns (cone-hears t) (cone-at t) cone-to-move.Post cone-Inv-loop cone-μ-loop
-cone-returns t c = let x = c .before .before .before .before .before .before .before .before .before .before .before .before .before .args in let sn = c .before .before .before .before .before .before .before .before .before .count .ensures in judged-as (c .before .before .before .before .before .before .id-slice .ensures) (judge-settled (x .store .now) (listIds (x .list .now)) sn _ (c .before .before .before .before .before .entry-of .ensures) (c .before .before .before .settled .ensures sn) (c .if1 .taken))
+cone-returns t c = let x = c .before .before .before .before .before .before .before .before .before .before .before .before .before .args in let sn = c .before .before .before .before .before .before .before .before .before .count .ensures in judged-as (c .before .before .before .before .before .before .id-slice .ensures) (judge-settled (widthOf (x .kind)) (x .store .now) (listIds (widthOf (x .kind)) (x .list .now)) sn _ (c .before .before .before .before .before .entry-of .ensures) (c .before .before .before .settled .ensures sn) (c .if1 .taken))
 
 cone-stored-body-requires : (t : ℕ) → cone-to-move-lts.Need-stored-body-requires (cone-hears t) (cone-at t) cone-to-move.Post cone-Inv-loop cone-μ-loop
 cone-stored-body-requires t c κs = search needs
@@ -161,7 +162,7 @@ cone-parent-count-requires : (t : ℕ) → cone-to-move-lts.Need-parent-count-re
 cone-parent-count-requires t c κs = search needs
 
 cone-loop-holds : (t : ℕ) → cone-to-move-lts.Need-loop-holds (cone-hears t) (cone-at t) cone-to-move.Post cone-Inv-loop cone-μ-loop
-cone-loop-holds t c = let x = c .before .before .before .before .before .before .before .before .before .before .before .before .before .before .before .args in (search needs, turning-first (x .store .now) (listIds (x .list .now)) false (x .d - 1) _ _)
+cone-loop-holds t c = let x = c .before .before .before .before .before .before .before .before .before .before .before .before .before .before .before .args in (search needs, turning-first (widthOf (x .kind)) (x .store .now) (listIds (widthOf (x .kind)) (x .list .now)) false (x .d - 1) _ _)
 
 cone-sub-bed-to-move : (t : ℕ) → cone-to-move-lts.Need-sub-bed-to-move (cone-hears t) (cone-at t) cone-to-move.Post cone-Inv-loop cone-μ-loop
 cone-sub-bed-to-move t c = let p = c .before .before .before in let x = p .before .before .before .before .before .before .before .before .before .before .before .before .before .before .before .args in let sn = p .before .before .before .before .before .before .before .before .before .before .before .count .ensures in p .before .before .before .before .before .settled .ensures sn .left (p .before .before .if1 .left)
@@ -176,10 +177,10 @@ cone-note-requires : (t : ℕ) → cone-to-move-lts.Need-note-requires (cone-hea
 cone-note-requires t c κs = search needs
 
 cone-same-length-2 : (t : ℕ) → cone-to-move-lts.Need-same-length-2 (cone-hears t) (cone-at t) cone-to-move.Post cone-Inv-loop cone-μ-loop
-cone-same-length-2 t c = c .before .before .note .kept .0 ∙ c .before .before .before .before .before .before .before .bed-to-move .kept .1 .1 .0 ∙ c .before .before .before .before .before .before .before .before .before .before .before .loop .inv .1 .long ∙ c .before .before .before .before .before .before .before .before .before .before .before .before .before .before .before .before .before .settled .kept .1 .1 .0
+cone-same-length-2 t c = c .before .before .note .kept .0 ∙ c .before .before .before .before .before .before .before .bed-to-move .kept .1 .1 .1 .0 ∙ c .before .before .before .before .before .before .before .before .before .before .before .loop .inv .1 .long ∙ c .before .before .before .before .before .before .before .before .before .before .before .before .before .before .before .before .before .settled .kept .1 .1 .1 .0
 
 cone-returns-2 : (t : ℕ) → cone-to-move-lts.Need-returns-2 (cone-hears t) (cone-at t) cone-to-move.Post cone-Inv-loop cone-μ-loop
-cone-returns-2 t c = let p = c .before .before .before .before .before .before .before .before .before .before .before .before in let x = p .before .before .before .before .before .before .before .before .before .before .before .before .before .before .before .args in let sn = p .before .before .before .before .before .before .before .before .before .before .before .count .ensures in judged-as (p .before .before .before .before .before .before .before .before .id-slice .ensures) (judge-found sn (p .before .before .before .before .before .before .before .entry-of .ensures) (p .before .before .before .before .before .settled .ensures sn) (p .before .before .if1 .left) (p .before .stored-body .ensures) (p .parent-count .ensures) (c .before .before .before .before .before .before .before .before .before .before .before .loop .inv .1) (c .before .before .before .before .before .before .before .before .body-parent .result) (c .before .before .before .before .before .before .before .before .before .before .loop-test .taken) (c .before .before .before .before .before .before .before .before .body-parent .ensures) (c .before .before .before .before .before .before .before .bed-to-move .ensures) (c .before .before .before .before .if2 .taken) (c .before .before .note .ensures))
+cone-returns-2 t c = let p = c .before .before .before .before .before .before .before .before .before .before .before .before in let x = p .before .before .before .before .before .before .before .before .before .before .before .before .before .before .before .args in let sn = p .before .before .before .before .before .before .before .before .before .before .before .count .ensures in judged-as (p .before .before .before .before .before .before .before .before .id-slice .ensures) (judge-found (width-most (x .kind)) sn (p .before .before .before .before .before .before .before .entry-of .ensures) (p .before .before .before .before .before .settled .ensures sn) (p .before .before .if1 .left) (p .before .stored-body .ensures) (p .parent-count .ensures) (c .before .before .before .before .before .before .before .before .before .before .before .loop .inv .1) (c .before .before .before .before .before .before .before .before .body-parent .result) (c .before .before .before .before .before .before .before .before .before .before .loop-test .taken) (c .before .before .before .before .before .before .before .before .body-parent .ensures) (c .before .before .before .before .before .before .before .bed-to-move .ensures) (c .before .before .before .before .if2 .taken) (c .before .before .note .ensures))
 
 cone-add-i : (t : ℕ) → cone-to-move-lts.Need-add-i (cone-hears t) (cone-at t) cone-to-move.Post cone-Inv-loop cone-μ-loop
 cone-add-i t c = search needs
@@ -188,16 +189,16 @@ cone-loop-less : (t : ℕ) → cone-to-move-lts.Need-loop-less (cone-hears t) (c
 cone-loop-less t c = search needs
 
 cone-loop-again : (t : ℕ) → cone-to-move-lts.Need-loop-again (cone-hears t) (cone-at t) cone-to-move.Post cone-Inv-loop cone-μ-loop
-cone-loop-again t c = (search needs, turning-next (c .before .before .before .before .before .before .before .loop .inv .1) (c .before .before .before .before .body-parent .result) (c .before .before .before .before .body-parent .ensures) (c .before .before .before .bed-to-move .ensures) (c .if2 .left) (c .before .before .before .bed-to-move .kept .1 .1 .0))
+cone-loop-again t c = (search needs, turning-next (c .before .before .before .before .before .before .before .loop .inv .1) (c .before .before .before .before .body-parent .result) (c .before .before .before .before .body-parent .ensures) (c .before .before .before .bed-to-move .ensures) (c .if2 .left) (c .before .before .before .bed-to-move .kept .1 .1 .1 .0))
 
 cone-note-requires-2 : (t : ℕ) → cone-to-move-lts.Need-note-requires-2 (cone-hears t) (cone-at t) cone-to-move.Post cone-Inv-loop cone-μ-loop
 cone-note-requires-2 t c κs = search needs
 
 cone-same-length-3 : (t : ℕ) → cone-to-move-lts.Need-same-length-3 (cone-hears t) (cone-at t) cone-to-move.Post cone-Inv-loop cone-μ-loop
-cone-same-length-3 t c = c .before .before .note2 .kept .0 ∙ c .before .before .before .before .before .loop .inv .1 .long ∙ c .before .before .before .before .before .before .before .before .before .before .before .settled .kept .1 .1 .0
+cone-same-length-3 t c = c .before .before .note2 .kept .0 ∙ c .before .before .before .before .before .loop .inv .1 .long ∙ c .before .before .before .before .before .before .before .before .before .before .before .settled .kept .1 .1 .1 .0
 
 cone-returns-3 : (t : ℕ) → cone-to-move-lts.Need-returns-3 (cone-hears t) (cone-at t) cone-to-move.Post cone-Inv-loop cone-μ-loop
-cone-returns-3 t c = let p = c .before .before .before .before .before .before in let x = p .before .before .before .before .before .before .before .before .before .before .before .before .before .before .before .args in let sn = p .before .before .before .before .before .before .before .before .before .before .before .count .ensures in judged-as (p .before .before .before .before .before .before .before .before .id-slice .ensures) (judge-ended sn (p .before .before .before .before .before .before .before .entry-of .ensures) (p .before .before .before .before .before .settled .ensures sn) (p .before .before .if1 .left) (p .before .stored-body .ensures) (p .parent-count .ensures) (c .before .before .before .before .before .loop .inv .1) (c .before .before .before .before .loop-test .left) refl (c .before .before .note2 .ensures))
+cone-returns-3 t c = let p = c .before .before .before .before .before .before in let x = p .before .before .before .before .before .before .before .before .before .before .before .before .before .before .before .args in let sn = p .before .before .before .before .before .before .before .before .before .before .before .count .ensures in judged-as (p .before .before .before .before .before .before .before .before .id-slice .ensures) (judge-ended (width-most (x .kind)) sn (p .before .before .before .before .before .before .before .entry-of .ensures) (p .before .before .before .before .before .settled .ensures sn) (p .before .before .if1 .left) (p .before .stored-body .ensures) (p .parent-count .ensures) (c .before .before .before .before .before .loop .inv .1) (c .before .before .before .before .loop-test .left) refl (c .before .before .note2 .ensures))
 
 pub +bed-to-move+cone-to-move-spec : {M : Type 1} → statement M
 +bed-to-move+cone-to-move-spec =

@@ -15,12 +15,14 @@ use Rattle.moves.proofs.bed_to_move.Reads as bed-to-move-reads
 use Rattle.object.proofs.id_slice.Reads as id-slice-reads
 use Rattle.reading.proofs.body_parent.Reads as body-parent-reads
 use Rattle.reading.proofs.stored_body.Reads as stored-body-reads
+use Rattle.hash.specs.Bytes.{widthOf}
+use Rattle.hash.proofs.Widths.{width-most}
 
 abbrev Inv-loop : tie.InvT-loop
-Inv-loop store list memo₀ d body count i₀ memo i = (i ≤ count) × Turning store (listIds list) false d body memo₀ memo i
+Inv-loop kind store list memo₀ d body count i₀ memo i = (i ≤ count) × Turning (widthOf kind) store (listIds (widthOf kind) list) false d body memo₀ memo i
 
 abbrev μ-loop : tie.MeasureT-loop
-μ-loop store list memo₀ d body count i₀ memo i = count - i
+μ-loop kind store list memo₀ d body count i₀ memo i = count - i
 
 -- src/lib.rt:109:9
 id-slice-requires : tie.Need-id-slice-requires Inv-loop μ-loop
@@ -36,7 +38,7 @@ parent-count-requires c κs = search needs
 
 -- src/lib.rt:113:5
 loop-holds : tie.Need-loop-holds Inv-loop μ-loop
-loop-holds c = let x = c .before .before .before .before .before .before .before .before .args in (search needs, turning-first (x .store .now) (listIds (x .list .now)) false (x .d) _ _)
+loop-holds c = let x = c .before .before .before .before .before .before .before .before .args in (search needs, turning-first (widthOf (x .kind)) (x .store .now) (listIds (widthOf (x .kind)) (x .list .now)) false (x .d) _ _)
 
 -- src/lib.rt:114:46
 body-parent-requires : tie.Need-body-parent-requires Inv-loop μ-loop
@@ -48,11 +50,11 @@ bed-to-move-requires c κs = search needs
 
 -- src/lib.rt:115:13
 same-length : tie.Need-same-length Inv-loop μ-loop
-same-length c = c .before .before .before .bed-to-move .kept .1 .1 .0 ∙ c .before .before .before .before .before .before .before .loop .inv .1 .long
+same-length c = c .before .before .before .bed-to-move .kept .1 .1 .1 .0 ∙ c .before .before .before .before .before .before .before .loop .inv .1 .long
 
 -- src/lib.rt:115:13
 returns : tie.Need-returns Inv-loop μ-loop
-returns c = found-as (c .before .before .before .before .before .before .before .before .before .before .id-slice .ensures) (first-found (c .before .before .before .before .before .before .before .before .before .stored-body .ensures) (c .before .before .before .before .before .before .before .before .parent-count .ensures) (c .before .before .before .before .before .before .before .loop .inv .1) (c .before .before .before .before .body-parent .result) (c .before .before .before .before .before .before .loop-test .taken) (c .before .before .before .before .body-parent .ensures) (c .before .before .before .bed-to-move .ensures) (c .if1 .taken))
+returns c = found-as (c .before .before .before .before .before .before .before .before .before .before .id-slice .ensures) (first-found (width-most (c .before .before .before .before .before .before .before .before .before .before .before .before .before .before .before .before .args .kind)) (c .before .before .before .before .before .before .before .before .before .stored-body .ensures) (c .before .before .before .before .before .before .before .before .parent-count .ensures) (c .before .before .before .before .before .before .before .loop .inv .1) (c .before .before .before .before .body-parent .result) (c .before .before .before .before .before .before .loop-test .taken) (c .before .before .before .before .body-parent .ensures) (c .before .before .before .bed-to-move .ensures) (c .if1 .taken))
 
 -- src/lib.rt:117:9
 add-i : tie.Need-add-i Inv-loop μ-loop
@@ -64,7 +66,7 @@ loop-less c = search needs
 
 -- src/lib.rt:113:5
 loop-again : tie.Need-loop-again Inv-loop μ-loop
-loop-again c = (search needs, turning-next (c .before .before .before .before .before .before .before .loop .inv .1) (c .before .before .before .before .body-parent .result) (c .before .before .before .before .body-parent .ensures) (c .before .before .before .bed-to-move .ensures) (c .if1 .left) (c .before .before .before .bed-to-move .kept .1 .1 .0))
+loop-again c = (search needs, turning-next (c .before .before .before .before .before .before .before .loop .inv .1) (c .before .before .before .before .body-parent .result) (c .before .before .before .before .body-parent .ensures) (c .before .before .before .bed-to-move .ensures) (c .if1 .left) (c .before .before .before .bed-to-move .kept .1 .1 .1 .0))
 
 -- src/lib.rt:106:1
 same-length-2 : tie.Need-same-length-2 Inv-loop μ-loop
@@ -72,7 +74,7 @@ same-length-2 c = c .before .loop .inv .1 .long
 
 -- src/lib.rt:106:1
 returns-2 : tie.Need-returns-2 Inv-loop μ-loop
-returns-2 c = found-as (c .before .before .before .before .id-slice .ensures) (first-ended (c .before .before .before .stored-body .ensures) (c .before .before .parent-count .ensures) (c .before .loop .inv .1) (let h = c .before .loop .inv .0 in omega (arith, h)))
+returns-2 c = found-as (c .before .before .before .before .id-slice .ensures) (first-ended (width-most (c .before .before .before .before .before .before .before .before .before .before .args .kind)) (c .before .before .before .stored-body .ensures) (c .before .before .parent-count .ensures) (c .before .loop .inv .1) (let h = c .before .loop .inv .0 in omega (arith, h)))
 
 pub first-forcing-spec : {M : Type 1} → statement M
 first-forcing-spec =

@@ -9,6 +9,7 @@ use Rattle.moves.proofs.is_listed.Lts as lts
 use Rattle.memo.proofs.note.Reads as note-reads
 use Rattle.memo.proofs.recall.Reads as recall-reads
 use Rattle.reading.proofs.is_among.Reads as is-among-reads
+use Rattle.hash.specs.Bytes.{widthOf}
 
 -- src/lib.rt:18:9
 recall-requires : tie.Need-recall-requires
@@ -20,7 +21,7 @@ same-length c = search needs
 
 -- src/lib.rt:20:9
 returns : tie.Need-returns
-returns c = let x = c .before .before .before .before .before .before .before .args in λ e. listed-known (x .store .now) (listIds (x .list .now)) e (x .k) (c .before .recall .ensures) (c .if1 .taken)
+returns c = let x = c .before .before .before .before .before .before .before .args in λ e. listed-known (widthOf (x .kind)) (x .store .now) (listIds (widthOf (x .kind)) (x .list .now)) e (x .k) (c .before .recall .ensures) (c .if1 .taken)
 
 -- src/lib.rt:22:9
 is-among-requires : tie.Need-is-among-requires
@@ -36,7 +37,7 @@ same-length-2 c = search needs
 
 -- src/lib.rt:15:1
 returns-2 : tie.Need-returns-2
-returns-2 c = let x = c .before .before .before .before .before .before .before .before .before .before .before .before .args in λ e. listed-new (x .store .now) (listIds (x .list .now)) e (x .k) (c .before .before .before .before .is-among .ensures) (c .before .before .note .ensures)
+returns-2 c = let x = c .before .before .before .before .before .before .before .before .before .before .before .before .args in λ e. listed-new (widthOf (x .kind)) (x .store .now) (listIds (widthOf (x .kind)) (x .list .now)) e (x .k) (c .before .before .before .before .is-among .ensures) (c .before .before .note .ensures)
 
 pub is-listed-spec : {M : Type 1} → statement M
 is-listed-spec =

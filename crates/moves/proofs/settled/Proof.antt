@@ -8,6 +8,7 @@ use Rattle.moves.proofs.settled.Reads as reads
 use Rattle.moves.proofs.settled.Lts as lts
 use Rattle.memo.proofs.recall.Reads as recall-reads
 use Rattle.moves.proofs.is_listed.Reads as is-listed-reads
+use Rattle.hash.specs.Bytes.{widthOf}
 
 -- src/lib.rt:40:9
 recall-requires : tie.Need-recall-requires
@@ -19,7 +20,7 @@ same-length c = search needs
 
 -- src/lib.rt:42:9
 returns : tie.Need-returns
-returns c = let x = c .before .before .before .before .before .before .before .args in λ e. settled-known (x .store .now) (listIds (x .list .now)) e (x .k) (x .bed) (x .d) (c .before .recall .ensures) (c .if1 .taken)
+returns c = let x = c .before .before .before .before .before .before .before .args in λ e. settled-known (widthOf (x .kind)) (x .store .now) (listIds (widthOf (x .kind)) (x .list .now)) e (x .k) (x .bed) (x .d) (c .before .recall .ensures) (c .if1 .taken)
 
 -- src/lib.rt:44:8
 is-listed-requires : tie.Need-is-listed-requires
@@ -31,7 +32,7 @@ same-length-2 c = search needs
 
 -- src/lib.rt:45:9
 returns-2 : tie.Need-returns-2
-returns-2 c = let x = c .before .before .before .before .before .before .before .before .before .before .before .before .args in λ e. settled-listed (x .store .now) (listIds (x .list .now)) e (x .k) (x .bed) (x .d) (c .before .before .before .is-listed .ensures e) (c .if2 .taken)
+returns-2 c = let x = c .before .before .before .before .before .before .before .before .before .before .before .before .args in λ e. settled-listed (widthOf (x .kind)) (x .store .now) (listIds (widthOf (x .kind)) (x .list .now)) e (x .k) (x .bed) (x .d) (c .before .before .before .is-listed .ensures e) (c .if2 .taken)
 
 -- src/lib.rt:48:9
 same-length-3 : tie.Need-same-length-3
@@ -39,7 +40,7 @@ same-length-3 c = search needs
 
 -- src/lib.rt:48:9
 returns-3 : tie.Need-returns-3
-returns-3 c = let x = c .before .before .before .before .before .before .before .before .before .before .before .before .before .args in λ e. settled-still (x .store .now) (listIds (x .list .now)) e (x .k) (x .bed) (x .d) (c .before .before .before .before .is-listed .ensures e) (c .before .if2 .left) (c .if3 .taken)
+returns-3 c = let x = c .before .before .before .before .before .before .before .before .before .before .before .before .before .args in λ e. settled-still (widthOf (x .kind)) (x .store .now) (listIds (widthOf (x .kind)) (x .list .now)) e (x .k) (x .bed) (x .d) (c .before .before .before .before .is-listed .ensures e) (c .before .if2 .left) (c .if3 .taken)
 
 -- src/lib.rt:28:1
 same-length-4 : tie.Need-same-length-4
@@ -47,7 +48,7 @@ same-length-4 c = search needs
 
 -- src/lib.rt:28:1
 returns-4 : tie.Need-returns-4
-returns-4 c = let x = c .before .before .before .before .before .before .before .before .before .before .before .before .before .args in λ e. settled-open (x .store .now) (listIds (x .list .now)) e (x .k) (x .bed) (x .d) (c .before .before .before .before .is-listed .ensures e) (c .before .if2 .left) (c .if3 .left)
+returns-4 c = let x = c .before .before .before .before .before .before .before .before .before .before .before .before .before .args in λ e. settled-open (widthOf (x .kind)) (x .store .now) (listIds (widthOf (x .kind)) (x .list .now)) e (x .k) (x .bed) (x .d) (c .before .before .before .before .is-listed .ensures e) (c .before .if2 .left) (c .if3 .left)
 
 pub settled-spec : {M : Type 1} → statement M
 settled-spec =

@@ -19,10 +19,10 @@ abbrev lengths : tie.Start → Lengths
 lengths b = lengthsOf (b .args .names) (b .args .marks) (b .args .levels) (b .args .times) (b .args .line) (b .args .parents)
 
 accepted : (c : tie.After-enum-told) → refusal (lent (c .before .before .before .before .before .before .before .before)) ≡ none
-accepted c = fine-as (refusal (lent (c .before .before .before .before .before .before .before .before))) (sym (c .enum-told .given .1) ∙ c .before .before .check-input .ensures (c .before .before .before .before .before .before .before .before .args .settings))
+accepted c = fine-as (refusal (lent (c .before .before .before .before .before .before .before .before))) (sym (c .enum-told .given .1) ∙ c .before .before .check-input .ensures (c .before .before .before .before .before .before .before .before .args .settings) refl)
 
 room-said : (c : tie.After-has-room) → c .has-room .result ≡ roomFor (lent (c .before .before .before .before .before .before .before .before .before .before)) (lengths (c .before .before .before .before .before .before .before .before .before .before))
-room-said c = c .has-room .ensures (lent (c .before .before .before .before .before .before .before .before .before .before)) (c .before .capacity .ensures (c .before .before .before .before .before .before .before .before .before .before .args .excluded .now) (c .before .before .before .before .before .before .before .before .before .before .args .settings))
+room-said c = c .has-room .ensures (lent (c .before .before .before .before .before .before .before .before .before .before)) refl (c .before .capacity .ensures (c .before .before .before .before .before .before .before .before .before .before .args .excluded .now) (c .before .before .before .before .before .before .before .before .before .before .args .settings) refl)
 
 -- ---- the tests
 
@@ -47,7 +47,7 @@ check-tips-requires c κs = search needs
 returns : tie.Need-returns
 returns c =
     let b = c .before .before .before .before .before .before .before .before .before in
-    sym (open-refused (lent b) (roomFor (lent b) (lengths b)) (refused-as (refusal (lent b)) (sym (c .before .r .given .1) ∙ c .before .before .before .check-input .ensures (b .args .settings))))
+    sym (open-refused (lent b) (roomFor (lent b) (lengths b)) (refused-as (refusal (lent b)) (sym (c .before .r .given .1) ∙ c .before .before .before .check-input .ensures (b .args .settings) refl)))
 
 returns-2 : tie.Need-returns-2
 returns-2 c =

@@ -1,8 +1,8 @@
 -- `painting::compute_hidden_frontier` meets its contract: painting is not due, or it is the walk's painting and is finished as the walk's first
 -- call finishes it. Assumes nothing.
 use mathlib.Core.Logic.{inl, inr}
-use native.Mathlib.Omega.{arith}
-use Rattle.painting.proofs.First.{skipped, made, whole-id}
+use mathlib.Core.Path.{sym, _∙_}
+use Rattle.painting.proofs.First.{skipped, made}
 use borrow.Author.Needs.{needs}
 use Rattle.painting.proofs.compute_hidden_frontier.Statement.{statement}
 use Rattle.painting.proofs.compute_hidden_frontier.Tie as tie
@@ -14,7 +14,7 @@ skip-painting-requires : tie.Need-skip-painting-requires
 skip-painting-requires c κs = search needs
 
 returns : tie.Need-returns
-returns c = skipped (inl (omega (arith, c .before .before .ids-in .ensures, c .before .if1 .taken))) (c .skip-painting .ensures)
+returns c = skipped (inl (sym (c .before .before .ids-in .ensures) ∙ c .before .if1 .taken)) (c .skip-painting .ensures)
 
 skip-painting-requires-2 : tie.Need-skip-painting-requires-2
 skip-painting-requires-2 c κs = search needs
@@ -48,8 +48,8 @@ same-length-5 c = search needs
 
 returns-3 : tie.Need-returns-3
 returns-3 c = made (record {
-  some-hidden = whole-id (c .before .before .before .before .before .before .before .before .before .before .before .before .before .before .before .before .before .before .before .before .before .before .before .before .before .before .before .before .ids-in .ensures) (c .before .before .before .before .before .before .before .before .before .before .before .before .before .before .before .before .before .before .before .before .before .before .before .before .before .before .before .if1 .left);
-  some-wait = c .before .before .before .before .before .before .before .before .before .before .before .before .before .before .before .before .before .before .before .before .before .before .before .before .before .if2 .left;
+  some-hidden = λ e. c .before .before .before .before .before .before .before .before .before .before .before .before .before .before .before .before .before .before .before .before .before .before .before .before .before .before .if1 .left (c .before .before .before .before .before .before .before .before .before .before .before .before .before .before .before .before .before .before .before .before .before .before .before .before .before .before .before .ids-in .ensures ∙ e);
+  some-wait = c .before .before .before .before .before .before .before .before .before .before .before .before .before .before .before .before .before .before .before .before .before .before .before .before .if2 .left;
   cache-is = c .before .before .before .before .before .before .before .before .before .before .before .before .before .before .before .before .before .before .before .before .before .before .before .cache-of .ensures;
   paints = c .before .before .before .before .before .before .before .before .before .before .before .before .before .before .before .before .before .compute-hidden-frontier .ensures;
   long-times = search needs;

@@ -4,15 +4,16 @@ use Rattle.parting.proofs.Choosing.{Choosing, choosing-first, choosing-
 use borrow.Author.Needs.{needs}
 use Rattle.parting.proofs.choose.Statement.{statement}
 use Rattle.parting.proofs.choose.Tie as tie
+use Rattle.hash.specs.Bytes.{widthOf}
 
 abbrev Inv-loop : tie.InvT-loop
-Inv-loop names marks levels line store n r₀ i₀ r i = Choosing store names marks levels line n i r
+Inv-loop kind names marks levels line store n r₀ i₀ r i = Choosing (widthOf kind) store names marks levels line n i r
 
 abbrev μ-loop : tie.MeasureT-loop
-μ-loop names marks levels line store n r₀ i₀ r i = n - i
+μ-loop kind names marks levels line store n r₀ i₀ r i = n - i
 
 loop-holds : tie.Need-loop-holds Inv-loop μ-loop
-loop-holds c = let x = c .before .before .before .before .before .args in choosing-first (x .store .now) (x .names .now) (x .marks .now) (x .levels .now) (x .line .now) (x .n)
+loop-holds c = let x = c .before .before .before .before .before .args in choosing-first (widthOf (x .kind)) (x .store .now) (x .names .now) (x .marks .now) (x .levels .now) (x .line .now) (x .n)
 
 slot-at-requires : tie.Need-slot-at-requires Inv-loop μ-loop
 slot-at-requires c κs = search needs

@@ -4,15 +4,16 @@ use Rattle.pending.proofs.ByIds.{sorts-room, sorts-refused}
 use borrow.Author.Needs.{needs}
 use Rattle.pending.proofs.insert_by_id.Statement.{statement}
 use Rattle.pending.proofs.insert_by_id.Tie as tie
+use Rattle.hash.specs.Bytes.{widthOf}
 
 returns : tie.Need-returns
-returns c = let x = c .before .before .before .args in sorts-refused (x .names .now) (x .slot) (x .from) (x .n) (x .line .now) (omega arith)
+returns c = let x = c .before .before .before .args in sorts-refused (widthOf (x .kind)) (x .names .now) (x .slot) (x .from) (x .n) (x .line .now) (omega arith)
 
 sub-if2 : tie.Need-sub-if2
 sub-if2 c = search needs
 
 returns-2 : tie.Need-returns-2
-returns-2 c = let x = c .before .before .before .before .args in sorts-refused (x .names .now) (x .slot) (x .from) (x .n) (x .line .now) (omega arith)
+returns-2 c = let x = c .before .before .before .before .args in sorts-refused (widthOf (x .kind)) (x .names .now) (x .slot) (x .from) (x .n) (x .line .now) (omega arith)
 
 add-to : tie.Need-add-to
 add-to c = search needs
@@ -29,7 +30,7 @@ same-length c = search needs
 returns-3 : tie.Need-returns-3
 returns-3 c =
     let x = c .before .before .before .before .before .before .before .before .before .before .args in
-    sorts-room (x .names .now) (x .slot) (x .from) (x .n) (x .line .now) (omega (arith, c .before .before .before .before .before .before .if2 .left)) (c .before .before .before .before .place-by-id .result) (c .before .before .before .before .place-by-id .ensures)
+    sorts-room (widthOf (x .kind)) (x .names .now) (x .slot) (x .from) (x .n) (x .line .now) (omega (arith, c .before .before .before .before .before .before .if2 .left)) (c .before .before .before .before .place-by-id .result) (c .before .before .before .before .place-by-id .ensures)
     (c .before .before .put-in .last .0) (c .before .before .put-in .ensures)
 
 pub insert-by-id-spec : {M : Type 1} → statement M

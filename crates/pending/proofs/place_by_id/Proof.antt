@@ -6,15 +6,16 @@ use Rattle.pending.specs.Pending.{notAbove}
 use Rattle.pending.proofs.Inserts.{Passed, passed-none, passed-more, placed-here, placed-last}
 use Rattle.pending.proofs.place_by_id.Statement.{statement}
 use Rattle.pending.proofs.place_by_id.Tie as tie
+use Rattle.hash.specs.Bytes.{widthOf}
 
 abbrev Inv-loop : tie.InvT-loop
-Inv-loop line names from to slot i₀ i = Passed (notAbove names) line from to slot i
+Inv-loop kind line names from to slot i₀ i = Passed (notAbove (widthOf kind) names) line from to slot i
 
 abbrev μ-loop : tie.MeasureT-loop
-μ-loop line names from to slot i₀ i = to - i
+μ-loop kind line names from to slot i₀ i = to - i
 
 loop-holds : tie.Need-loop-holds Inv-loop μ-loop
-loop-holds c = let s = c .before .before in passed-none (notAbove (s .args .names .now)) (s .args .line .now) (s .args .from) (s .args .to) (s .args .slot) (s .pre .0)
+loop-holds c = let s = c .before .before in passed-none (notAbove (widthOf (s .args .kind)) (s .args .names .now)) (s .args .line .now) (s .args .from) (s .args .to) (s .args .slot) (s .pre .0)
 
 mul-not-above : tie.Need-mul-not-above Inv-loop μ-loop
 mul-not-above c = search needs

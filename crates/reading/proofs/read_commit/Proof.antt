@@ -34,7 +34,7 @@ returns : tie.Need-returns
 returns c = reads-found _ (c .before .before .before .before .before .find .ensures) (c .before .before .before .at .given .1) (rw (sym (c .before .layout-of .ensures)) (c .row-commit .ensures))
 
 returns-2 : tie.Need-returns-2
-returns-2 c = let k = c .before .before .before .at2 .given in reads-found _ (c .before .before .before .before .before .find .ensures) (k .1) (body-commit _ _ (c .body-commit .ensures) (c .before .part-of-store .ensures ∙ found-slice (c .before .before .before .before .before .find .ensures) _ _ (k .1)))
+returns-2 c = let k = c .before .before .before .at2 .given in reads-found _ (c .before .before .before .before .before .find .ensures) (k .1) (body-commit _ _ _ (c .body-commit .ensures) (c .before .part-of-store .ensures ∙ found-slice (c .before .before .before .before .before .find .ensures) _ _ (k .1)))
 
 returns-3 : tie.Need-returns-3
 returns-3 c = reads-found _ (c .before .before .find .ensures) (c .enum-told .given .1) refl

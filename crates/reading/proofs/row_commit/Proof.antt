@@ -6,7 +6,6 @@ use Rattle.reading.proofs.Whole.{row-good, row-bad}
 use borrow.Author.Needs.{needs}
 use Rattle.reading.proofs.row_commit.Statement.{statement}
 use Rattle.reading.proofs.row_commit.Tie as tie
-use Rattle.hash.specs.Bytes.{idBytes}
 
 parents-requires : tie.Need-parents-requires
 parents-requires c κs = search needs
@@ -26,13 +25,13 @@ enum-told c = search needs
 returns : tie.Need-returns
 returns c =
     let x = c .before .before .before .before .before .before .before .args in
-    row-good (x .position) (pairIn (x .graph .now) (x .l) (x .position)) (parentsIn idBytes (x .graph .now) (x .l) (x .position))
+    row-good (x .position) (pairIn _ (x .graph .now) (x .l) (x .position)) (parentsIn _ (x .graph .now) (x .l) (x .position))
     (sym (c .before .before .before .n .given .1) ∙ c .before .before .before .before .before .parents .ensures) (c .before .level .ensures) (c .seconds .ensures)
 
 returns-2 : tie.Need-returns-2
 returns-2 c =
     let x = c .before .before .before .before .args in
-    row-bad (x .position) (pairIn (x .graph .now) (x .l) (x .position)) (parentsIn idBytes (x .graph .now) (x .l) (x .position)) (sym (c .enum-told .given .1) ∙ c .before .before .parents .ensures)
+    row-bad (x .position) (pairIn _ (x .graph .now) (x .l) (x .position)) (parentsIn _ (x .graph .now) (x .l) (x .position)) (sym (c .enum-told .given .1) ∙ c .before .before .parents .ensures)
 
 pub row-commit-spec : {M : Type 1} → statement M
 row-commit-spec =

@@ -5,12 +5,13 @@ use Rattle.refill.proofs.Rereading.{Rereading, reread-none, reread-more
 use borrow.Author.Needs.{needs}
 use Rattle.refill.proofs.read_again.Statement.{statement}
 use Rattle.refill.proofs.read_again.Tie as tie
+use Rattle.hash.specs.Bytes.{widthOf}
 
 abbrev Inv-loop : tie.InvT-loop
-Inv-loop q store names times₀ line n i₀ times i = Rereading q store names line n times₀ times i
+Inv-loop kind q store names times₀ line n i₀ times i = Rereading (widthOf kind) q store names line n times₀ times i
 
 abbrev μ-loop : tie.MeasureT-loop
-μ-loop q store names times₀ line n i₀ times i = n - i
+μ-loop kind q store names times₀ line n i₀ times i = n - i
 
 timed-count-requires : tie.Need-timed-count-requires Inv-loop μ-loop
 timed-count-requires c κs = search needs

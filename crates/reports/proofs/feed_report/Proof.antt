@@ -1,5 +1,5 @@
 -- `feed_report` meets its contract: the embargoed list refuses, or the driver's task Feed, as a report. Assumes nothing.
-use mathlib.Core.Path.{sym, _∙_}
+use mathlib.Core.Path.{refl, sym, _∙_}
 use Rattle.opening.specs.Checks.{inputOf}
 use Rattle.reports.specs.Report.{embargoFault}
 use Rattle.reports.proofs.Embargoed.{fault-is, none-is}
@@ -44,7 +44,7 @@ report-of-requires : tie.Need-report-of-requires
 report-of-requires c κs = low-feeds (c .before .before .before .before .before .before .before .before .before .before .before .before .before .drive .ensures)
 
 returns : tie.Need-returns
-returns c = let x = c .before .before .before .before .before .before .before .before .before .before .before .before .before .before .before .before .args in fault-says (x .reader) (c .before .before .r .given .0 .0) (fault-is (embargoFault (inputOf (x .store .now) (x .graph .now) (x .tips .now) (x .hidden .now) (x .excluded .now) (x .settings)) (x .embargoed .now)) _ (sym (c .before .before .before .before .check-embargoed .ensures (x .settings)) ∙ c .before .before .r .given .1)) (c .refused-report .ensures)
+returns c = let x = c .before .before .before .before .before .before .before .before .before .before .before .before .before .before .before .before .args in fault-says (x .reader) (c .before .before .r .given .0 .0) (fault-is (embargoFault (inputOf (x .store .now) (x .graph .now) (x .tips .now) (x .hidden .now) (x .excluded .now) (x .settings)) (x .embargoed .now)) _ (sym (c .before .before .before .before .check-embargoed .ensures (x .settings) refl) ∙ c .before .before .r .given .1)) (c .refused-report .ensures)
 
 same-length : tie.Need-same-length
 same-length c = search needs
@@ -65,7 +65,7 @@ same-length-6 : tie.Need-same-length-6
 same-length-6 c = search needs
 
 returns-2 : tie.Need-returns-2
-returns-2 c = let x = c .before .before .before .before .before .before .before .before .before .before .before .before .before .before .before .before .before .before .before .before .before .before .before .before .before .before .before .before .before .before .before .before .before .before .before .before .before .before .before .args in feed-says (c .before .before .before .before .before .before .before .before .before .before .before .before .before .before .drive .ensures) (c .before .before .before .before .before .before .before .before .before .before .before .before .before .before .before .before .before .withheld .ensures) (none-is (embargoFault (inputOf (x .store .now) (x .graph .now) (x .tips .now) (x .hidden .now) (x .excluded .now) (x .settings)) (x .embargoed .now)) (sym (c .before .before .before .before .before .before .before .before .before .before .before .before .before .before .before .before .before .before .before .before .before .before .before .before .before .before .before .check-embargoed .ensures (x .settings)) ∙ c .before .before .before .before .before .before .before .before .before .before .before .before .before .before .before .before .before .before .before .before .before .before .before .before .before .enum-told .given .1)) (c .report-of .ensures)
+returns-2 c = let x = c .before .before .before .before .before .before .before .before .before .before .before .before .before .before .before .before .before .before .before .before .before .before .before .before .before .before .before .before .before .before .before .before .before .before .before .before .before .before .before .args in feed-says (c .before .before .before .before .before .before .before .before .before .before .before .before .before .before .drive .ensures) (c .before .before .before .before .before .before .before .before .before .before .before .before .before .before .before .before .before .withheld .ensures) (none-is (embargoFault (inputOf (x .store .now) (x .graph .now) (x .tips .now) (x .hidden .now) (x .excluded .now) (x .settings)) (x .embargoed .now)) (sym (c .before .before .before .before .before .before .before .before .before .before .before .before .before .before .before .before .before .before .before .before .before .before .before .before .before .before .before .check-embargoed .ensures (x .settings) refl) ∙ c .before .before .before .before .before .before .before .before .before .before .before .before .before .before .before .before .before .before .before .before .before .before .before .before .before .enum-told .given .1)) (c .report-of .ensures)
 
 pub feed-report-spec : {M : Type 1} → statement M
 feed-report-spec =

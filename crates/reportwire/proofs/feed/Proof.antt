@@ -26,7 +26,7 @@ same-length-2 c = search needs
 returns : tie.Need-returns
 returns c =
     let x = c .before .before .before .before .before .before .before .before .before .before .before .before .before .before .before .before .args in
-    no-room-says (readerOf (x .outside)) (x .embargoed .now) (inputOf (x .store .now) (x .graph .now) (x .tips .now) (x .hidden .now) (x .excluded .now) (settingsOf (x .sorting) (x .limited) (x .cutoff) (x .first))) (lentOf (x .names .now) (x .marks .now) (x .levels .now) (x .times .now) (x .line .now) (x .parents .now)) (x .numbers .now) (x .difference .now) (c .before .can-feed .ensures) (not-true (c .before .can-feed .result) (c .if1 .taken))
+    no-room-says (readerOf (x .outside)) (x .embargoed .now) (inputOf (x .store .now) (x .graph .now) (x .tips .now) (x .hidden .now) (x .excluded .now) (settingsOf (x .width) (x .sorting) (x .limited) (x .cutoff) (x .first))) (lentOf (x .names .now) (x .marks .now) (x .levels .now) (x .times .now) (x .line .now) (x .parents .now)) (x .numbers .now) (x .difference .now) (c .before .can-feed .ensures) (not-true (c .before .can-feed .result) (c .if1 .taken))
 
 settings-of-requires : tie.Need-settings-of-requires
 settings-of-requires c κs = search needs
@@ -74,7 +74,7 @@ returns-2 c =
     let x = s .args in
     let l = o .feed-report .last in
     let told : toZ w64 (ofZ w64 (x .cutoff)) ≡ x .cutoff = toZ-ofZ (s .fits .cutoff) in
-    let e = t .settings-of .ensures ∙ ap (λ (z : ℤ). settingsOf (x .sorting) (x .limited) z (x .first)) told in
+    let e = t .settings-of .ensures ∙ ap (λ (z : ℤ). settingsOf (x .width) (x .sorting) (x .limited) z (x .first)) told in
     made-says {m = lentOf (x .names .now) (x .marks .now) (x .levels .now) (x .times .now) (x .line .now) (x .parents .now)}
     {m′ = lentOf (l .1 .1 .1 .1 .1 .1 .1 .1 .0) (l .1 .1 .1 .1 .1 .1 .1 .1 .1 .0) (l .1 .1 .1 .1 .1 .1 .1 .1 .1 .1 .0) (l .1 .1 .1 .1 .1 .1 .1 .1 .1 .1 .1 .0) (l .1 .1 .1 .1 .1 .1 .1 .1 .1 .1 .1 .1 .0) (l .1 .1 .1 .1 .1 .1 .1 .1 .1 .1 .1 .1 .1 .0)}
     (o .before .before .before .before .before .before .before .reader-of .ensures) (ap (inputOf (x .store .now) (x .graph .now) (x .tips .now) (x .hidden .now) (x .excluded .now)) e)

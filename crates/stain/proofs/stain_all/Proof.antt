@@ -5,15 +5,16 @@ use Rattle.stain.proofs.Staining.{Lining, lining-first, lining-next, li
 use borrow.Author.Needs.{needs}
 use Rattle.stain.proofs.stain_all.Statement.{statement}
 use Rattle.stain.proofs.stain_all.Tie as tie
+use Rattle.hash.specs.Bytes.{widthOf}
 
 abbrev Inv-loop : tie.InvT-loop
-Inv-loop names marks levels₀ line cap store n i₀ levels i = Lining store (lent names marks line) levels₀ levels cap n i
+Inv-loop kind names marks levels₀ line cap store n i₀ levels i = Lining (widthOf kind) store (lent names marks line) levels₀ levels cap n i
 
 abbrev μ-loop : tie.MeasureT-loop
-μ-loop names marks levels₀ line cap store n i₀ levels i = n - i
+μ-loop kind names marks levels₀ line cap store n i₀ levels i = n - i
 
 loop-holds : tie.Need-loop-holds Inv-loop μ-loop
-loop-holds c = let x = c .before .before .before .before .before .args in lining-first (x .store .now) _ (x .levels .now) (x .cap) (x .n)
+loop-holds c = let x = c .before .before .before .before .before .args in lining-first (widthOf (x .kind)) (x .store .now) _ (x .levels .now) (x .cap) (x .n)
 
 slot-at-requires : tie.Need-slot-at-requires Inv-loop μ-loop
 slot-at-requires c κs = search needs
@@ -31,7 +32,7 @@ loop-less : tie.Need-loop-less Inv-loop μ-loop
 loop-less c = search needs
 
 loop-again : tie.Need-loop-again Inv-loop μ-loop
-loop-again c = lining-next (c .before .before .before .before .before .before .loop .inv) (c .before .before .before .before .before .loop-test .taken) (c .before .before .before .before .slot-at .ensures) (c .before .before .stain-at .ensures) (c .before .before .stain-at .kept .1 .1 .0)
+loop-again c = lining-next (c .before .before .before .before .before .before .loop .inv) (c .before .before .before .before .before .loop-test .taken) (c .before .before .before .before .slot-at .ensures) (c .before .before .stain-at .ensures) (c .before .before .stain-at .kept .1 .1 .1 .0)
 
 same-length : tie.Need-same-length Inv-loop μ-loop
 same-length c = c .before .loop .inv .long

@@ -6,7 +6,7 @@ use Rattle.state.proofs.Popping.{pops-none, pops-some}
 use borrow.Author.Needs.{needs}
 use Rattle.state.proofs.pop.Statement.{statement}
 use Rattle.state.proofs.pop.Tie as tie
-use Rattle.hash.specs.Bytes.{idBytes}
+use Rattle.hash.specs.Bytes.{widthOf}
 
 pop-requires : tie.Need-pop-requires
 pop-requires c κs = search needs
@@ -38,12 +38,12 @@ same-length-2 c = search needs
 returns-2 : tie.Need-returns-2
 returns-2 c =
     let i = c .before .before .before in
-    let w = i .before in
+    let w = i .before .before in
     let p = w .before .before .before .before .before in
     let x = p .before .before .before .before .args in
     rw (c .with-queue .ensures)
     (pops-some (p .pop .ensures) (w .before .if1 .left)
-    (c .before .before .id-of2 .ensures ∙ ap padded (i .id-of .ensures ∙ ap (idOf idBytes (x .names .now)) (w .wide .ensures)))
+    (c .before .before .id-of2 .ensures ∙ ap padded (i .id-of .ensures ∙ ap (idOf (widthOf (x .r .fixed .kind)) (x .names .now)) (w .wide .ensures)))
     (c .before .seconds-of .ensures))
 
 pub pop-spec : {M : Type 1} → statement M

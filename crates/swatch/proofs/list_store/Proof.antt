@@ -1,5 +1,5 @@
 -- `list_store` meets its contract: the opening's refusal, or the lines of its calls. Assumes nothing.
-use mathlib.Core.Path.{_≡_, _∙_, ap}
+use mathlib.Core.Path.{_≡_, refl, _∙_, ap}
 use mathlib.Core.List.{[]}
 use Prim.Native.Nat.{ℕ, _+_, _<_}
 use lib.ListN.{length}
@@ -39,7 +39,7 @@ add-calls : tie.Need-add-calls
 add-calls c =
     let x = c .before .before .before .before .before .before .before .before .before .before .before .before .before .before .before .before .before .before .before .before .before .before .before .before .before .before .before .before .before .before .before .before .before .args in
     let none = c .before .before .before .before .before .before .before .before .before .before .before .before .before .before .before .before .before .before .before .before .before .before .before .before .nothing .ensures in
-    omega (arith, c .capacity .ensures [] breadthAll, no-lists-places (x .store .now) (x .tips .now) none, few-places (x .store .now) (x .tips .now), low (c .before .before .before .before .before .before .before .before .before .before .before .before .before .before .before .before .before .before .before .before .before .before .before .before .before .before .before .before .before .before .before))
+    omega (arith, c .capacity .ensures [] breadthAll refl, no-lists-places (x .store .now) (x .tips .now) none, few-places (x .store .now) (x .tips .now), low (c .before .before .before .before .before .before .before .before .before .before .before .before .before .before .before .before .before .before .before .before .before .before .before .before .before .before .before .before .before .before .before))
 
 list-calls-requires : tie.Need-list-calls-requires
 list-calls-requires c κs = search needs
@@ -97,7 +97,7 @@ returns-2 c =
     let none = o .before .before .before .before .before .before .before .before .nothing .ensures in
     let x = o .before .before .before .before .before .before .before .before .before .before .before .before .before .before .before .before .before .args in
     let k = c .before .before .before .before .before .before .before .before .before .before .before .before .before .before .before .before .before .before .before .before .before in
-    let n : _ ≡ _ = ap (λ (j : ℕ). j + 2) (k .capacity .ensures [] breadthAll ∙ no-lists-places (x .store .now) (x .tips .now) none) in
+    let n : _ ≡ _ = ap (λ (j : ℕ). j + 2) (k .capacity .ensures [] breadthAll refl ∙ no-lists-places (x .store .now) (x .tips .now) none) in
     store-accepted (no-lists-open none (o .before .before .before .before .before .before .before .breadth-all .ensures) (o .«open» .ensures)) (k .before .before .enum-told .given .1) n (no-lists-calls none (c .before .before .before .before .before .before .before .before .before .before .before .before .before .list-calls .ensures))
 
 pub list-store-spec : {M : Type 1} → statement M

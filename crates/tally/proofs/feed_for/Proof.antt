@@ -2,7 +2,7 @@
 use mathlib.Core.Path.{sym, _∙_, subst}
 use mathlib.Core.Bool.{false}
 use mathlib.Core.List.{[]}
-use Rattle.hash.specs.Bytes.{idBytes}
+use Rattle.hash.specs.Bytes.{widthOf}
 use Rattle.walk.specs.Opening.{listIds}
 use Rattle.tally.specs.Feeds.{SmallIn}
 use Rattle.tally.proofs.Few.{in-small}
@@ -24,10 +24,10 @@ feed-at-requires : tie.Need-feed-at-requires
 feed-at-requires c κs = search needs
 
 returns : tie.Need-returns
-returns c = let x = c .before .before .before .before .before .before .args in (λ ok. c .no-reading .ensures ∙ held-back idBytes (listIds (x .embargoed .now)) (x .store .now) (x .id .now) (sym (c .before .before .is-among .ensures) ∙ c .before .if1 .taken), subst SmallIn (sym (c .no-reading .ensures)) (in-small false []))
+returns c = let x = c .before .before .before .before .before .before .args in (λ ok. c .no-reading .ensures ∙ held-back (widthOf (x .kind)) (listIds (widthOf (x .kind)) (x .embargoed .now)) (x .store .now) (x .id .now) (sym (c .before .before .is-among .ensures) ∙ c .before .if1 .taken), subst SmallIn (sym (c .no-reading .ensures)) (in-small false []))
 
 returns-2 : tie.Need-returns-2
-returns-2 c = let x = c .before .before .before .before .before .before .args in (λ ok. c .feed-at .ensures .0 ok ∙ not-held idBytes (listIds (x .embargoed .now)) (x .store .now) (x .id .now) (sym (c .before .before .is-among .ensures) ∙ c .before .if1 .left), c .feed-at .ensures .1)
+returns-2 c = let x = c .before .before .before .before .before .before .args in (λ ok. c .feed-at .ensures .0 ok ∙ not-held (widthOf (x .kind)) (listIds (widthOf (x .kind)) (x .embargoed .now)) (x .store .now) (x .id .now) (sym (c .before .before .is-among .ensures) ∙ c .before .if1 .left), c .feed-at .ensures .1)
 
 pub feed-for-spec : {M : Type 1} → statement M
 feed-for-spec =

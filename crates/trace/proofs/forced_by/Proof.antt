@@ -1,5 +1,6 @@
 -- `forced_by` meets its contract: the parent of that number stands in the start's body, or there is none. Assumes nothing.
 use Rattle.trace.proofs.Answering.{no-parent, a-parent}
+use Rattle.hash.proofs.Widths.{width-most}
 use borrow.Author.Needs.{needs}
 use Rattle.trace.proofs.forced_by.Statement.{statement}
 use Rattle.trace.proofs.forced_by.Tie as tie
@@ -30,7 +31,7 @@ say-requires c κs = search needs
 
 -- src/lib.rt:82:9
 returns : tie.Need-returns
-returns c = let x = c .before .before .before .before .before .before .before .before .args in no-parent (x .i) (c .before .before .before .stored-body .ensures) (c .before .before .parent-count .ensures) (c .before .before .before .before .id-slice .ensures) (c .before .if1 .taken) (c .say .ensures)
+returns c = let x = c .before .before .before .before .before .before .before .before .args in no-parent (width-most (x .kind)) (x .i) (c .before .before .before .stored-body .ensures) (c .before .before .parent-count .ensures) (c .before .before .before .before .id-slice .ensures) (c .before .if1 .taken) (c .say .ensures)
 
 -- src/lib.rt:84:14
 body-parent-requires : tie.Need-body-parent-requires
@@ -46,7 +47,7 @@ id-of-requires c κs = search needs
 
 -- src/lib.rt:73:1
 returns-2 : tie.Need-returns-2
-returns-2 c = let x = c .before .before .before .before .before .before .before .before .before .before .before .before .args in a-parent (x .i) (c .before .before .before .before .before .before .before .stored-body .ensures) (c .before .before .before .before .before .before .parent-count .ensures) (c .before .before .before .before .before .before .before .before .id-slice .ensures) {z = c .before .before .before .before .body-parent .result} {w = c .id-of .result} (c .before .before .before .before .before .if1 .left) (c .before .before .before .before .body-parent .ensures) (c .before .id-slice2 .ensures) (c .id-of .ensures)
+returns-2 c = let x = c .before .before .before .before .before .before .before .before .before .before .before .before .args in a-parent (width-most (x .kind)) (x .i) (c .before .before .before .before .before .before .before .stored-body .ensures) (c .before .before .before .before .before .before .parent-count .ensures) (c .before .before .before .before .before .before .before .before .id-slice .ensures) {z = c .before .before .before .before .body-parent .result} {w = c .id-of .result} (c .before .before .before .before .before .if1 .left) (c .before .before .before .before .body-parent .ensures) (c .before .id-slice2 .ensures) (c .id-of .ensures)
 
 pub forced-by-spec : {M : Type 1} → statement M
 forced-by-spec =

@@ -1,7 +1,7 @@
 -- `play` meets its contract: at the start, with no move, or by the first forcing parent. Assumes nothing.
 use mathlib.Core.Path.{_∙_, ap}
 use native.Mathlib.Omega.{arith}
-use Rattle.hash.specs.Bytes.{Id, among}
+use Rattle.hash.specs.Bytes.{Id, among, widthOf}
 use Rattle.walk.specs.Opening.{listIds}
 use Rattle.trace.proofs.Answering.{play-start, play-still, play-moved}
 use borrow.Author.Needs.{needs}
@@ -29,7 +29,7 @@ say-requires c κs = search needs
 
 -- src/lib.rt:97:9
 returns : tie.Need-returns
-returns c = let x = c .before .before .before .before .before .before .before .before .before .args in play-start (x .store .now) (listIds (x .list .now)) (x .d) _ (c .before .before .is-among .ensures ∙ ap (λ (y : Id). among y (listIds (x .list .now))) (c .before .before .before .id-slice .ensures)) (c .before .if1 .taken) (c .say .ensures)
+returns c = let x = c .before .before .before .before .before .before .before .before .before .args in play-start (widthOf (x .kind)) (x .store .now) (listIds (widthOf (x .kind)) (x .list .now)) (x .d) _ (c .before .before .is-among .ensures ∙ ap (λ (y : Id). among y (listIds (widthOf (x .kind)) (x .list .now))) (c .before .before .before .id-slice .ensures)) (c .before .if1 .taken) (c .say .ensures)
 
 -- src/lib.rt:100:9
 say-requires-2 : tie.Need-say-requires-2
@@ -37,7 +37,7 @@ say-requires-2 c κs = search needs
 
 -- src/lib.rt:100:9
 returns-2 : tie.Need-returns-2
-returns-2 c = let x = c .before .before .before .before .before .before .before .before .before .before .args in play-still (x .store .now) (listIds (x .list .now)) (x .d) _ (c .before .before .before .is-among .ensures ∙ ap (λ (y : Id). among y (listIds (x .list .now))) (c .before .before .before .before .id-slice .ensures)) (c .before .before .if1 .left) (c .before .if2 .taken) (c .say2 .ensures)
+returns-2 c = let x = c .before .before .before .before .before .before .before .before .before .before .args in play-still (widthOf (x .kind)) (x .store .now) (listIds (widthOf (x .kind)) (x .list .now)) (x .d) _ (c .before .before .before .is-among .ensures ∙ ap (λ (y : Id). among y (listIds (widthOf (x .kind)) (x .list .now))) (c .before .before .before .before .id-slice .ensures)) (c .before .before .if1 .left) (c .before .if2 .taken) (c .say2 .ensures)
 
 -- src/lib.rt:102:53
 sub-first-forcing : tie.Need-sub-first-forcing
@@ -53,11 +53,11 @@ forced-by-requires c κs = search needs
 
 -- src/lib.rt:93:1
 same-length : tie.Need-same-length
-same-length c = c .before .before .before .first-forcing .kept .1 .1 .0
+same-length c = c .before .before .before .first-forcing .kept .1 .1 .1 .0
 
 -- src/lib.rt:93:1
 returns-3 : tie.Need-returns-3
-returns-3 c = let x = c .before .before .before .before .before .before .before .before .before .before .before .before .before .before .args in play-moved (x .store .now) (listIds (x .list .now)) (x .d) _ (c .before .before .before .before .before .before .before .is-among .ensures ∙ ap (λ (y : Id). among y (listIds (x .list .now))) (c .before .before .before .before .before .before .before .before .id-slice .ensures)) (c .before .before .before .before .before .before .if1 .left) (c .before .before .before .before .before .if2 .left) (c .before .before .before .first-forcing .ensures) (c .forced-by .ensures)
+returns-3 c = let x = c .before .before .before .before .before .before .before .before .before .before .before .before .before .before .args in play-moved (widthOf (x .kind)) (x .store .now) (listIds (widthOf (x .kind)) (x .list .now)) (x .d) _ (c .before .before .before .before .before .before .before .is-among .ensures ∙ ap (λ (y : Id). among y (listIds (widthOf (x .kind)) (x .list .now))) (c .before .before .before .before .before .before .before .before .id-slice .ensures)) (c .before .before .before .before .before .before .if1 .left) (c .before .before .before .before .before .if2 .left) (c .before .before .before .first-forcing .ensures) (c .forced-by .ensures)
 
 pub play-spec : {M : Type 1} → statement M
 play-spec =

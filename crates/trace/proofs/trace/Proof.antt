@@ -8,6 +8,7 @@ use Rattle.trace.proofs.trace.Lts as lts
 use Rattle.trace.proofs.check.Reads as check-reads
 use Rattle.trace.proofs.say.Reads as say-reads
 use Rattle.trace.proofs.trace_checked.Reads as trace-checked-reads
+use Rattle.hash.specs.Bytes.{widthOf}
 
 -- src/lib.rt:122:9
 check-requires : tie.Need-check-requires
@@ -31,15 +32,15 @@ trace-checked-requires c κs = search needs
 
 -- src/lib.rt:119:1
 returns : tie.Need-returns
-returns c = let x = c .before .before .before .before .before .before .before .before .args in call-refused (x .store .now) (x .list .now) (x .d) _ (x .memo .now) (c .before .before .before .before .check .ensures) _ (c .before .before .checked .given .1) (c .say .ensures)
+returns c = let x = c .before .before .before .before .before .before .before .before .args in call-refused (widthOf (x .kind)) (x .store .now) (x .list .now) (x .d) _ (x .memo .now) (c .before .before .before .before .check .ensures) _ (c .before .before .checked .given .1) (c .say .ensures)
 
 -- src/lib.rt:119:1
 same-length : tie.Need-same-length
-same-length c = c .before .before .trace-checked .kept .1 .1 .0
+same-length c = c .before .before .trace-checked .kept .1 .1 .1 .0
 
 -- src/lib.rt:119:1
 returns-2 : tie.Need-returns-2
-returns-2 c = let x = c .before .before .before .before .before .before .before .before .before .before .args in call-answers (x .store .now) (x .list .now) (x .d) _ (x .memo .now) (c .before .before .before .before .before .before .check .ensures) (c .before .before .before .before .enum-told .given .1) (c .before .before .trace-checked .ensures)
+returns-2 c = let x = c .before .before .before .before .before .before .before .before .before .before .args in call-answers (widthOf (x .kind)) (x .store .now) (x .list .now) (x .d) _ (x .memo .now) (c .before .before .before .before .before .before .check .ensures) (c .before .before .before .before .enum-told .given .1) (c .before .before .trace-checked .ensures)
 
 pub trace-spec : {M : Type 1} → statement M
 trace-spec =

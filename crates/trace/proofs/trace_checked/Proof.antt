@@ -12,6 +12,7 @@ use Rattle.memo.proofs.clear.Reads as clear-reads
 use Rattle.trace.proofs.play.Reads as play-reads
 use Rattle.trace.proofs.say.Reads as say-reads
 use Rattle.withinreach.proofs.all_readable.Reads as all-readable-reads
+use Rattle.hash.specs.Bytes.{widthOf}
 
 -- src/lib.rt:110:5
 clear-requires : tie.Need-clear-requires
@@ -27,11 +28,11 @@ say-requires c κs = search needs
 
 -- src/lib.rt:112:9
 same-length : tie.Need-same-length
-same-length c = c .before .before .before .before .all-readable .kept .1 .0 ∙ c .before .before .before .before .before .before .before .before .clear .kept .0
+same-length c = c .before .before .before .before .all-readable .kept .1 .1 .0 ∙ c .before .before .before .before .before .before .before .before .clear .kept .0
 
 -- src/lib.rt:112:9
 returns : tie.Need-returns
-returns c = let x = c .before .before .before .before .before .before .before .before .before .before .before .before .before .args in answer-unreadable (c .before .before .before .before .before .before .before .before .clear .ensures) (c .before .before .before .before .all-readable .ensures) (listIds (x .list .now)) (not-true (c .before .before .before .before .all-readable .result) (c .before .if1 .taken)) (c .say .ensures)
+returns c = let x = c .before .before .before .before .before .before .before .before .before .before .before .before .before .args in answer-unreadable (c .before .before .before .before .before .before .before .before .clear .ensures) (c .before .before .before .before .all-readable .ensures) (listIds (widthOf (x .kind)) (x .list .now)) (not-true (c .before .before .before .before .all-readable .result) (c .before .if1 .taken)) (c .say .ensures)
 
 -- src/lib.rt:114:5
 clear-requires-2 : tie.Need-clear-requires-2
@@ -43,11 +44,11 @@ play-requires c κs = search needs
 
 -- src/lib.rt:107:1
 same-length-2 : tie.Need-same-length-2
-same-length-2 c = c .before .before .play .kept .1 .1 .0 ∙ c .before .before .before .before .before .before .clear2 .kept .0 ∙ c .before .before .before .before .before .before .before .before .before .before .before .all-readable .kept .1 .0 ∙ c .before .before .before .before .before .before .before .before .before .before .before .before .before .before .before .clear .kept .0
+same-length-2 c = c .before .before .play .kept .1 .1 .1 .0 ∙ c .before .before .before .before .before .before .clear2 .kept .0 ∙ c .before .before .before .before .before .before .before .before .before .before .before .all-readable .kept .1 .1 .0 ∙ c .before .before .before .before .before .before .before .before .before .before .before .before .before .before .before .clear .kept .0
 
 -- src/lib.rt:107:1
 returns-2 : tie.Need-returns-2
-returns-2 c = let x = c .before .before .before .before .before .before .before .before .before .before .before .before .before .before .before .before .before .before .before .before .args in answer-played (c .before .before .before .before .before .before .before .before .before .before .before .before .before .before .before .clear .ensures) (c .before .before .before .before .before .before .before .before .before .before .before .all-readable .ensures) (listIds (x .list .now)) (not-false (c .before .before .before .before .before .before .before .before .before .before .before .all-readable .result) (c .before .before .before .before .before .before .before .before .if1 .left)) (c .before .before .before .before .before .before .clear2 .ensures) (c .before .before .play .ensures)
+returns-2 c = let x = c .before .before .before .before .before .before .before .before .before .before .before .before .before .before .before .before .before .before .before .before .args in answer-played (c .before .before .before .before .before .before .before .before .before .before .before .before .before .before .before .clear .ensures) (c .before .before .before .before .before .before .before .before .before .before .before .all-readable .ensures) (listIds (widthOf (x .kind)) (x .list .now)) (not-false (c .before .before .before .before .before .before .before .before .before .before .before .all-readable .result) (c .before .before .before .before .before .before .before .before .if1 .left)) (c .before .before .before .before .before .before .clear2 .ensures) (c .before .before .play .ensures)
 
 pub trace-checked-spec : {M : Type 1} → statement M
 trace-checked-spec =

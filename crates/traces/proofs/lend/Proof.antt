@@ -14,71 +14,51 @@ use Rattle.traces.proofs.lent.Reads as lent-reads
 use Rattle.traces.proofs.print_traced.Reads as print-traced-reads
 use Rattle.traces.proofs.wide.Reads as wide-reads
 
--- src/main.rt:58:18
 be32-requires : tie.Need-be32-requires
 be32-requires c κs = search needs
 
--- src/main.rt:58:9
 lent-requires : tie.Need-lent-requires
 lent-requires c κs = search needs
 
--- src/main.rt:59:18
 be32-requires-2 : tie.Need-be32-requires-2
 be32-requires-2 c κs = search needs
 
--- src/main.rt:59:9
 wide-requires : tie.Need-wide-requires
 wide-requires c κs = search needs
 
--- src/main.rt:60:9
 part-requires : tie.Need-part-requires
 part-requires c κs = search needs
 
--- src/main.rt:62:9
 part-requires-2 : tie.Need-part-requires-2
 part-requires-2 c κs = search needs
 
--- src/main.rt:63:23
-part-requires-3 : tie.Need-part-requires-3
-part-requires-3 c κs = search needs
-
--- src/main.rt:63:9
 id-of-requires : tie.Need-id-of-requires
 id-of-requires c κs = search needs
 
--- src/main.rt:64:9
-part-requires-4 : tie.Need-part-requires-4
-part-requires-4 c κs = search needs
+part-requires-3 : tie.Need-part-requires-3
+part-requires-3 c κs = search needs
 
--- src/main.rt:65:14
 be32-requires-3 : tie.Need-be32-requires-3
 be32-requires-3 c κs = search needs
 
--- src/main.rt:65:9
 wide-requires-2 : tie.Need-wide-requires-2
 wide-requires-2 c κs = search needs
 
--- src/main.rt:66:9
 slice-relend-prefix-trace : tie.Need-slice-relend-prefix-trace
 slice-relend-prefix-trace c = search needs
 
--- src/main.rt:66:9
 slice-aggregate-trace : tie.Need-slice-aggregate-trace
 slice-aggregate-trace c = simp length-take (omega arith)
 
--- src/main.rt:61:18
 trace-requires : tie.Need-trace-requires
 trace-requires c κs = search needs
 
--- src/main.rt:61:5
 print-traced-requires : tie.Need-print-traced-requires
 print-traced-requires c κs = search needs
 
--- src/main.rt:57:1
 same-length : tie.Need-same-length
 same-length c = search needs
 
--- src/main.rt:57:1
 returns : tie.Need-returns
 returns c = search needs
 
@@ -92,9 +72,8 @@ lend-spec =
     wide-requires
     part-requires
     part-requires-2
-    part-requires-3
     id-of-requires
-    part-requires-4
+    part-requires-3
     be32-requires-3
     wide-requires-2
     slice-relend-prefix-trace

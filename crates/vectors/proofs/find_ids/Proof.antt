@@ -1,25 +1,23 @@
 -- `vectors::find_ids` is safe and ends: the number rises to n. Assumes nothing.
 use borrow.Author.Needs.{needs}
-use Prim.Native.Nat.{_≤_, _-_, _/_}
-use mathlib.Core.Path.{_≡_}
-use lib.ListN.{length}
+use Prim.Native.Nat.{_≤_, _-_}
 use Rattle.vectors.proofs.find_ids.Statement.{statement}
 use Rattle.vectors.proofs.find_ids.Tie as tie
 
 abbrev Inv-loop : tie.InvT-loop
-Inv-loop cache graph store ids n k₀ k = (k ≤ n) × (n ≡ length ids / 20)
+Inv-loop cache graph store ids n k₀ k = k ≤ n
 
 abbrev μ-loop : tie.MeasureT-loop
 μ-loop cache graph store ids n k₀ k = n - k
 
+ids-in-requires : tie.Need-ids-in-requires Inv-loop μ-loop
+ids-in-requires c κs = search needs
+
 loop-holds : tie.Need-loop-holds Inv-loop μ-loop
 loop-holds c = search needs
 
-mul-id-at : tie.Need-mul-id-at Inv-loop μ-loop
-mul-id-at c = search needs
-
-id-at-requires : tie.Need-id-at-requires Inv-loop μ-loop
-id-at-requires c κs = search needs
+nth-requires : tie.Need-nth-requires Inv-loop μ-loop
+nth-requires c κs = search needs
 
 find-requires : tie.Need-find-requires Inv-loop μ-loop
 find-requires c κs = search needs
@@ -45,9 +43,9 @@ find-ids-spec =
     (tie.spec
     Inv-loop
     μ-loop
+    ids-in-requires
     loop-holds
-    mul-id-at
-    id-at-requires
+    nth-requires
     find-requires
     found-requires
     add-k

@@ -3,6 +3,7 @@ use Prim.Native.Nat.{_≤_, _<_}
 use native.Mathlib.Omega.{arith}
 use lib.ListN.{length}
 use borrow.Author.Tests.{le-leb, lt-leb}
+use Rattle.hash.specs.Bytes.{widthOf}
 use Rattle.wire.specs.Words.{roomToCall}
 use borrow.Author.Needs.{needs}
 use Rattle.wire.proofs.can_call.Statement.{statement}
@@ -17,20 +18,20 @@ width-requires c κs = search needs
 
 returns-2 : tie.Need-returns-2
 unfolding roomToCall
-returns-2 c = let h : 19 ≤ length (c .before .before .before .before .before .before .args .words .now) = omega arith in
-    let g : length (c .before .before .before .before .before .before .args .id .now) < 20 = omega (arith, c .before .width .ensures .0, c .if2 .taken) in
+returns-2 c = let h : 20 ≤ length (c .before .before .before .before .before .before .args .words .now) = omega arith in
+    let g : length (c .before .before .before .before .before .before .args .id .now) < widthOf (c .before .before .before .before .before .before .args .kind) = omega (arith, c .before .width .ensures .0, c .if2 .taken) in
     rw (le-leb _ _ h, lt-leb _ _ g)
 
 returns-3 : tie.Need-returns-3
 unfolding roomToCall
-returns-3 c = let h : 19 ≤ length (c .before .before .before .before .before .before .before .args .words .now) = omega arith in
-    let g : 20 ≤ length (c .before .before .before .before .before .before .before .args .id .now) = omega (arith, c .before .before .width .ensures .0) in
+returns-3 c = let h : 20 ≤ length (c .before .before .before .before .before .before .before .args .words .now) = omega arith in
+    let g : widthOf (c .before .before .before .before .before .before .before .args .kind) ≤ length (c .before .before .before .before .before .before .before .args .id .now) = omega (arith, c .before .before .width .ensures .0) in
     rw (le-leb _ _ h, le-leb _ _ g, lt-leb _ _ (c .if3 .taken))
 
 returns-4 : tie.Need-returns-4
 unfolding roomToCall
-returns-4 c = let h : 19 ≤ length (c .before .before .before .before .before .before .before .args .words .now) = omega arith in
-    let g : 20 ≤ length (c .before .before .before .before .before .before .before .args .id .now) = omega (arith, c .before .before .width .ensures .0) in
+returns-4 c = let h : 20 ≤ length (c .before .before .before .before .before .before .before .args .words .now) = omega arith in
+    let g : widthOf (c .before .before .before .before .before .before .before .args .kind) ≤ length (c .before .before .before .before .before .before .before .args .id .now) = omega (arith, c .before .before .width .ensures .0) in
     let f : 8 ≤ length (c .before .before .before .before .before .before .before .args .numbers .now) = omega arith in
     rw (le-leb _ _ h, le-leb _ _ g, le-leb _ _ f)
 

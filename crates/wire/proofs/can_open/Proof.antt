@@ -13,7 +13,7 @@ returns c = rw (lt-leb _ _ (c .if1 .taken))
 
 returns-2 : tie.Need-returns-2
 unfolding roomToOpen
-returns-2 c = let h : 19 ≤ length (c .before .args .words .now) = omega arith in rw (le-leb _ _ h)
+returns-2 c = let h : 20 ≤ length (c .before .args .words .now) = omega arith in rw (le-leb _ _ h)
 
 pub can-open-spec : {M : Type 1} → statement M
 can-open-spec = tie.close (tie.spec returns returns-2)

@@ -1,5 +1,6 @@
 -- `wire::fixed_in` meets its contract, field by field. Assumes nothing.
-use Rattle.wire.specs.Words.{fixedIn}
+use mathlib.Core.Path.{_∙_, ap}
+use Rattle.wire.specs.Words.{kindOf, fixedIn}
 use borrow.Author.Needs.{needs}
 use Rattle.wire.proofs.fixed_in.Statement.{statement}
 use Rattle.wire.proofs.fixed_in.Tie as tie
@@ -25,18 +26,25 @@ count-requires-6 c κs = search needs
 flag-requires : tie.Need-flag-requires
 flag-requires c κs = search needs
 
+low-requires : tie.Need-low-requires
+low-requires c κs = search needs
+
+kind-of-requires : tie.Need-kind-of-requires
+kind-of-requires c κs = search needs
+
 returns : tie.Need-returns
 unfolding fixedIn
 returns c = λ k. record {
   layout = record {
-    fan = c .before .before .before .before .before .before .count .ensures k;
-    ids = c .before .before .before .before .before .count2 .ensures k;
-    rows = c .before .before .before .before .count3 .ensures k;
-    edge = c .before .before .before .count4 .ensures k;
-    edges = c .before .before .count5 .ensures k;
-    count = c .before .count6 .ensures k;
-    levels = c .flag .ensures k;
+    fan = c .before .before .before .before .before .before .before .before .count .ensures k;
+    ids = c .before .before .before .before .before .before .before .count2 .ensures k;
+    rows = c .before .before .before .before .before .before .count3 .ensures k;
+    edge = c .before .before .before .before .before .count4 .ensures k;
+    edges = c .before .before .before .before .count5 .ensures k;
+    count = c .before .before .before .count6 .ensures k;
+    levels = c .before .before .flag .ensures k;
   };
+  kind = (c .kind-of .ensures ∙ ap kindOf (c .before .low .ensures)) k;
 }
 
 pub fixed-in-spec : {M : Type 1} → statement M
@@ -50,4 +58,6 @@ fixed-in-spec =
     count-requires-5
     count-requires-6
     flag-requires
+    low-requires
+    kind-of-requires
     returns)

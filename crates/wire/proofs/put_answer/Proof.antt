@@ -21,8 +21,8 @@ slice-aggregate-put c = search needs
 put-requires : tie.Need-put-requires
 put-requires c κs = search needs
 
-slice-aggregate-set-down : tie.Need-slice-aggregate-set-down
-slice-aggregate-set-down c = search needs
+id-slice-requires : tie.Need-id-slice-requires
+id-slice-requires c κs = search needs
 
 set-down-requires : tie.Need-set-down-requires
 set-down-requires c κs = search needs
@@ -52,7 +52,7 @@ same-length-3 : tie.Need-same-length-3
 same-length-3 c = search needs
 
 returns : tie.Need-returns
-returns c = let x = c .before .before .before .before .before .before .before .before .before .before .before .before .before .before .before .before .before .before .before .before .before .before .before .before .before .args in
+returns c = let x = c .before .before .before .before .before .before .before .before .before .before .before .before .before .before .before .before .before .before .before .before .before .before .before .before .before .before .args in
     let z = c .before .before .before .before .before .before .before .before .before .seconds-value .result .0 in
     let told : toZ w64 (ofZ w64 z) ≡ z = toZ-ofZ {w = w64} {z = z} (record { sfits = c .before .before .before .before .before .before .before .struct-told .given .0 .1 }) in
     let m = c .before .before .before .before .zone-value .result in
@@ -60,8 +60,8 @@ returns c = let x = c .before .before .before .before .before .before .before .b
     let first = c .before .before .before .before .before .before .put-seconds .ensures ∙ ap (set (x .seconds .now) 0) (told ∙ c .before .before .before .before .before .before .before .before .before .seconds-value .ensures) in
     record {
       result = c .call-number .ensures;
-      id-is = c .before .before .before .before .before .before .before .before .before .before .before .before .set-down .ensures;
-      numbers-are = c .before .before .before .before .before .before .before .before .before .before .before .before .before .before .before .before .before .before .before .put .ensures ∙ ap (setDown (x .numbers .now) 0) (c .before .before .before .before .before .before .before .before .before .before .before .before .before .before .before .before .before .before .before .before .before .before .answer-words .ensures);
+      id-is = c .before .before .before .before .before .before .before .before .before .before .before .before .set-down .ensures ∙ ap (setDown (x .id .now) 0) (c .before .before .before .before .before .before .before .before .before .before .before .before .before .id-slice .ensures);
+      numbers-are = c .before .before .before .before .before .before .before .before .before .before .before .before .before .before .before .before .before .before .before .before .put .ensures ∙ ap (setDown (x .numbers .now) 0) (c .before .before .before .before .before .before .before .before .before .before .before .before .before .before .before .before .before .before .before .before .before .before .before .answer-words .ensures);
       seconds-are =
           c .before .before .put-zone .ensures
           ∙ ap (λ (l : List ℤ). set l 1 (toZ w64 (ofZ w64 m))) first
@@ -75,7 +75,7 @@ put-answer-spec =
     answer-words-requires
     slice-aggregate-put
     put-requires
-    slice-aggregate-set-down
+    id-slice-requires
     set-down-requires
     seconds-value-requires
     put-seconds-requires

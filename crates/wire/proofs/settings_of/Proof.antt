@@ -14,14 +14,17 @@ sorting-of-requires c κs = search needs
 parents-of-requires : tie.Need-parents-of-requires
 parents-of-requires c κs = search needs
 
+kind-of-requires : tie.Need-kind-of-requires
+kind-of-requires c κs = search needs
+
 returns : tie.Need-returns
 unfolding settingsOf
 returns c =
-    let s = c .before .before in
+    let s = c .before .before .before in
     let x = s .args in
     let told : toZ w64 (ofZ w64 (x .cutoff)) ≡ x .cutoff = toZ-ofZ (s .fits .cutoff) in
-    let e = c .before .sorting-of .ensures ∙ ap (sortingOf (x .sorting) (x .limited)) told in
-    λ k. record { sorting = e k; parents = c .parents-of .ensures k }
+    let e = c .before .before .sorting-of .ensures ∙ ap (sortingOf (x .sorting) (x .limited)) told in
+    λ k. record { sorting = e k; parents = c .before .parents-of .ensures k; kind = c .kind-of .ensures k }
 
 pub settings-of-spec : {M : Type 1} → statement M
-settings-of-spec = tie.close (tie.spec sorting-of-requires parents-of-requires returns)
+settings-of-spec = tie.close (tie.spec sorting-of-requires parents-of-requires kind-of-requires returns)

@@ -62,28 +62,32 @@ long-requires-11 c κs = search needs
 bit-requires-7 : tie.Need-bit-requires-7
 bit-requires-7 c κs = search needs
 
+width-word-requires : tie.Need-width-word-requires
+width-word-requires c κs = search needs
+
 returns : tie.Need-returns
 unfolding wordsOf
 returns c = λ k.
-    c .before .before .before .before .before .before .before .before .before .before .before .before .before .before .before .before .before .before .bit .ensures k
-    ∷ c .before .before .before .before .before .before .before .before .before .before .before .before .before .before .before .before .before .bit2 .ensures k
-    ∷ c .before .before .before .before .before .before .before .before .before .before .before .before .before .before .before .before .bit3 .ensures k
-    ∷ c .before .before .before .before .before .before .before .before .before .before .before .before .before .before .before .bit4 .ensures k
-    ∷ c .before .before .before .before .before .before .before .before .before .before .before .before .before .before .bit5 .ensures k
-    ∷ c .before .before .before .before .before .before .before .before .before .before .before .before .before .bit6 .ensures k
-    ∷ c .before .before .before .before .before .before .before .before .before .before .before .before .long .ensures k
-    ∷ c .before .before .before .before .before .before .before .before .before .before .before .long2 .ensures k
-    ∷ c .before .before .before .before .before .before .before .before .before .before .long3 .ensures k
-    ∷ c .before .before .before .before .before .before .before .before .before .long32 .ensures k
-    ∷ c .before .before .before .before .before .before .before .before .long4 .ensures k
-    ∷ c .before .before .before .before .before .before .before .long5 .ensures k
-    ∷ c .before .before .before .before .before .before .long6 .ensures k
-    ∷ c .before .before .before .before .before .long7 .ensures k
-    ∷ c .before .before .before .before .long8 .ensures k
-    ∷ c .before .before .before .long9 .ensures k
-    ∷ c .before .before .long10 .ensures k
-    ∷ c .before .long11 .ensures k
-    ∷ c .bit7 .ensures k
+    c .before .before .before .before .before .before .before .before .before .before .before .before .before .before .before .before .before .before .before .bit .ensures k
+    ∷ c .before .before .before .before .before .before .before .before .before .before .before .before .before .before .before .before .before .before .bit2 .ensures k
+    ∷ c .before .before .before .before .before .before .before .before .before .before .before .before .before .before .before .before .before .bit3 .ensures k
+    ∷ c .before .before .before .before .before .before .before .before .before .before .before .before .before .before .before .before .bit4 .ensures k
+    ∷ c .before .before .before .before .before .before .before .before .before .before .before .before .before .before .before .bit5 .ensures k
+    ∷ c .before .before .before .before .before .before .before .before .before .before .before .before .before .before .bit6 .ensures k
+    ∷ c .before .before .before .before .before .before .before .before .before .before .before .before .before .long .ensures k
+    ∷ c .before .before .before .before .before .before .before .before .before .before .before .before .long2 .ensures k
+    ∷ c .before .before .before .before .before .before .before .before .before .before .before .long3 .ensures k
+    ∷ c .before .before .before .before .before .before .before .before .before .before .long32 .ensures k
+    ∷ c .before .before .before .before .before .before .before .before .before .long4 .ensures k
+    ∷ c .before .before .before .before .before .before .before .before .long5 .ensures k
+    ∷ c .before .before .before .before .before .before .before .long6 .ensures k
+    ∷ c .before .before .before .before .before .before .long7 .ensures k
+    ∷ c .before .before .before .before .before .long8 .ensures k
+    ∷ c .before .before .before .before .long9 .ensures k
+    ∷ c .before .before .before .long10 .ensures k
+    ∷ c .before .before .long11 .ensures k
+    ∷ c .before .bit7 .ensures k
+    ∷ c .width-word .ensures k
     ∷ []
 
 pub words-of-spec : {M : Type 1} → statement M
@@ -109,4 +113,5 @@ words-of-spec =
     long-requires-10
     long-requires-11
     bit-requires-7
+    width-word-requires
     returns)

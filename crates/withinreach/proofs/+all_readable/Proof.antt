@@ -23,9 +23,11 @@ use Rattle.reading.proofs.body_parent.Reads as body-parent-reads
 use Rattle.reading.proofs.stored_body.Reads as stored-body-reads
 use Rattle.withinreach.proofs.+all_readable.{statement}
 use Rattle.withinreach.proofs.+all_readable.Tie.{close}
+use Rattle.hash.specs.Bytes.{widthOf}
+use Rattle.hash.proofs.Widths.{width-most}
 
 abbrev μ-all-readable : Measures 2 all-readable-kinds.ps ℕ
-μ-all-readable κs a = a .1 .1 .0
+μ-all-readable κs a = a .1 .1 .1 .0
 
 -- what it is given at the measure t, and what a call of it asks below t
 abbrev ar-at : ℕ → In 2 all-readable-kinds.ps
@@ -39,10 +41,10 @@ abbrev ar-hears : ℕ → all-readable-lts.Claims
 ar-hears t = (count-reads.Asked, count-reads.Learnt, id-slice-reads.Asked, id-slice-reads.Learnt, entry-of-reads.Asked, entry-of-reads.Learnt, recall-reads.Asked, recall-reads.Learnt, stored-body-reads.Asked, stored-body-reads.Learnt, readable-reads.Asked, readable-reads.Learnt, note-reads.Asked, note-reads.Learnt, body-parent-reads.Asked, body-parent-reads.Learnt, ar-below t, all-readable.Post)
 
 abbrev ar-Inv-loop : all-readable-lts.InvT-loop
-ar-Inv-loop store memo₀ d n k known body parents i₀ memo i = (i ≤ parents) × Stepping store (d - 1) body memo₀ memo i
+ar-Inv-loop kind store memo₀ d n k known body parents i₀ memo i = (i ≤ parents) × Stepping (widthOf kind) store (d - 1) body memo₀ memo i
 
 abbrev ar-μ-loop : all-readable-lts.MeasureT-loop
-ar-μ-loop store memo₀ d n k known body parents i₀ memo i = parents - i
+ar-μ-loop kind store memo₀ d n k known body parents i₀ memo i = parents - i
 
 count-requires : (t : ℕ) → all-readable-lts.Need-count-requires (ar-hears t) (ar-at t) all-readable.Post ar-Inv-loop ar-μ-loop
 count-requires t c κs = search needs
@@ -60,7 +62,7 @@ same-length : (t : ℕ) → all-readable-lts.Need-same-length (ar-hears t) (ar-a
 same-length t c = search needs
 
 returns : (t : ℕ) → all-readable-lts.Need-returns (ar-hears t) (ar-at t) all-readable.Post ar-Inv-loop ar-μ-loop
-returns t c = read-as (c .before .before .before .before .id-slice .ensures) (read-known _ (c .before .before .before .before .before .before .before .count .ensures) _ (c .before .before .before .entry-of .ensures) _ (c .before .recall .ensures) (c .if1 .taken))
+returns t c = read-as (c .before .before .before .before .id-slice .ensures) (read-known _ _ (c .before .before .before .before .before .before .before .count .ensures) _ (c .before .before .before .entry-of .ensures) _ (c .before .recall .ensures) (c .if1 .taken))
 
 stored-body-requires : (t : ℕ) → all-readable-lts.Need-stored-body-requires (ar-hears t) (ar-at t) all-readable.Post ar-Inv-loop ar-μ-loop
 stored-body-requires t c κs = search needs
@@ -75,7 +77,7 @@ same-length-2 : (t : ℕ) → all-readable-lts.Need-same-length-2 (ar-hears t) (
 same-length-2 t c = search needs
 
 returns-2 : (t : ℕ) → all-readable-lts.Need-returns-2 (ar-hears t) (ar-at t) all-readable.Post ar-Inv-loop ar-μ-loop
-returns-2 t c = let r = c .before .readable .ensures in read-as (c .before .before .before .before .before .before .before .id-slice .ensures) (read-not _ (c .before .before .before .before .before .before .before .before .before .before .count .ensures) _ (c .before .before .before .before .before .before .entry-of .ensures) _ (c .before .before .stored-body .ensures) (λ n u e. let v = r ∙ e in ⊎-elim (λ q. let z = rw v at q in omega (arith, z)) (λ q. let z = rw v at q in omega (arith, z)) (c .match .keys2)))
+returns-2 t c = let r = c .before .readable .ensures in read-as (c .before .before .before .before .before .before .before .id-slice .ensures) (read-not _ _ (c .before .before .before .before .before .before .before .before .before .before .count .ensures) _ (c .before .before .before .before .before .before .entry-of .ensures) _ (c .before .before .stored-body .ensures) (λ n u e. let v = r ∙ e in ⊎-elim (λ q. let z = rw v at q in omega (arith, z)) (λ q. let z = rw v at q in omega (arith, z)) (c .match .keys2)))
 
 note-requires : (t : ℕ) → all-readable-lts.Need-note-requires (ar-hears t) (ar-at t) all-readable.Post ar-Inv-loop ar-μ-loop
 note-requires t c κs = search needs
@@ -84,10 +86,10 @@ same-length-3 : (t : ℕ) → all-readable-lts.Need-same-length-3 (ar-hears t) (
 same-length-3 t c = c .before .before .note .kept .0
 
 returns-3 : (t : ℕ) → all-readable-lts.Need-returns-3 (ar-hears t) (ar-at t) all-readable.Post ar-Inv-loop ar-μ-loop
-returns-3 t c = let sn = c .before .before .before .before .before .before .before .before .before .before .before .before .before .before .before .before .before .count .ensures in read-as (c .before .before .before .before .before .before .before .before .before .before .before .before .before .before .id-slice .ensures) (read-still _ sn _ (c .before .before .before .before .before .before .before .before .before .before .before .before .before .entry-of .ensures) _ (c .before .before .before .before .before .before .before .before .before .stored-body .ensures) _ _ (sym (c .before .before .before .before .before .before .before .before .readable .ensures) ∙ c .before .before .before .before .before .before .parents .given .1) (c .before .before .before .before .if2 .taken) (c .before .before .note .ensures))
+returns-3 t c = let sn = c .before .before .before .before .before .before .before .before .before .before .before .before .before .before .before .before .before .count .ensures in read-as (c .before .before .before .before .before .before .before .before .before .before .before .before .before .before .id-slice .ensures) (read-still _ _ sn _ (c .before .before .before .before .before .before .before .before .before .before .before .before .before .entry-of .ensures) _ (width-most (c .before .before .before .before .before .before .before .before .before .before .before .before .before .before .before .before .before .before .before .before .args .kind)) (c .before .before .before .before .before .before .before .before .before .stored-body .ensures) _ _ (sym (c .before .before .before .before .before .before .before .before .readable .ensures) ∙ c .before .before .before .before .before .before .parents .given .1) (c .before .before .before .before .if2 .taken) (c .before .before .note .ensures))
 
 loop-holds : (t : ℕ) → all-readable-lts.Need-loop-holds (ar-hears t) (ar-at t) all-readable.Post ar-Inv-loop ar-μ-loop
-loop-holds t c = let x = c .before .before .before .before .before .before .before .before .before .before .before .before .before .before .before .before .args in (search needs, stepping-first (x .store .now) (x .d - 1) _ _)
+loop-holds t c = let x = c .before .before .before .before .before .before .before .before .before .before .before .before .before .before .before .before .args in (search needs, stepping-first (widthOf (x .kind)) (x .store .now) (x .d - 1) _ _)
 
 sub-all-readable : (t : ℕ) → all-readable-lts.Need-sub-all-readable (ar-hears t) (ar-at t) all-readable.Post ar-Inv-loop ar-μ-loop
 sub-all-readable t c = let h = c .before .before .before .if2 .left in omega (arith, h)
@@ -102,10 +104,10 @@ note-requires-2 : (t : ℕ) → all-readable-lts.Need-note-requires-2 (ar-hears 
 note-requires-2 t c κs = search needs
 
 same-length-4 : (t : ℕ) → all-readable-lts.Need-same-length-4 (ar-hears t) (ar-at t) all-readable.Post ar-Inv-loop ar-μ-loop
-same-length-4 t c = c .before .before .note2 .kept .0 ∙ c .before .before .before .before .before .before .before .all-readable .kept .1 .0 ∙ c .before .before .before .before .before .before .before .before .before .before .before .loop .inv .1 .long
+same-length-4 t c = c .before .before .note2 .kept .0 ∙ c .before .before .before .before .before .before .before .all-readable .kept .1 .1 .0 ∙ c .before .before .before .before .before .before .before .before .before .before .before .loop .inv .1 .long
 
 returns-4 : (t : ℕ) → all-readable-lts.Need-returns-4 (ar-hears t) (ar-at t) all-readable.Post ar-Inv-loop ar-μ-loop
-returns-4 t c = let p = c .before .before .before .before .before .before .before .before .before .before .before .before in let sn = p .before .before .before .before .before .before .before .before .before .before .before .before .before .count .ensures in read-as (p .before .before .before .before .before .before .before .before .before .before .id-slice .ensures) (read-found _ sn _ (p .before .before .before .before .before .before .before .before .before .entry-of .ensures) _ (p .before .before .before .before .before .stored-body .ensures) _ _ (sym (p .before .before .before .before .readable .ensures) ∙ p .before .before .parents .given .1) (p .if2 .left) (c .before .before .before .before .before .before .before .before .before .before .before .loop .inv .1) (c .before .before .before .before .before .before .before .before .body-parent .result) (c .before .before .before .before .before .before .before .before .before .before .loop-test .taken) (c .before .before .before .before .before .before .before .before .body-parent .ensures) (c .before .before .before .before .before .before .before .all-readable .ensures) (not-true (c .before .before .before .before .before .before .before .all-readable .result) (c .before .before .before .before .if3 .taken)) (c .before .before .note2 .ensures))
+returns-4 t c = let p = c .before .before .before .before .before .before .before .before .before .before .before .before in let sn = p .before .before .before .before .before .before .before .before .before .before .before .before .before .count .ensures in read-as (p .before .before .before .before .before .before .before .before .before .before .id-slice .ensures) (read-found _ _ sn _ (p .before .before .before .before .before .before .before .before .before .entry-of .ensures) _ (width-most (p .before .before .before .before .before .before .before .before .before .before .before .before .before .before .before .before .args .kind)) (p .before .before .before .before .before .stored-body .ensures) _ _ (sym (p .before .before .before .before .readable .ensures) ∙ p .before .before .parents .given .1) (p .if2 .left) (c .before .before .before .before .before .before .before .before .before .before .before .loop .inv .1) (c .before .before .before .before .before .before .before .before .body-parent .result) (c .before .before .before .before .before .before .before .before .before .before .loop-test .taken) (c .before .before .before .before .before .before .before .before .body-parent .ensures) (c .before .before .before .before .before .before .before .all-readable .ensures) (not-true (c .before .before .before .before .before .before .before .all-readable .result) (c .before .before .before .before .if3 .taken)) (c .before .before .note2 .ensures))
 
 add-i : (t : ℕ) → all-readable-lts.Need-add-i (ar-hears t) (ar-at t) all-readable.Post ar-Inv-loop ar-μ-loop
 add-i t c = search needs
@@ -114,7 +116,7 @@ loop-less : (t : ℕ) → all-readable-lts.Need-loop-less (ar-hears t) (ar-at t)
 loop-less t c = search needs
 
 loop-again : (t : ℕ) → all-readable-lts.Need-loop-again (ar-hears t) (ar-at t) all-readable.Post ar-Inv-loop ar-μ-loop
-loop-again t c = (search needs, stepping-next (c .before .before .before .before .body-parent .result) (c .before .before .before .before .before .before .before .loop .inv .1) (c .before .before .before .before .body-parent .ensures) (c .before .before .before .all-readable .ensures) (not-false (c .before .before .before .all-readable .result) (c .if3 .left)) (c .before .before .before .all-readable .kept .1 .0))
+loop-again t c = (search needs, stepping-next (c .before .before .before .before .body-parent .result) (c .before .before .before .before .before .before .before .loop .inv .1) (c .before .before .before .before .body-parent .ensures) (c .before .before .before .all-readable .ensures) (not-false (c .before .before .before .all-readable .result) (c .if3 .left)) (c .before .before .before .all-readable .kept .1 .1 .0))
 
 note-requires-3 : (t : ℕ) → all-readable-lts.Need-note-requires-3 (ar-hears t) (ar-at t) all-readable.Post ar-Inv-loop ar-μ-loop
 note-requires-3 t c κs = search needs
@@ -123,7 +125,7 @@ same-length-5 : (t : ℕ) → all-readable-lts.Need-same-length-5 (ar-hears t) (
 same-length-5 t c = c .before .before .note3 .kept .0 ∙ c .before .before .before .before .before .loop .inv .1 .long
 
 returns-5 : (t : ℕ) → all-readable-lts.Need-returns-5 (ar-hears t) (ar-at t) all-readable.Post ar-Inv-loop ar-μ-loop
-returns-5 t c = let p = c .before .before .before .before .before .before in let sn = p .before .before .before .before .before .before .before .before .before .before .before .before .before .count .ensures in read-as (p .before .before .before .before .before .before .before .before .before .before .id-slice .ensures) (read-ended _ sn _ (p .before .before .before .before .before .before .before .before .before .entry-of .ensures) _ (p .before .before .before .before .before .stored-body .ensures) _ _ (sym (p .before .before .before .before .readable .ensures) ∙ p .before .before .parents .given .1) (p .if2 .left) (c .before .before .before .before .before .loop .inv .1) (c .before .before .before .before .loop-test .left) (c .before .before .note3 .ensures))
+returns-5 t c = let p = c .before .before .before .before .before .before in let sn = p .before .before .before .before .before .before .before .before .before .before .before .before .before .count .ensures in read-as (p .before .before .before .before .before .before .before .before .before .before .id-slice .ensures) (read-ended _ _ sn _ (p .before .before .before .before .before .before .before .before .before .entry-of .ensures) _ (width-most (p .before .before .before .before .before .before .before .before .before .before .before .before .before .before .before .before .args .kind)) (p .before .before .before .before .before .stored-body .ensures) _ _ (sym (p .before .before .before .before .readable .ensures) ∙ p .before .before .parents .given .1) (p .if2 .left) (c .before .before .before .before .before .loop .inv .1) (c .before .before .before .before .loop-test .left) (c .before .before .note3 .ensures))
 
 pub +all-readable-spec : {M : Type 1} → statement M
 +all-readable-spec = close μ-all-readable (λ t. all-readable-lts.spec (ar-hears t) (ar-at t) all-readable.Post ar-Inv-loop ar-μ-loop (count-requires t) (id-slice-requires t) (entry-of-requires t) (recall-requires t) (same-length t) (returns t) (stored-body-requires t) (readable-requires t) (enum-known-parents t) (same-length-2 t) (returns-2 t) (note-requires t) (same-length-3 t) (returns-3 t) (loop-holds t) (sub-all-readable t) (body-parent-requires t) (all-readable-requires t) (note-requires-2 t) (same-length-4 t) (returns-4 t) (add-i t) (loop-less t) (loop-again t) (note-requires-3 t) (same-length-5 t) (returns-5 t))

@@ -2,10 +2,11 @@
 
 use std::fs;
 
-use linenhatch::{FeedReport, Lister, ObjectId, Reader, Refusal, MAX_IDS};
+use linenhatch::{FeedReport, Kind, Lister, ObjectId, Reader, Refusal, MAX_IDS};
 
 use crate::args::Args;
 use crate::history::History;
+use crate::repository;
 
 /// The embargoed ids of a report, and its reader.
 #[derive(Debug, Default)]
@@ -19,11 +20,12 @@ impl Embargo {
     pub fn read(args: &Args) -> Result<Embargo, String> {
         let reader = if args.outside { Reader::Outside } else { Reader::Shop };
         let Some(file) = &args.embargo else { return Ok(Embargo { ids: Vec::new(), reader }) };
+        let kind = repository::open(&args.dir)?.kind();
         let bytes = fs::read(file).map_err(|error| format!("the embargoed ids cannot be read from {}: {error}", file.display()))?;
         let lines = bytes.split(|&byte| byte == b'\n').map(|line| line.strip_suffix(b"\r").unwrap_or(line)).enumerate();
         let ids: Vec<ObjectId> = lines
             .filter(|(_, line)| !line.is_empty())
-            .map(|(k, line)| id_on(line, &file.display().to_string(), k + 1))
+            .map(|(k, line)| id_on(kind, line, &file.display().to_string(), k + 1))
             .collect::<Result<_, _>>()?;
         if ids.len() > MAX_IDS {
             let (file, count) = (file.display(), ids.len());
@@ -58,9 +60,9 @@ impl Embargo {
     }
 }
 
-fn id_on(line: &[u8], file: &str, number: usize) -> Result<ObjectId, String> {
-    ObjectId::from_hex(line).ok_or_else(|| {
-        let line = String::from_utf8_lossy(line);
-        format!("{file}, line {number}: '{line}' is no whole id: write one id of 40 hexadecimal digits on each line, as linenhatch list prints them")
+fn id_on(kind: Kind, line: &[u8], file: &str, number: usize) -> Result<ObjectId, String> {
+    ObjectId::from_hex(line).filter(|id| id.kind() == kind).ok_or_else(|| {
+        let (line, digits) = (String::from_utf8_lossy(line), kind.len_in_hex());
+        format!("{file}, line {number}: '{line}' is no whole id: write one id of {digits} hexadecimal digits on each line, as linenhatch list prints them")
     })
 }

@@ -3,7 +3,7 @@
 use std::collections::{HashMap, HashSet};
 use std::ffi::OsString;
 
-use linenhatch::{write_graph, Lister, ObjectId, Refusal, Walk, MAX_FILE_BYTES, MAX_IDS};
+use linenhatch::{write_graph_in, Kind, Lister, ObjectId, Refusal, Walk, MAX_FILE_BYTES, MAX_IDS};
 
 use crate::args::{Args, Graph};
 use crate::refused::{self, counted, named};
@@ -42,7 +42,7 @@ impl History {
             tips = fewer(tips, args, &store)?;
         }
         let graph = match args.graph {
-            Graph::Own => own_graph(&store, &tips, &hidden),
+            Graph::Own => own_graph(repository.kind(), &store, &tips, &hidden),
             Graph::Git => git_graph(&repository),
             Graph::None => Vec::new(),
         };
@@ -51,7 +51,7 @@ impl History {
 
     /// The walk that the options ask for.
     pub fn lister(&self, args: &Args) -> Lister<'_> {
-        let lister = Lister::new(&self.store).graph(&self.graph).order(args.order);
+        let lister = Lister::new(&self.store).kind(self.repository.kind()).graph(&self.graph).order(args.order);
         let mut lister = lister.tips(&self.tips).hide(&self.hidden).exclude(&self.excluded);
         if let Some(seconds) = args.cutoff {
             lister = lister.cutoff(seconds);
@@ -177,8 +177,8 @@ pub fn store(commits: Commits) -> Result<Vec<u8>, String> {
 }
 
 /// The commit-graph file of the commits that were read. With it a tested opening is accepted whatever the clocks say.
-fn own_graph(store: &[u8], tips: &[ObjectId], hidden: &[ObjectId]) -> Vec<u8> {
-    match write_graph(store) {
+fn own_graph(kind: Kind, store: &[u8], tips: &[ObjectId], hidden: &[ObjectId]) -> Vec<u8> {
+    match write_graph_in(kind, store) {
         Ok(file) => file,
         Err(Refusal::UnfitSeconds) => {
             let ids = Lister::new(store).tips(tips).hide(hidden).refused(Refusal::UnfitSeconds).commits;

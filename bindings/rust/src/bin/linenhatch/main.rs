@@ -28,7 +28,7 @@ use std::process::ExitCode;
 
 use args::{Args, Graph, Output, Pair, Start, Task};
 use history::{git_graph, resolve, store};
-use linenhatch::{check_names, merge_base, trace, write_graph, Lister, ObjectId, Prospect, References, Refusal};
+use linenhatch::{check_names_in, merge_base, trace, write_graph_in, Lister, ObjectId, Prospect, References, Refusal};
 use refused::counted;
 use repository::{Commits, Repository, Wanted};
 
@@ -84,7 +84,7 @@ fn check(args: &Args) -> Result<(), String> {
     let (_, names) = names::read(&repository, &tips, args.progress)?;
     let count = names.finish()?;
     // A store without commits, so this is of the file alone.
-    check_names(&[0; 8], &graph).map_err(|fault| fault.refusal.to_string())?;
+    check_names_in(repository.kind(), &[0; 8], &graph).map_err(|fault| fault.refusal.to_string())?;
     let _ = writeln!(io::stdout(), "{} under the right name", counted(count, "commit"));
     Ok(())
 }
@@ -145,7 +145,7 @@ fn write(output: &Output) -> Result<(), String> {
     let mut commits = read(&repository, &tips, output.progress)?;
     let absent = std::mem::take(&mut commits.absent);
     let store = store(commits)?;
-    let file = write_graph(&store).map_err(|refusal| match refusal {
+    let file = write_graph_in(repository.kind(), &store).map_err(|refusal| match refusal {
         Refusal::UnfitStore => refused::unfit_store(&store, &absent, repository.is_shallow()),
         _ => Lister::new(&store).tips(&tips).refused(refusal).to_string(),
     })?;

@@ -2,7 +2,7 @@
 
 use std::io::{self, IsTerminal};
 
-use linenhatch::{check_names, entries, Commits, ObjectId, Refusal, Repository, StoreBuilder, ID_BYTES, MAX_FILE_BYTES};
+use linenhatch::{check_names_in, entries, Commits, ObjectId, Refusal, Repository, StoreBuilder, MAX_FILE_BYTES};
 
 use crate::progress::Progress;
 use crate::refused::{counted, named};
@@ -33,7 +33,7 @@ pub struct Names {
 
 impl Names {
     pub fn take(&mut self, id: ObjectId, body: &[u8]) {
-        let fits = |store: &StoreBuilder| store.bytes() + (body.len() + ID_BYTES + 4) as u64 <= MAX_FILE_BYTES as u64;
+        let fits = |store: &StoreBuilder| store.bytes() + (body.len() + id.as_bytes().len() + 4) as u64 <= MAX_FILE_BYTES as u64;
         if !fits(&self.store) {
             self.check();
         }
@@ -46,7 +46,8 @@ impl Names {
 
     fn check(&mut self) {
         let store = std::mem::take(&mut self.store).finish().expect("no more was put in than fits");
-        if let Err(fault) = check_names(&store, &[]) {
+        let Some((first, _)) = entries(&store).next() else { return };
+        if let Err(fault) = check_names_in(first.kind(), &store, &[]) {
             self.faults.extend(entries(&store).nth(fault.entry).map(|(id, _)| id));
         }
     }
@@ -71,6 +72,10 @@ mod tests {
 
     const BODY: &[u8] = b"tree 4b825dc642cb6eb9a060e54bf8d69288fbee4904\nauthor A <a> 5 +0000\ncommitter A <a> 5 +0000\n\n";
 
+    /// Of the empty tree with SHA-256.
+    const WIDE_BODY: &[u8] =
+        b"tree 6ef19b41225c5369f1c104d45d8d85efa9b057b53b14b4b9b939dd74decc5321\nauthor A <a> 5 +0000\ncommitter A <a> 5 +0000\n\n";
+
     fn id() -> ObjectId {
         ObjectId::from_hex(b"b412355a1b1061d033444158fed2c45af52cb92e").unwrap()
     }
@@ -79,6 +84,9 @@ mod tests {
     fn stores_one_after_another() {
         let mut names = Names::default();
         names.take(id(), BODY);
+        assert_eq!(names.finish(), Ok(1));
+        let mut names = Names::default();
+        names.take("212fd6b650c88e43077125b21ae40148a1d8c276aa0e0ca71cb4ba329a5cd669".parse().unwrap(), WIDE_BODY);
         assert_eq!(names.finish(), Ok(1));
         // Each of these fills most of a store.
         let large = vec![b'x'; MAX_FILE_BYTES / 2];

@@ -4,7 +4,7 @@ use std::collections::HashSet;
 use std::fmt;
 use std::io::{self, Write};
 
-use linenhatch::{check_names, write_graph, Lister, ObjectId, Refusal, MAX_IDS};
+use linenhatch::{check_names_in, write_graph_in, Kind, Lister, ObjectId, Refusal, MAX_IDS};
 
 use crate::args::Verify;
 use crate::listing::written;
@@ -18,7 +18,7 @@ pub fn verify(verify: &Verify) -> Result<(), String> {
     let repository = repository::open(&verify.dir)?;
     let tips = tips(&repository, verify)?;
     let (commits, names) = names::read(&repository, &tips, verify.progress)?;
-    let findings = Verified::new(commits, names, &tips)?.findings(&repository);
+    let findings = Verified::new(repository.kind(), commits, names, &tips)?.findings(&repository);
     let text: String = findings.iter().map(|finding| format!("{finding}\n")).collect();
     written(io::stdout().write_all(text.as_bytes()), "report")?;
     let asked = findings.iter().filter(|finding| !matches!(finding, Finding::Note(_))).count();
@@ -60,6 +60,7 @@ impl fmt::Display for Finding {
 
 /// What was read of a history.
 struct Verified {
+    kind: Kind,
     count: usize,
     /// Nothing, or what is wrong with the names.
     names: Result<usize, String>,
@@ -72,13 +73,13 @@ struct Verified {
 }
 
 impl Verified {
-    fn new(commits: Commits, names: Names, tips: &[ObjectId]) -> Result<Verified, String> {
+    fn new(kind: Kind, commits: Commits, names: Names, tips: &[ObjectId]) -> Result<Verified, String> {
         let Commits { headers, absent, cut, .. } = commits;
         let (count, names) = (names.count, names.finish());
         let store = headers.finish().map_err(|too_large| format!("this history cannot be tested at once: {too_large}"))?;
         let from = if tips.len() > MAX_IDS { survey::heads(&store, tips) } else { tips.to_vec() };
         let from = from.chunks(MAX_IDS).map(<[ObjectId]>::to_vec).collect();
-        Ok(Verified { count, names, store, absent, cut, from })
+        Ok(Verified { kind, count, names, store, absent, cut, from })
     }
 
     fn findings(&self, repository: &Repository) -> Vec<Finding> {
@@ -115,7 +116,7 @@ impl Verified {
 
     /// Whether lists are exact, and what the clocks have to do with it.
     fn lists(&self) -> Vec<Finding> {
-        let own = write_graph(&self.store).unwrap_or_default();
+        let own = write_graph_in(self.kind, &self.store).unwrap_or_default();
         let tested = self.tested(&own);
         let clocks = self.tested(&[]);
         let mut all = vec![match &tested {
@@ -150,7 +151,7 @@ impl Verified {
             Err(why) => return vec![Finding::Note(format!("git's commit-graph file is not tested: {why}"))],
         };
         const ANEW: &str = "git commit-graph write --reachable writes it anew; no list goes by it unless --git-graph is given";
-        if let Err(fault) = check_names(&[0; 8], &graph) {
+        if let Err(fault) = check_names_in(self.kind, &[0; 8], &graph) {
             return vec![Finding::Fails(format!("git's commit-graph file: {}; {ANEW}", fault.refusal))];
         }
         let digest = Finding::Holds("git's commit-graph file ends in the digest of the rest".into());
@@ -169,7 +170,7 @@ impl Verified {
     /// The first refusal of a tested opening by a file, with the commits that are meant.
     fn tested(&self, graph: &[u8]) -> Option<(Refusal, Vec<ObjectId>)> {
         self.from.iter().find_map(|from| {
-            let lister = Lister::new(&self.store).graph(graph).tips(from);
+            let lister = Lister::new(&self.store).kind(self.kind).graph(graph).tips(from);
             let refusal = lister.open_tested().err()?;
             Some((refusal, lister.refused(refusal).commits))
         })

@@ -6,6 +6,9 @@ use Rattle.bodyvisit.proofs.Bodies.{line-parent, down-parent}
 use Rattle.bodyvisit.proofs.body.visit_body_parent.Statement.{statement}
 use Rattle.bodyvisit.proofs.body.visit_body_parent.Tie as tie
 
+parents-room-requires : tie.Need-parents-room-requires
+parents-room-requires c κs = search needs
+
 body-parent-requires : tie.Need-body-parent-requires
 body-parent-requires c κs = search needs
 
@@ -56,12 +59,13 @@ same-length-10 : tie.Need-same-length-10
 same-length-10 c = search needs
 
 returns-2 : tie.Need-returns-2
-returns-2 c = down-parent (c .before .before .before .before .before .before .before .before .before .insert-into-seen-and-queue-stored2 .ensures) (omega (arith, c .before .before .before .before .before .before .before .before .before .before .before .before .before .before .before .before .if1 .left)) (c .before .before .before .before .before .before .before .before .before .before .nth .ensures)
+returns-2 c = down-parent (c .before .before .before .before .before .before .before .before .before .insert-into-seen-and-queue-stored2 .ensures) (omega (arith, c .before .before .before .before .before .before .before .before .before .before .before .before .before .before .before .before .if1 .left, c .before .before .before .before .before .before .before .before .before .before .before .before .before .before .before .before .before .parents-room .ensures)) (c .before .before .before .before .before .before .before .before .before .before .nth .ensures)
 
 pub visit-body-parent-spec : {M : Type 1} → statement M
 visit-body-parent-spec =
     tie.close
     (tie.spec
+    parents-room-requires
     body-parent-requires
     id-slice-requires
     insert-into-seen-and-queue-stored-requires

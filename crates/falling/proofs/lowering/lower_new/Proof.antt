@@ -4,15 +4,16 @@ use Rattle.falling.proofs.ParentCells.{NewTo, new-first, new-next, new-
 use borrow.Author.Needs.{needs}
 use Rattle.falling.proofs.lowering.lower_new.Statement.{statement}
 use Rattle.falling.proofs.lowering.lower_new.Tie as tie
+use Rattle.hash.specs.Bytes.{widthOf}
 
 abbrev Inv-loop : tie.InvT-loop
-Inv-loop line₀ from n c child graph l position k₀ line k = NewTo from n c child line₀ line k
+Inv-loop kind line₀ from n c child graph l position k₀ line k = NewTo (widthOf kind) from n c child line₀ line k
 
 abbrev μ-loop : tie.MeasureT-loop
-μ-loop line₀ from n c child graph l position k₀ line k = c - k
+μ-loop kind line₀ from n c child graph l position k₀ line k = c - k
 
 loop-holds : tie.Need-loop-holds Inv-loop μ-loop
-loop-holds c = let x = c .before .before .args in new-first (x .from) (x .n) (x .c) (x .child) (x .line .now)
+loop-holds c = let x = c .before .before .args in new-first (widthOf (x .kind)) (x .from) (x .n) (x .c) (x .child) (x .line .now)
 
 parent-requires : tie.Need-parent-requires Inv-loop μ-loop
 parent-requires c κs = search needs

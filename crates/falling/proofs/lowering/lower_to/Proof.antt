@@ -4,6 +4,7 @@ use Rattle.falling.proofs.ParentCells.{to-found, to-far, to-vacant, to-
 use borrow.Author.Needs.{needs}
 use Rattle.falling.proofs.lowering.lower_to.Statement.{statement}
 use Rattle.falling.proofs.lowering.lower_to.Tie as tie
+use Rattle.hash.specs.Bytes.{widthOf}
 
 find-slot-requires : tie.Need-find-slot-requires
 find-slot-requires c κs = search needs
@@ -27,16 +28,16 @@ same-length : tie.Need-same-length
 same-length c = search needs
 
 returns : tie.Need-returns
-returns c = let x = c .before .before .before .before .before .before .before .before .before .before .before .before .before .before .args in to-found (slotsIn (x .names .now) (x .marks .now) (x .levels .now) (x .times .now)) (x .cap) (x .child) (c .before .before .before .before .before .before .before .before .find-slot .ensures) _ (c .before .before .before .before .before .before .k .given .1) (c .before .before .lower-at .ensures)
+returns c = let x = c .before .before .before .before .before .before .before .before .before .before .before .before .before .before .args in to-found (widthOf (x .kind)) (slotsIn (x .names .now) (x .marks .now) (x .levels .now) (x .times .now)) (x .cap) (x .child) (c .before .before .before .before .before .before .before .before .find-slot .ensures) _ (c .before .before .before .before .before .before .k .given .1) (c .before .before .lower-at .ensures)
 
 returns-2 : tie.Need-returns-2
-returns-2 c = let x = c .before .before .before .before .before .before .before .before .before .before .args in to-far (slotsIn (x .names .now) (x .marks .now) (x .levels .now) (x .times .now)) (x .cap) (x .child) (c .before .before .before .before .find-slot .ensures) _ (c .before .before .k .given .1) (c .if1 .left)
+returns-2 c = let x = c .before .before .before .before .before .before .before .before .before .before .args in to-far (widthOf (x .kind)) (slotsIn (x .names .now) (x .marks .now) (x .levels .now) (x .times .now)) (x .cap) (x .child) (c .before .before .before .before .find-slot .ensures) _ (c .before .before .k .given .1) (c .if1 .left)
 
 returns-3 : tie.Need-returns-3
-returns-3 c = let x = c .before .before .before .before .before .before .before .before .args in to-vacant (slotsIn (x .names .now) (x .marks .now) (x .levels .now) (x .times .now)) (x .cap) (x .child) (c .before .before .find-slot .ensures) _ (c .enum-told .given .1)
+returns-3 c = let x = c .before .before .before .before .before .before .before .before .args in to-vacant (widthOf (x .kind)) (slotsIn (x .names .now) (x .marks .now) (x .levels .now) (x .times .now)) (x .cap) (x .child) (c .before .before .find-slot .ensures) _ (c .enum-told .given .1)
 
 returns-4 : tie.Need-returns-4
-returns-4 c = let x = c .before .before .before .before .before .before .before .before .args in to-full (slotsIn (x .names .now) (x .marks .now) (x .levels .now) (x .times .now)) (x .cap) (x .child) (c .before .before .find-slot .ensures) (c .enum-told2 .given .1)
+returns-4 c = let x = c .before .before .before .before .before .before .before .before .args in to-full (widthOf (x .kind)) (slotsIn (x .names .now) (x .marks .now) (x .levels .now) (x .times .now)) (x .cap) (x .child) (c .before .before .find-slot .ensures) (c .enum-told2 .given .1)
 
 pub lower-to-spec : {M : Type 1} → statement M
 lower-to-spec =

@@ -3,7 +3,6 @@ use mathlib.Core.Path.{sym, ap, _∙_}
 use native.Mathlib.Omega.{arith}
 use Prim.Native.Nat.{_-_, _/_, _<_}
 use lib.ListN.{length}
-use Rattle.hash.specs.Bytes.{idBytes}
 use Rattle.walk.specs.Opening.{listIds}
 use Rattle.walk.specs.Painting.{mark, markAll}
 use Rattle.walk.proofs.Whole.{length-list}
@@ -13,18 +12,19 @@ use Rattle.frontier.proofs.Steps.{Turning, on-first, on-next, on-last, 
 use borrow.Author.Needs.{needs}
 use Rattle.frontier.proofs.lists.mark_list.Statement.{statement}
 use Rattle.frontier.proofs.lists.mark_list.Tie as tie
+use Rattle.hash.specs.Bytes.{widthOf}
 
 abbrev Inv-loop : tie.InvT-loop
-Inv-loop names₀ marks₀ levels₀ times₀ line₀ cap cache graph store list bits n r₀ i₀ names marks levels times line r i = Turning markAll cache graph store cap (lent names₀ marks₀ levels₀ times₀ line₀) (lent names marks levels times line) r₀ (listIds list) bits n i r
+Inv-loop kind names₀ marks₀ levels₀ times₀ line₀ cap cache graph store list bits n r₀ i₀ names marks levels times line r i = Turning (widthOf kind) markAll cache graph store cap (lent names₀ marks₀ levels₀ times₀ line₀) (lent names marks levels times line) r₀ (listIds (widthOf kind) list) bits n i r
 
 abbrev μ-loop : tie.MeasureT-loop
-μ-loop names₀ marks₀ levels₀ times₀ line₀ cap cache graph store list bits n r₀ i₀ names marks levels times line r i = n - i
+μ-loop kind names₀ marks₀ levels₀ times₀ line₀ cap cache graph store list bits n r₀ i₀ names marks levels times line r i = n - i
 
 id-count-requires : tie.Need-id-count-requires Inv-loop μ-loop
 id-count-requires c κs = search needs
 
 loop-holds : tie.Need-loop-holds Inv-loop μ-loop
-loop-holds c = let x = c .before .before .before .before .before .before .before .before .args in on-first mark markAll markAll-nil markAll-snoc (x .cache) (x .graph .now) (x .store .now) (x .cap) _ (listIds (x .list .now)) (x .bits) _ (x .past)
+loop-holds c = let x = c .before .before .before .before .before .before .before .before .args in on-first (widthOf (x .kind)) mark markAll markAll-nil markAll-snoc (x .cache) (x .graph .now) (x .store .now) (x .cap) _ (listIds (widthOf (x .kind)) (x .list .now)) (x .bits) _ (x .past)
 
 nth-requires : tie.Need-nth-requires Inv-loop μ-loop
 nth-requires c κs = search needs
@@ -42,9 +42,9 @@ loop-again : tie.Need-loop-again Inv-loop μ-loop
 loop-again c = let l = c .before .before .before .before .before .before .before .before .before .before .before .before .before .before .before .before .before in
     let b = c .before .before .before .before .before .before .before .before .before .before .before .before .before .before .before .before .before .before .before .before .before .before .before .before .before .before .args .list .now in
     let n = c .before .before .before .before .before .before .before .before .before .before .before .before .before .before .before .before .before .before .id-count .ensures in
-    let h : l .loop .i < length b / idBytes = omega (arith, n, c .before .before .before .before .before .before .before .before .before .before .before .before .before .before .before .before .loop-test .taken) in
+    let h : l .loop .i < length b / widthOf (c .before .before .before .before .before .before .before .before .before .before .before .before .before .before .before .before .before .before .before .before .before .before .before .before .before .before .args .kind) = omega (arith, n, c .before .before .before .before .before .before .before .before .before .before .before .before .before .before .before .before .loop-test .taken) in
     let e = c .before .before .before .before .before .before .before .before .before .before .before .before .before .before .before .nth .ensures in
-    on-next mark markAll markAll-nil markAll-snoc (l .loop .inv) (c .before .before .before .before .before .before .before .before .before .before .before .before .before .before .before .before .loop-test .taken) (n ∙ sym (length-list b)) (ap length e ∙ list-width b (l .loop .i) h) (e ∙ list-at b (l .loop .i) h) (record { names = c .before .before .before .before .before .before .before .before .before .mark-next .kept .0; marks = c .before .before .before .before .before .before .before .before .before .mark-next .kept .1 .0; levels = c .before .before .before .before .before .before .before .before .before .mark-next .kept .1 .1 .0; times = c .before .before .before .before .before .before .before .before .before .mark-next .kept .1 .1 .1 .0; line = c .before .before .before .before .before .before .before .before .before .mark-next .kept .1 .1 .1 .1 .0 }) (c .before .before .before .before .before .before .before .before .before .mark-next .ensures)
+    on-next (widthOf (c .before .before .before .before .before .before .before .before .before .before .before .before .before .before .before .before .before .before .before .before .before .before .before .before .before .before .args .kind)) mark markAll markAll-nil markAll-snoc (l .loop .inv) (c .before .before .before .before .before .before .before .before .before .before .before .before .before .before .before .before .loop-test .taken) (n ∙ sym (length-list (widthOf (c .before .before .before .before .before .before .before .before .before .before .before .before .before .before .before .before .before .before .before .before .before .before .before .before .before .before .args .kind)) b)) (ap length e ∙ list-width (widthOf (c .before .before .before .before .before .before .before .before .before .before .before .before .before .before .before .before .before .before .before .before .before .before .before .before .before .before .args .kind)) b (l .loop .i) h) (e ∙ list-at (widthOf (c .before .before .before .before .before .before .before .before .before .before .before .before .before .before .before .before .before .before .before .before .before .before .before .before .before .before .args .kind)) b (l .loop .i) h) (record { names = c .before .before .before .before .before .before .before .before .before .mark-next .kept .1 .0; marks = c .before .before .before .before .before .before .before .before .before .mark-next .kept .1 .1 .0; levels = c .before .before .before .before .before .before .before .before .before .mark-next .kept .1 .1 .1 .0; times = c .before .before .before .before .before .before .before .before .before .mark-next .kept .1 .1 .1 .1 .0; line = c .before .before .before .before .before .before .before .before .before .mark-next .kept .1 .1 .1 .1 .1 .0 }) (c .before .before .before .before .before .before .before .before .before .mark-next .ensures)
 
 same-length : tie.Need-same-length Inv-loop μ-loop
 same-length c = c .before .loop .inv .long .names
@@ -62,7 +62,7 @@ same-length-5 : tie.Need-same-length-5 Inv-loop μ-loop
 same-length-5 c = c .before .loop .inv .long .line
 
 returns : tie.Need-returns Inv-loop μ-loop
-returns c = on-last mark markAll markAll-nil markAll-snoc (c .before .loop .inv) (c .loop-test .left) (c .before .before .id-count .ensures ∙ sym (length-list (c .before .before .before .before .before .before .before .before .before .before .args .list .now)))
+returns c = on-last (widthOf (c .before .before .before .before .before .before .before .before .before .before .args .kind)) mark markAll markAll-nil markAll-snoc (c .before .loop .inv) (c .loop-test .left) (c .before .before .id-count .ensures ∙ sym (length-list (widthOf (c .before .before .before .before .before .before .before .before .before .before .args .kind)) (c .before .before .before .before .before .before .before .before .before .before .args .list .now)))
 
 pub mark-list-spec : {M : Type 1} → statement M
 mark-list-spec =

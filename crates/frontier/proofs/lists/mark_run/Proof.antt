@@ -4,23 +4,23 @@ use Prim.Native.Nat.{_-_}
 use native.Mathlib.Omega.{arith}
 use Rattle.frontier.specs.Paint.{lent}
 use lib.ListN.{length}
-use Rattle.hash.specs.Bytes.{idBytes}
 use Rattle.object.specs.Ids.{idIn}
 use Rattle.object.proofs.IdBytes.{padded-length}
-use Rattle.reading.proofs.ByValue.{id-in-width}
+use Rattle.reading.proofs.ByValue.{id-in-kind}
 use Rattle.frontier.proofs.Runs.{Running, running-first, running-next, running-last}
 use borrow.Author.Needs.{needs}
 use Rattle.frontier.proofs.lists.mark_run.Statement.{statement}
 use Rattle.frontier.proofs.lists.mark_run.Tie as tie
+use Rattle.hash.specs.Bytes.{widthOf}
 
 abbrev Inv-loop : tie.InvT-loop
-Inv-loop names₀ marks₀ levels₀ times₀ line₀ cap cache graph store from n bits r₀ i₀ names marks levels times line r i = Running cache graph store cap (lent names₀ marks₀ levels₀ times₀ line₀) (lent names marks levels times line) r₀ from n bits i r
+Inv-loop kind names₀ marks₀ levels₀ times₀ line₀ cap cache graph store from n bits r₀ i₀ names marks levels times line r i = Running (widthOf kind) cache graph store cap (lent names₀ marks₀ levels₀ times₀ line₀) (lent names marks levels times line) r₀ from n bits i r
 
 abbrev μ-loop : tie.MeasureT-loop
-μ-loop names₀ marks₀ levels₀ times₀ line₀ cap cache graph store from n bits r₀ i₀ names marks levels times line r i = n - i
+μ-loop kind names₀ marks₀ levels₀ times₀ line₀ cap cache graph store from n bits r₀ i₀ names marks levels times line r i = n - i
 
 loop-holds : tie.Need-loop-holds Inv-loop μ-loop
-loop-holds c = let x = c .before .before .before .before .before .before .args in running-first (x .cache) (x .graph .now) (x .store .now) (x .cap) _ _ (x .from) (x .n) (x .bits)
+loop-holds c = let x = c .before .before .before .before .before .before .args in running-first (widthOf (x .kind)) (x .cache) (x .graph .now) (x .store .now) (x .cap) _ _ (x .from) (x .n) (x .bits)
 
 slot-after-requires : tie.Need-slot-after-requires Inv-loop μ-loop
 slot-after-requires c κs = search needs
@@ -42,7 +42,7 @@ loop-less c = search needs
 
 loop-again : tie.Need-loop-again Inv-loop μ-loop
 loop-again c = let l = c .before .before .before .before .before .before .before .before .before .before .before .before .before .before .before .before .before .before .before .before .before .before .before in
-    running-next (c .before .before .before .before .before .before .before .before .before .before .before .before .before .before .before .before .before .before .before .before .slot-after .result) (l .loop .inv) (c .before .before .before .before .before .before .before .before .before .before .before .before .before .before .before .before .before .before .before .before .before .before .loop-test .taken) (c .before .before .before .before .before .before .before .before .before .before .before .before .before .before .before .before .before .before .before .before .slot-after .ensures) (c .before .before .before .before .before .before .before .before .before .before .id-slice .ensures ∙ ap (idIn idBytes) (c .before .before .before .before .before .before .before .before .before .before .before .before .before .before .before .before .before .before .id-in .ensures)) (ap length (c .before .before .before .before .before .before .before .before .before .before .id-slice .ensures ∙ ap (idIn idBytes) (c .before .before .before .before .before .before .before .before .before .before .before .before .before .before .before .before .before .before .id-in .ensures)) ∙ id-in-width _ (padded-length _)) (record { names = c .before .before .before .before .before .before .before .before .before .mark-next .kept .0; marks = c .before .before .before .before .before .before .before .before .before .mark-next .kept .1 .0; levels = c .before .before .before .before .before .before .before .before .before .mark-next .kept .1 .1 .0; times = c .before .before .before .before .before .before .before .before .before .mark-next .kept .1 .1 .1 .0; line = c .before .before .before .before .before .before .before .before .before .mark-next .kept .1 .1 .1 .1 .0 }) (c .before .before .before .before .before .before .before .before .before .mark-next .ensures)
+    running-next (c .before .before .before .before .before .before .before .before .before .before .before .before .before .before .before .before .before .before .before .before .slot-after .result) (l .loop .inv) (c .before .before .before .before .before .before .before .before .before .before .before .before .before .before .before .before .before .before .before .before .before .before .loop-test .taken) (c .before .before .before .before .before .before .before .before .before .before .before .before .before .before .before .before .before .before .before .before .slot-after .ensures) (c .before .before .before .before .before .before .before .before .before .before .id-slice .ensures ∙ ap (idIn _) (c .before .before .before .before .before .before .before .before .before .before .before .before .before .before .before .before .before .before .id-in .ensures)) (ap length (c .before .before .before .before .before .before .before .before .before .before .id-slice .ensures ∙ ap (idIn _) (c .before .before .before .before .before .before .before .before .before .before .before .before .before .before .before .before .before .before .id-in .ensures)) ∙ id-in-kind (c .before .before .before .before .before .before .before .before .before .before .before .before .before .before .before .before .before .before .before .before .before .before .before .before .before .before .before .before .before .before .args .kind) _ (padded-length _)) (record { names = c .before .before .before .before .before .before .before .before .before .mark-next .kept .1 .0; marks = c .before .before .before .before .before .before .before .before .before .mark-next .kept .1 .1 .0; levels = c .before .before .before .before .before .before .before .before .before .mark-next .kept .1 .1 .1 .0; times = c .before .before .before .before .before .before .before .before .before .mark-next .kept .1 .1 .1 .1 .0; line = c .before .before .before .before .before .before .before .before .before .mark-next .kept .1 .1 .1 .1 .1 .0 }) (c .before .before .before .before .before .before .before .before .before .mark-next .ensures)
 
 same-length : tie.Need-same-length Inv-loop μ-loop
 same-length c = c .before .loop .inv .long .names

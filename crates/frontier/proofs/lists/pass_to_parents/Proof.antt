@@ -4,23 +4,24 @@ use Prim.Native.Nat.{_-_}
 use native.Mathlib.Omega.{arith}
 use Rattle.frontier.specs.Paint.{lent}
 use lib.ListN.{length}
-use Rattle.reading.proofs.ByValue.{id-in-width, gives-length}
+use Rattle.reading.proofs.ByValue.{id-in-kind, gives-length}
 use Rattle.frontier.proofs.Steps.{Passing, passing-first, passing-next, passing-last}
 use borrow.Author.Needs.{needs}
 use Rattle.frontier.proofs.lists.pass_to_parents.Statement.{statement}
 use Rattle.frontier.proofs.lists.pass_to_parents.Tie as tie
+use Rattle.hash.specs.Bytes.{widthOf}
 
 abbrev Inv-loop : tie.InvT-loop
-Inv-loop names₀ marks₀ levels₀ times₀ line₀ cap cache graph store commit bits n r₀ i₀ names marks levels times line r i = Passing cache graph store cap (lent names₀ marks₀ levels₀ times₀ line₀) (lent names marks levels times line) r₀ commit bits i r
+Inv-loop kind names₀ marks₀ levels₀ times₀ line₀ cap cache graph store commit bits n r₀ i₀ names marks levels times line r i = Passing (widthOf kind) cache graph store cap (lent names₀ marks₀ levels₀ times₀ line₀) (lent names marks levels times line) r₀ commit bits i r
 
 abbrev μ-loop : tie.MeasureT-loop
-μ-loop names₀ marks₀ levels₀ times₀ line₀ cap cache graph store commit bits n r₀ i₀ names marks levels times line r i = n - i
+μ-loop kind names₀ marks₀ levels₀ times₀ line₀ cap cache graph store commit bits n r₀ i₀ names marks levels times line r i = n - i
 
 parent-count-requires : tie.Need-parent-count-requires Inv-loop μ-loop
 parent-count-requires c κs = search needs
 
 loop-holds : tie.Need-loop-holds Inv-loop μ-loop
-loop-holds c = let x = c .before .before .before .before .before .before .before .args in passing-first (x .cache) (x .graph .now) (x .store .now) (x .cap) _ _ (x .commit) (x .bits)
+loop-holds c = let x = c .before .before .before .before .before .before .before .args in passing-first (widthOf (x .kind)) (x .cache) (x .graph .now) (x .store .now) (x .cap) _ _ (x .commit) (x .bits)
 
 parent-of-requires : tie.Need-parent-of-requires Inv-loop μ-loop
 parent-of-requires c κs = search needs
@@ -40,7 +41,7 @@ loop-less c = search needs
 loop-again : tie.Need-loop-again Inv-loop μ-loop
 loop-again c =
     let n = c .before .before .before .before .before .before .before .before .before .before .before .before .before .before .before .before .before .before .before .before .before .parent-count .ensures in
-    passing-next (c .before .before .before .before .before .before .before .before .before .before .before .before .before .before .before .before .before .before .before .before .loop .inv) (omega (arith, n, c .before .before .before .before .before .before .before .before .before .before .before .before .before .before .before .before .before .before .before .loop-test .taken)) (c .before .before .before .before .before .before .before .before .before .before .id-slice .ensures) (ap length (c .before .before .before .before .before .before .before .before .before .before .id-slice .ensures) ∙ id-in-width _ (gives-length _ (c .before .before .before .before .before .before .before .before .before .before .before .before .before .before .before .before .before .before .parent-of .ensures))) (c .before .before .before .before .before .before .before .before .before .before .before .before .before .before .before .before .before .before .parent-of .ensures) (record { names = c .before .before .before .before .before .before .before .before .before .pass-next .kept .0; marks = c .before .before .before .before .before .before .before .before .before .pass-next .kept .1 .0; levels = c .before .before .before .before .before .before .before .before .before .pass-next .kept .1 .1 .0; times = c .before .before .before .before .before .before .before .before .before .pass-next .kept .1 .1 .1 .0; line = c .before .before .before .before .before .before .before .before .before .pass-next .kept .1 .1 .1 .1 .0 }) (c .before .before .before .before .before .before .before .before .before .pass-next .ensures)
+    passing-next (c .before .before .before .before .before .before .before .before .before .before .before .before .before .before .before .before .before .before .before .before .loop .inv) (omega (arith, n, c .before .before .before .before .before .before .before .before .before .before .before .before .before .before .before .before .before .before .before .loop-test .taken)) (c .before .before .before .before .before .before .before .before .before .before .id-slice .ensures) (ap length (c .before .before .before .before .before .before .before .before .before .before .id-slice .ensures) ∙ id-in-kind (c .before .before .before .before .before .before .before .before .before .before .before .before .before .before .before .before .before .before .before .before .before .before .before .before .before .before .before .before .args .kind) _ (gives-length _ (c .before .before .before .before .before .before .before .before .before .before .before .before .before .before .before .before .before .before .parent-of .ensures))) (c .before .before .before .before .before .before .before .before .before .before .before .before .before .before .before .before .before .before .parent-of .ensures) (record { names = c .before .before .before .before .before .before .before .before .before .pass-next .kept .1 .0; marks = c .before .before .before .before .before .before .before .before .before .pass-next .kept .1 .1 .0; levels = c .before .before .before .before .before .before .before .before .before .pass-next .kept .1 .1 .1 .0; times = c .before .before .before .before .before .before .before .before .before .pass-next .kept .1 .1 .1 .1 .0; line = c .before .before .before .before .before .before .before .before .before .pass-next .kept .1 .1 .1 .1 .1 .0 }) (c .before .before .before .before .before .before .before .before .before .pass-next .ensures)
 
 same-length : tie.Need-same-length Inv-loop μ-loop
 same-length c = c .before .loop .inv .long .names

@@ -11,16 +11,17 @@ use Rattle.frontier.proofs.prepare.visible_inputs_sorted.Reads as reads
 use Rattle.frontier.proofs.prepare.visible_inputs_sorted.Lts as lts
 use Rattle.pending.proofs.insert_by_id.Reads as insert-by-id-reads
 use Rattle.revwalk.proofs.queue.slot_at.Reads as slot-at-reads
+use Rattle.hash.specs.Bytes.{widthOf}
 
 abbrev Inv-loop : tie.InvT-loop
-Inv-loop line₀ names q from n i₀ line i = (n ≡ q .count) × Collecting names line₀ q from n line i
+Inv-loop kind line₀ names q from n i₀ line i = (n ≡ q .count) × Collecting (widthOf kind) names line₀ q from n line i
 
 abbrev μ-loop : tie.MeasureT-loop
-μ-loop line₀ names q from n i₀ line i = n - i
+μ-loop kind line₀ names q from n i₀ line i = n - i
 
 -- src/prepare.rt:28:5
 loop-holds : tie.Need-loop-holds Inv-loop μ-loop
-loop-holds c = let x = c .before .before .args in (refl, collect-first (x .names .now) (x .line .now) (x .q) (x .from) _)
+loop-holds c = let x = c .before .before .args in (refl, collect-first (widthOf (x .kind)) (x .names .now) (x .line .now) (x .q) (x .from) _)
 
 -- src/prepare.rt:29:13
 slot-at-requires : tie.Need-slot-at-requires Inv-loop μ-loop

@@ -1,6 +1,5 @@
 -- `turns::turn` meets its contract: the slot that leaves has the first commit of the queue, and what it passes are that commit's marks. Assumes nothing.
 use mathlib.Core.Path.{_∙_, ap}
-use Rattle.hash.specs.Bytes.{idBytes}
 use Rattle.object.specs.Ids.{idIn}
 use Rattle.frontier.proofs.TurnLaws.{turn-some, turn-none}
 use borrow.Author.Needs.{needs}
@@ -47,7 +46,7 @@ same-length-5 : tie.Need-same-length-5
 same-length-5 c = search needs
 
 returns : tie.Need-returns
-returns c = turn-some (c .before .before .before .before .before .before .before .before .before .before .before .before .before .before .before .before .before .before .before .before .before .before .before .before .before .before .pop .ensures) (c .before .before .before .before .before .before .before .before .before .before .before .before .before .before .before .before .before .before .before .before .before .before .before .before .before .if1 .taken) (c .before .before .before .before .before .before .before .before .before .before .before .before .before .before .before .before .before .before .before .before .before .before .mark-of .ensures) (c .before .before .before .before .before .before .before .before .before .before .before .before .before .before .before .before .before .before .before .before .before .passed-bits .ensures) (c .before .before .before .before .before .before .before .before .before .before .before .before .before .before .before .before .id-slice .ensures ∙ ap (idIn idBytes) (c .before .before .before .before .before .before .before .before .before .before .before .before .before .before .before .before .before .before .before .id-in .ensures)) (c .before .before .before .before .before .before .before .before .before .before .before .before .before .before .before .read-commit .ensures) (c .before .before .before .before .before .before .before .before .before .pass-to-parents .ensures)
+returns c = turn-some (c .before .before .before .before .before .before .before .before .before .before .before .before .before .before .before .before .before .before .before .before .before .before .before .before .before .before .pop .ensures) (c .before .before .before .before .before .before .before .before .before .before .before .before .before .before .before .before .before .before .before .before .before .before .before .before .before .if1 .taken) (c .before .before .before .before .before .before .before .before .before .before .before .before .before .before .before .before .before .before .before .before .before .before .mark-of .ensures) (c .before .before .before .before .before .before .before .before .before .before .before .before .before .before .before .before .before .before .before .before .before .passed-bits .ensures) (c .before .before .before .before .before .before .before .before .before .before .before .before .before .before .before .before .id-slice .ensures ∙ ap (idIn _) (c .before .before .before .before .before .before .before .before .before .before .before .before .before .before .before .before .before .before .before .id-in .ensures)) (c .before .before .before .before .before .before .before .before .before .before .before .before .before .before .before .read-commit .ensures) (c .before .before .before .before .before .before .before .before .before .pass-to-parents .ensures)
 
 same-length-6 : tie.Need-same-length-6
 same-length-6 c = search needs

@@ -11,12 +11,13 @@ use Rattle.frontier.proofs.turns.turns.Reads as reads
 use Rattle.frontier.proofs.turns.turns.Lts as lts
 use Rattle.frontier.proofs.turns.is_due.Reads as is-due-reads
 use Rattle.frontier.proofs.turns.turn_next.Reads as turn-next-reads
+use Rattle.hash.specs.Bytes.{widthOf}
 
 abbrev Inv-loop : tie.InvT-loop
-Inv-loop names₀ marks₀ levels₀ times₀ line₀ cap cache graph store most r₀ left₀ due₀ names marks levels times line r left due = Taking cache graph store cap (lent names₀ marks₀ levels₀ times₀ line₀) (lent names marks levels times line) r₀ left₀ left due r
+Inv-loop kind names₀ marks₀ levels₀ times₀ line₀ cap cache graph store most r₀ left₀ due₀ names marks levels times line r left due = Taking (widthOf kind) cache graph store cap (lent names₀ marks₀ levels₀ times₀ line₀) (lent names marks levels times line) r₀ left₀ left due r
 
 abbrev μ-loop : tie.MeasureT-loop
-μ-loop names₀ marks₀ levels₀ times₀ line₀ cap cache graph store most r₀ left₀ due₀ names marks levels times line r left due = left
+μ-loop kind names₀ marks₀ levels₀ times₀ line₀ cap cache graph store most r₀ left₀ due₀ names marks levels times line r left due = left
 
 -- src/turns.rt:97:9
 is-due-requires : tie.Need-is-due-requires Inv-loop μ-loop
@@ -24,7 +25,7 @@ is-due-requires c κs = search needs
 
 -- src/turns.rt:98:5
 loop-holds : tie.Need-loop-holds Inv-loop μ-loop
-loop-holds c = let x = c .before .before .before .before .before .before .before .before .before .args in taking-first (x .cache) (x .graph .now) (x .store .now) (x .cap) _ _ (x .most) (c .is-due .ensures)
+loop-holds c = let x = c .before .before .before .before .before .before .before .before .before .args in taking-first (widthOf (x .kind)) (x .cache) (x .graph .now) (x .store .now) (x .cap) _ _ (x .most) (c .is-due .ensures)
 
 -- src/turns.rt:99:9
 turn-next-requires : tie.Need-turn-next-requires Inv-loop μ-loop
@@ -44,7 +45,7 @@ loop-less c = omega (arith, taking-left (c .before .before .before .before .befo
 
 -- src/turns.rt:98:5
 loop-again : tie.Need-loop-again Inv-loop μ-loop
-loop-again c = taking-next (c .before .before .before .before .before .before .before .before .before .before .before .before .before .before .before .before .before .before .before .loop .inv) (c .before .before .before .before .before .before .before .before .before .before .before .before .before .before .before .before .before .before .loop-test .taken) (record { names = c .before .before .before .before .before .before .before .before .before .before .before .before .turn-next .kept .0; marks = c .before .before .before .before .before .before .before .before .before .before .before .before .turn-next .kept .1 .0; levels = c .before .before .before .before .before .before .before .before .before .before .before .before .turn-next .kept .1 .1 .0; times = c .before .before .before .before .before .before .before .before .before .before .before .before .turn-next .kept .1 .1 .1 .0; line = c .before .before .before .before .before .before .before .before .before .before .before .before .turn-next .kept .1 .1 .1 .1 .0 }) (c .before .before .before .before .before .before .before .before .before .before .before .before .turn-next .ensures) (c .is-due2 .ensures)
+loop-again c = taking-next (c .before .before .before .before .before .before .before .before .before .before .before .before .before .before .before .before .before .before .before .loop .inv) (c .before .before .before .before .before .before .before .before .before .before .before .before .before .before .before .before .before .before .loop-test .taken) (record { names = c .before .before .before .before .before .before .before .before .before .before .before .before .turn-next .kept .1 .0; marks = c .before .before .before .before .before .before .before .before .before .before .before .before .turn-next .kept .1 .1 .0; levels = c .before .before .before .before .before .before .before .before .before .before .before .before .turn-next .kept .1 .1 .1 .0; times = c .before .before .before .before .before .before .before .before .before .before .before .before .turn-next .kept .1 .1 .1 .1 .0; line = c .before .before .before .before .before .before .before .before .before .before .before .before .turn-next .kept .1 .1 .1 .1 .1 .0 }) (c .before .before .before .before .before .before .before .before .before .before .before .before .turn-next .ensures) (c .is-due2 .ensures)
 
 -- src/turns.rt:80:1
 same-length : tie.Need-same-length Inv-loop μ-loop

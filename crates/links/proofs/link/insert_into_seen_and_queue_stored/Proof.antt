@@ -2,10 +2,14 @@
 use Rattle.walk.specs.Lookup.{worldOf, secondsFor}
 use Rattle.reading.proofs.Tips.{seconds-right}
 use Rattle.links.proofs.Links.{not-true, not-false}
-use Rattle.links.proofs.Links.{visits, visits-known}
+use Rattle.links.proofs.Links.{sees-as, visits, visits-known}
 use borrow.Author.Needs.{needs}
 use Rattle.links.proofs.link.insert_into_seen_and_queue_stored.Statement.{statement}
 use Rattle.links.proofs.link.insert_into_seen_and_queue_stored.Tie as tie
+use Rattle.hash.specs.Bytes.{widthOf}
+
+with-waiting-requires : tie.Need-with-waiting-requires
+with-waiting-requires c κs = search needs
 
 see-requires : tie.Need-see-requires
 see-requires c κs = search needs
@@ -17,7 +21,7 @@ same-length-2 : tie.Need-same-length-2
 same-length-2 c = search needs
 
 returns : tie.Need-returns
-returns c = let x = c .before .before .before .before .before .before .before .before .before .before .before .before .before .before .before .before .args in record { right = λ ok g. visits-known (c .before .before .before .before .before .before .see .ensures) (not-true (c .before .before .before .before .before .before .see .result .fresh) (c .if1 .taken)) (secondsFor (worldOf (x .store .now) g) (x .id .now)) }
+returns c = let x = c .before .before .before .before .before .before .before .before .before .before .before .before .before .before .before .before .before .args in record { right = λ ok g. visits-known (sees-as (c .before .before .before .before .before .before .before .before .before .with-waiting .ensures) (c .before .before .before .before .before .before .see .ensures)) (not-true (c .before .before .before .before .before .before .see .result .fresh) (c .if1 .taken)) (secondsFor (worldOf (widthOf (x .settings .kind)) (x .store .now) g) (x .id .now)) }
 
 new-seconds-requires : tie.Need-new-seconds-requires
 new-seconds-requires c κs = search needs
@@ -41,13 +45,14 @@ same-length-7 : tie.Need-same-length-7
 same-length-7 c = search needs
 
 returns-2 : tie.Need-returns-2
-returns-2 c = let x = c .before .before .before .before .before .before .before .before .before .before .before .before .before .before .before .before .before .before .before .before .before .before .before .before .before .before .before .args in
-    record { right = λ ok g. visits (c .before .before .before .before .before .before .before .before .before .before .before .before .before .before .before .before .before .see .ensures) (not-false (c .before .before .before .before .before .before .before .before .before .before .before .before .before .before .before .before .before .see .result .fresh) (c .before .before .before .before .before .before .before .before .before .before .before .if1 .left)) (c .before .before .before .before .before .before .before .before .new-seconds .result .0) (secondsFor (worldOf (x .store .now) g) (x .id .now)) (λ j. seconds-right (c .before .before .before .before .before .before .before .before .new-seconds .ensures j) ok g) (c .before .before .before .insert-into-queue .ensures) }
+returns-2 c = let x = c .before .before .before .before .before .before .before .before .before .before .before .before .before .before .before .before .before .before .before .before .before .before .before .before .before .before .before .before .args in
+    record { right = λ ok g. visits (sees-as (c .before .before .before .before .before .before .before .before .before .before .before .before .before .before .before .before .before .before .before .before .with-waiting .ensures) (c .before .before .before .before .before .before .before .before .before .before .before .before .before .before .before .before .before .see .ensures)) (not-false (c .before .before .before .before .before .before .before .before .before .before .before .before .before .before .before .before .before .see .result .fresh) (c .before .before .before .before .before .before .before .before .before .before .before .if1 .left)) (c .before .before .before .before .before .before .before .before .new-seconds .result .0) (secondsFor (worldOf (widthOf (x .settings .kind)) (x .store .now) g) (x .id .now)) (λ j. seconds-right (c .before .before .before .before .before .before .before .before .new-seconds .ensures j) ok g) (c .before .before .before .insert-into-queue .ensures (x .r)) }
 
 pub insert-into-seen-and-queue-stored-spec : {M : Type 1} → statement M
 insert-into-seen-and-queue-stored-spec =
     tie.close
     (tie.spec
+    with-waiting-requires
     see-requires
     same-length
     same-length-2

@@ -1,17 +1,21 @@
--- `object::narrow_id` meets its contract: each of the 20 bytes is the slice's at that place, and the zeros after them are left. Assumes nothing.
+-- `object::narrow_id` meets its contract: each byte of an id is the slice's at that place, and the zeros after them are left. Assumes nothing.
 use mathlib.Core.Path.{refl}
 use Prim.Native.Nat.{_-_, _≤_}
 use borrow.Author.Needs.{needs}
 use native.Mathlib.Omega.{arith}
+use Rattle.hash.specs.Bytes.{idBytes}
 use Rattle.object.proofs.IdBytes.{Copying, copying-none, copying-more, copying-ended}
 use Rattle.object.proofs.id.narrow_id.Statement.{statement}
 use Rattle.object.proofs.id.narrow_id.Tie as tie
 
 abbrev Inv-loop : tie.InvT-loop
-Inv-loop x bytes₀ i₀ bytes i = (i ≤ 20) × Copying x bytes i
+Inv-loop x w bytes₀ i₀ bytes i = (i ≤ idBytes) × Copying x bytes i
 
 abbrev μ-loop : tie.MeasureT-loop
-μ-loop x bytes₀ i₀ bytes i = 20 - i
+μ-loop x w bytes₀ i₀ bytes i = w - i
+
+width-requires : tie.Need-width-requires Inv-loop μ-loop
+width-requires c κs = search needs
 
 loop-holds : tie.Need-loop-holds Inv-loop μ-loop
 loop-holds c = (search needs, copying-none _)
@@ -32,7 +36,7 @@ loop-again : tie.Need-loop-again Inv-loop μ-loop
 loop-again c = (search needs, copying-more (c .before .before .loop .inv .1) (search needs) refl)
 
 returns : tie.Need-returns Inv-loop μ-loop
-returns c = copying-ended (c .before .loop .inv .1) (omega arith)
+returns c = copying-ended (c .before .loop .inv .1) (omega (arith, c .before .before .width .ensures .0))
 
 pub narrow-id-spec : {M : Type 1} → statement M
 narrow-id-spec =
@@ -40,6 +44,7 @@ narrow-id-spec =
     (tie.spec
     Inv-loop
     μ-loop
+    width-requires
     loop-holds
     shared-slice-read-bytes
     array-write-bytes

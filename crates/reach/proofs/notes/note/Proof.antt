@@ -3,6 +3,7 @@ use Rattle.reach.proofs.Noting.{on-fresh, on-known, on-full}
 use borrow.Author.Needs.{needs}
 use Rattle.reach.proofs.notes.note.Statement.{statement}
 use Rattle.reach.proofs.notes.note.Tie as tie
+use Rattle.hash.specs.Bytes.{widthOf}
 
 mark-id-requires : tie.Need-mark-id-requires
 mark-id-requires c κs = search needs
@@ -38,7 +39,7 @@ same-length-5 : tie.Need-same-length-5
 same-length-5 c = search needs
 
 returns-2 : tie.Need-returns-2
-returns-2 c = let x = c .before .before .before .before .before .before .before .before .before .before .before .before .before .args in on-known (x .second) (x .cap) (x .from) (x .line .now) (x .n) (c .before .before .before .before .before .before .mark-id .ensures) (c .enum-told .given .1)
+returns-2 c = let x = c .before .before .before .before .before .before .before .before .before .before .before .before .before .args in on-known (widthOf (x .kind)) (x .second) (x .cap) (x .from) (x .line .now) (x .n) (c .before .before .before .before .before .before .mark-id .ensures) (c .enum-told .given .1)
 
 same-length-6 : tie.Need-same-length-6
 same-length-6 c = search needs
@@ -47,7 +48,7 @@ same-length-7 : tie.Need-same-length-7
 same-length-7 c = search needs
 
 returns-3 : tie.Need-returns-3
-returns-3 c = let x = c .before .before .before .before .before .before .before .before .before .before .before .before .before .args in on-full (x .second) (x .cap) (x .from) (x .line .now) (x .n) (c .before .before .before .before .before .before .mark-id .ensures) (c .enum-told2 .given .1)
+returns-3 c = let x = c .before .before .before .before .before .before .before .before .before .before .before .before .before .args in on-full (widthOf (x .kind)) (x .second) (x .cap) (x .from) (x .line .now) (x .n) (c .before .before .before .before .before .before .mark-id .ensures) (c .enum-told2 .given .1)
 
 pub note-spec : {M : Type 1} → statement M
 note-spec =

@@ -4,6 +4,7 @@ use Rattle.reach.proofs.Noting.{next-count, next-none}
 use borrow.Author.Needs.{needs}
 use Rattle.reach.proofs.notes.note_next.Statement.{statement}
 use Rattle.reach.proofs.notes.note_next.Tie as tie
+use Rattle.hash.specs.Bytes.{widthOf}
 
 enum-known-past : tie.Need-enum-known-past
 enum-known-past c = search needs
@@ -27,7 +28,7 @@ returns : tie.Need-returns
 returns c = next-count (c .before .before .before .before .before .before .before .before .before .before .before .past .given .1) (c .before .before .before .before .before .before .note .ensures)
 
 returns-2 : tie.Need-returns-2
-returns-2 c = let x = c .before .before .before .before .before .before .args in next-none (x .second) (x .cap) (x .from) (lent (x .names .now) (x .marks .now) (x .line .now)) (x .id .now) (c .enum-told .given .1)
+returns-2 c = let x = c .before .before .before .before .before .before .args in next-none (widthOf (x .kind)) (x .second) (x .cap) (x .from) (lent (x .names .now) (x .marks .now) (x .line .now)) (x .id .now) (c .enum-told .given .1)
 
 pub note-next-spec : {M : Type 1} → statement M
 note-next-spec =

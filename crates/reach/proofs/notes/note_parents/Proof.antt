@@ -1,21 +1,22 @@
 -- `notes::note_parents` meets its contract: after i turns the first i parents of the body are noted. What is left of them grows less. Assumes nothing.
 use Prim.Native.Nat.{_-_}
-use Rattle.hash.specs.Bytes.{idBytes}
 use Rattle.object.specs.Header.{header}
 use Rattle.reach.specs.Memory.{lent}
 use Rattle.reach.proofs.Noting.{Passing, passing-first, passing-next, passing-last}
 use borrow.Author.Needs.{needs}
 use Rattle.reach.proofs.notes.note_parents.Statement.{statement}
 use Rattle.reach.proofs.notes.note_parents.Tie as tie
+use Rattle.hash.specs.Bytes.{widthOf}
+use Rattle.hash.proofs.Widths.{width-most}
 
 abbrev Inv-loop : tie.InvT-loop
-Inv-loop names₀ marks₀ line₀ cap second from body count r₀ i₀ names marks line r i = Passing second cap from (header idBytes body) (lent names₀ marks₀ line₀) (lent names marks line) r₀ count i r
+Inv-loop kind names₀ marks₀ line₀ cap second from body count r₀ i₀ names marks line r i = Passing (widthOf kind) second cap from (header (widthOf kind) body) (lent names₀ marks₀ line₀) (lent names marks line) r₀ count i r
 
 abbrev μ-loop : tie.MeasureT-loop
-μ-loop names₀ marks₀ line₀ cap second from body count r₀ i₀ names marks line r i = count - i
+μ-loop kind names₀ marks₀ line₀ cap second from body count r₀ i₀ names marks line r i = count - i
 
 loop-holds : tie.Need-loop-holds Inv-loop μ-loop
-loop-holds c = let x = c .before .before .before .before .args in passing-first (x .second) (x .cap) (x .from) (header idBytes (x .body .now)) _ (x .past) (x .count)
+loop-holds c = let x = c .before .before .before .before .args in passing-first (widthOf (x .kind)) (x .second) (x .cap) (x .from) (header (widthOf (x .kind)) (x .body .now)) _ (x .past) (x .count)
 
 body-parent-requires : tie.Need-body-parent-requires Inv-loop μ-loop
 body-parent-requires c κs = search needs
@@ -34,7 +35,7 @@ loop-less c = search needs
 
 loop-again : tie.Need-loop-again Inv-loop μ-loop
 loop-again c =
-    passing-next (c .before .before .before .before .before .before .before .before .before .before .before .before .before .before .before .before .before .before .before .before .args .body .now) (c .before .before .before .before .before .before .before .before .before .before .before .before .before .body-parent .result) (c .before .before .before .before .before .before .before .before .before .before .before .before .before .before .before .loop .inv) (c .before .before .before .before .before .before .before .before .before .before .before .before .before .before .loop-test .taken) (c .before .before .before .before .before .before .before .before .before .before .before .before .before .body-parent .ensures) (c .before .before .before .before .before .before .before .id-slice .ensures) (record { names = c .before .before .before .before .before .before .note-next .kept .0; marks = c .before .before .before .before .before .before .note-next .kept .1 .0; line = c .before .before .before .before .before .before .note-next .kept .1 .1 .0 }) (c .before .before .before .before .before .before .note-next .ensures)
+    passing-next (width-most (c .before .before .before .before .before .before .before .before .before .before .before .before .before .before .before .before .before .before .before .before .args .kind)) (c .before .before .before .before .before .before .before .before .before .before .before .before .before .before .before .before .before .before .before .before .args .body .now) (c .before .before .before .before .before .before .before .before .before .before .before .before .before .body-parent .result) (c .before .before .before .before .before .before .before .before .before .before .before .before .before .before .before .loop .inv) (c .before .before .before .before .before .before .before .before .before .before .before .before .before .before .loop-test .taken) (c .before .before .before .before .before .before .before .before .before .before .before .before .before .body-parent .ensures) (c .before .before .before .before .before .before .before .id-slice .ensures) (record { names = c .before .before .before .before .before .before .note-next .kept .1 .0; marks = c .before .before .before .before .before .before .note-next .kept .1 .1 .0; line = c .before .before .before .before .before .before .note-next .kept .1 .1 .1 .0 }) (c .before .before .before .before .before .before .note-next .ensures)
 
 same-length : tie.Need-same-length Inv-loop μ-loop
 same-length c = c .before .loop .inv .long .names

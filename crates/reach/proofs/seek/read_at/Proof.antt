@@ -5,6 +5,7 @@ use Rattle.reach.proofs.Seeking.{read-noted, read-bad, read-crowded}
 use borrow.Author.Needs.{needs}
 use Rattle.reach.proofs.seek.read_at.Statement.{statement}
 use Rattle.reach.proofs.seek.read_at.Tie as tie
+use Rattle.hash.specs.Bytes.{widthOf}
 
 slot-after-requires : tie.Need-slot-after-requires
 slot-after-requires c κs = search needs
@@ -40,7 +41,7 @@ same-length-3 : tie.Need-same-length-3
 same-length-3 c = search needs
 
 returns : tie.Need-returns
-returns c = let x = c .before .before .before .before .before .before .before .before .before .before .before .before .before .before .before .before .before .before .before .before .before .before .before .args in read-noted (x .second) (x .cap) (x .from) (lent (x .names .now) (x .marks .now) (x .line .now)) (x .n) (x .k) (c .before .before .before .before .before .before .before .before .before .before .before .before .before .before .before .before .before .slot-after .ensures) (c .before .before .before .before .before .before .before .before .before .before .before .before .before .before .before .body-in .ensures) _ _ (sym (c .before .before .before .before .before .before .before .before .before .before .before .before .before .before .readable .ensures) ∙ c .before .before .before .before .before .before .before .before .before .before .before .before .parents .given .1) (c .before .before .before .before .before .before .before .note-parents .ensures) (c .noted .ensures)
+returns c = let x = c .before .before .before .before .before .before .before .before .before .before .before .before .before .before .before .before .before .before .before .before .before .before .before .args in read-noted (widthOf (x .kind)) (x .second) (x .cap) (x .from) (lent (x .names .now) (x .marks .now) (x .line .now)) (x .n) (x .k) (c .before .before .before .before .before .before .before .before .before .before .before .before .before .before .before .before .before .slot-after .ensures) (c .before .before .before .before .before .before .before .before .before .before .before .before .before .before .before .body-in .ensures) _ _ (sym (c .before .before .before .before .before .before .before .before .before .before .before .before .before .before .readable .ensures) ∙ c .before .before .before .before .before .before .before .before .before .before .before .before .parents .given .1) (c .before .before .before .before .before .before .before .note-parents .ensures) (c .noted .ensures)
 
 same-length-4 : tie.Need-same-length-4
 same-length-4 c = search needs
@@ -49,7 +50,7 @@ same-length-5 : tie.Need-same-length-5
 same-length-5 c = search needs
 
 returns-2 : tie.Need-returns-2
-returns-2 c = let x = c .before .before .before .before .before .before .before .before .before .before .before .args in read-bad (x .second) (x .cap) (x .from) (lent (x .names .now) (x .marks .now) (x .line .now)) (x .n) (x .k) (c .before .before .before .before .before .slot-after .ensures) (c .before .before .before .body-in .ensures) (sym (c .before .before .readable .ensures) ∙ c .enum-told .given .1)
+returns-2 c = let x = c .before .before .before .before .before .before .before .before .before .before .before .args in read-bad (widthOf (x .kind)) (x .second) (x .cap) (x .from) (lent (x .names .now) (x .marks .now) (x .line .now)) (x .n) (x .k) (c .before .before .before .before .before .slot-after .ensures) (c .before .before .before .body-in .ensures) (sym (c .before .before .readable .ensures) ∙ c .enum-told .given .1)
 
 same-length-6 : tie.Need-same-length-6
 same-length-6 c = search needs
@@ -58,7 +59,7 @@ same-length-7 : tie.Need-same-length-7
 same-length-7 c = search needs
 
 returns-3 : tie.Need-returns-3
-returns-3 c = let x = c .before .before .before .before .before .before .before .before .before .before .before .args in read-crowded (x .second) (x .cap) (x .from) (lent (x .names .now) (x .marks .now) (x .line .now)) (x .n) (x .k) (c .before .before .before .before .before .slot-after .ensures) (c .before .before .before .body-in .ensures) (sym (c .before .before .readable .ensures) ∙ c .enum-told2 .given .1)
+returns-3 c = let x = c .before .before .before .before .before .before .before .before .before .before .before .args in read-crowded (widthOf (x .kind)) (x .second) (x .cap) (x .from) (lent (x .names .now) (x .marks .now) (x .line .now)) (x .n) (x .k) (c .before .before .before .before .before .slot-after .ensures) (c .before .before .before .body-in .ensures) (sym (c .before .before .readable .ensures) ∙ c .enum-told2 .given .1)
 
 pub read-at-spec : {M : Type 1} → statement M
 read-at-spec =

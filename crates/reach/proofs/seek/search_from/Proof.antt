@@ -18,25 +18,25 @@ enum-told : tie.Need-enum-told
 enum-told c = search needs
 
 same-length : tie.Need-same-length
-same-length c = c .before .before .before .before .before .before .search .kept .0 ∙ c .before .before .before .before .before .before .before .before .before .before .before .before .before .before .before .before .before .before .before .note-list .kept .0
+same-length c = c .before .before .before .before .before .before .search .kept .1 .0 ∙ c .before .before .before .before .before .before .before .before .before .before .before .before .before .before .before .before .before .before .before .note-list .kept .1 .0
 
 same-length-2 : tie.Need-same-length-2
-same-length-2 c = c .before .before .before .before .before .before .search .kept .1 .0 ∙ c .before .before .before .before .before .before .before .before .before .before .before .before .before .before .before .before .before .before .before .note-list .kept .1 .0
+same-length-2 c = c .before .before .before .before .before .before .search .kept .1 .1 .0 ∙ c .before .before .before .before .before .before .before .before .before .before .before .before .before .before .before .before .before .before .before .note-list .kept .1 .1 .0
 
 same-length-3 : tie.Need-same-length-3
-same-length-3 c = c .before .before .before .before .before .before .search .kept .1 .1 .0 ∙ c .before .before .before .before .before .before .before .before .before .before .before .before .before .before .before .before .before .before .before .note-list .kept .1 .1 .0
+same-length-3 c = c .before .before .before .before .before .before .search .kept .1 .1 .1 .0 ∙ c .before .before .before .before .before .before .before .before .before .before .before .before .before .before .before .before .before .before .before .note-list .kept .1 .1 .1 .0
 
 returns : tie.Need-returns
 returns c = from-count (c .before .before .before .before .before .before .before .before .before .before .before .before .before .before .before .before .before .before .before .note-list .ensures) (c .before .before .before .before .before .before .before .before .before .before .before .begun .given .1) (c .before .before .before .before .before .before .search .ensures)
 
 same-length-4 : tie.Need-same-length-4
-same-length-4 c = c .before .before .before .before .before .before .before .before .note-list .kept .0
+same-length-4 c = c .before .before .before .before .before .before .before .before .note-list .kept .1 .0
 
 same-length-5 : tie.Need-same-length-5
-same-length-5 c = c .before .before .before .before .before .before .before .before .note-list .kept .1 .0
+same-length-5 c = c .before .before .before .before .before .before .before .before .note-list .kept .1 .1 .0
 
 same-length-6 : tie.Need-same-length-6
-same-length-6 c = c .before .before .before .before .before .before .before .before .note-list .kept .1 .1 .0
+same-length-6 c = c .before .before .before .before .before .before .before .before .note-list .kept .1 .1 .1 .0
 
 returns-2 : tie.Need-returns-2
 returns-2 c = from-none (c .before .before .before .before .before .before .before .before .note-list .ensures) (c .before .before .before .before .before .before .before .before .before .before .before .before .before .before .before .before .before .args .store .now) (c .enum-told .given .1)

@@ -1,6 +1,5 @@
 -- `reading::token_after` meets its contract: the token at that place. Assumes nothing.
 use mathlib.Core.Path.{_∙_, ap}
-use Rattle.hash.specs.Bytes.{idBytes}
 use Rattle.commititer.specs.Token.{tokenAt}
 use borrow.Author.Needs.{needs}
 use Rattle.reading.proofs.body.token_after.Statement.{statement}
@@ -17,7 +16,7 @@ read-token-requires : tie.Need-read-token-requires
 read-token-requires c κs = search needs
 
 returns : tie.Need-returns
-returns c = c .read-token .ensures ∙ ap (tokenAt idBytes _) (c .before .parents-place .ensures)
+returns c = c .read-token .ensures ∙ ap (tokenAt _ _) (c .before .parents-place .ensures)
 
 pub token-after-spec : {M : Type 1} → statement M
 token-after-spec = tie.close (tie.spec parents-place-requires read-token-requires returns)

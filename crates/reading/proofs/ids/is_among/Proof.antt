@@ -3,17 +3,17 @@ use borrow.Author.Needs.{needs}
 use mathlib.Core.Path.{_≡_, sym, _∙_, ap}
 use Prim.Native.Nat.{_-_, _/_, _≤_}
 use lib.ListN.{length}
-use Rattle.hash.specs.Bytes.{idBytes, eqId, among}
+use Rattle.hash.specs.Bytes.{eqId, among, widthOf}
 use Rattle.walk.specs.Opening.{listIds}
 use Rattle.reading.proofs.IdLists.{fromId, among-start, among-here, among-later, among-none}
 use Rattle.reading.proofs.ids.is_among.Statement.{statement}
 use Rattle.reading.proofs.ids.is_among.Tie as tie
 
 abbrev Inv-loop : tie.InvT-loop
-Inv-loop list id n k₀ k = (n ≡ length list / idBytes) × (k ≤ n) × (among id (listIds list) ≡ among id (fromId list n k))
+Inv-loop kind list id n k₀ k = (n ≡ length list / widthOf kind) × (k ≤ n) × (among id (listIds (widthOf kind) list) ≡ among id (fromId (widthOf kind) list n k))
 
 abbrev μ-loop : tie.MeasureT-loop
-μ-loop list id n k₀ k = n - k
+μ-loop kind list id n k₀ k = n - k
 
 ids-in-requires : tie.Need-ids-in-requires Inv-loop μ-loop
 ids-in-requires c κs = search needs
@@ -21,7 +21,7 @@ ids-in-requires c κs = search needs
 loop-holds : tie.Need-loop-holds Inv-loop μ-loop
 loop-holds c =
     let x = c .before .before .before .args in
-    (c .ids-in .ensures, search needs, rw (c .ids-in .ensures) (among-start (x .id .now) (x .list .now)))
+    (c .ids-in .ensures, search needs, rw (c .ids-in .ensures) (among-start _ (x .id .now) (x .list .now)))
 
 nth-requires : tie.Need-nth-requires Inv-loop μ-loop
 nth-requires c κs = search needs
@@ -34,7 +34,7 @@ returns c =
     let l = c .before .before .before .before in
     let x = l .before .before .before .before .args in
     let e = sym (c .before .same .ensures ∙ ap (eqId (x .id .now)) (c .before .before .nth .ensures)) ∙ c .if1 .taken in
-    sym (l .loop .inv .2 ∙ among-here (x .id .now) (x .list .now) _ (l .loop .k) (search needs) e)
+    sym (l .loop .inv .2 ∙ among-here _ (x .id .now) (x .list .now) _ (l .loop .k) (search needs) e)
 
 add-k : tie.Need-add-k Inv-loop μ-loop
 add-k c = search needs
@@ -47,10 +47,10 @@ loop-again c =
     let l = c .before .before .before .before in
     let x = l .before .before .before .before .args in
     let e = sym (c .before .same .ensures ∙ ap (eqId (x .id .now)) (c .before .before .nth .ensures)) ∙ c .if1 .left in
-    (search needs, search needs, l .loop .inv .2 ∙ among-later (x .id .now) (x .list .now) _ (l .loop .k) (search needs) e)
+    (search needs, search needs, l .loop .inv .2 ∙ among-later _ (x .id .now) (x .list .now) _ (l .loop .k) (search needs) e)
 
 returns-2 : tie.Need-returns-2 Inv-loop μ-loop
-returns-2 c = let l = c .before in let x = l .before .before .before .before .args in sym (l .loop .inv .2 ∙ among-none (x .id .now) (x .list .now) _ (l .loop .k) (search needs))
+returns-2 c = let l = c .before in let x = l .before .before .before .before .args in sym (l .loop .inv .2 ∙ among-none _ (x .id .now) (x .list .now) _ (l .loop .k) (search needs))
 
 pub is-among-spec : {M : Type 1} → statement M
 is-among-spec =

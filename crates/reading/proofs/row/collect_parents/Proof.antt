@@ -6,7 +6,6 @@ use Rattle.reading.proofs.Rows.{row-read, row-corrupt}
 use borrow.Author.Needs.{needs}
 use Rattle.reading.proofs.row.collect_parents.Statement.{statement}
 use Rattle.reading.proofs.row.collect_parents.Tie as tie
-use Rattle.hash.specs.Bytes.{idBytes}
 
 parents-requires : tie.Need-parents-requires
 parents-requires c κs = search needs
@@ -23,12 +22,12 @@ enum-told c = search needs
 returns : tie.Need-returns
 returns c =
     let x = c .before .before .before .before .before .before .args in
-    row-read (levelOf (x .graph .now) (x .l) (x .position)) (parentsIn idBytes (x .graph .now) (x .l) (x .position)) (sym (c .before .before .n .given .1) ∙ c .before .before .before .before .parents .ensures) (c .level .ensures)
+    row-read (levelOf _ (x .graph .now) (x .l) (x .position)) (parentsIn _ (x .graph .now) (x .l) (x .position)) (sym (c .before .before .n .given .1) ∙ c .before .before .before .before .parents .ensures) (c .level .ensures)
 
 returns-2 : tie.Need-returns-2
 returns-2 c =
     let x = c .before .before .before .before .args in
-    row-corrupt (levelOf (x .graph .now) (x .l) (x .position)) (parentsIn idBytes (x .graph .now) (x .l) (x .position)) (sym (c .enum-told .given .1) ∙ c .before .before .parents .ensures)
+    row-corrupt (levelOf _ (x .graph .now) (x .l) (x .position)) (parentsIn _ (x .graph .now) (x .l) (x .position)) (sym (c .enum-told .given .1) ∙ c .before .before .parents .ensures)
 
 pub collect-parents-spec : {M : Type 1} → statement M
 collect-parents-spec =

@@ -11,7 +11,7 @@ id-at-requires : tie.Need-id-at-requires
 id-at-requires c κs = search needs
 
 returns : tie.Need-returns
-returns c = let x = c .before .before .before .args in parent-by-place (x .graph .now) (x .l) (x .position) (x .k) (c .before .parent .ensures) (c .id-at .ensures)
+returns c = let x = c .before .before .before .args in parent-by-place _ (x .graph .now) (x .l) (x .position) (x .k) (c .before .parent .ensures) (c .id-at .ensures)
 
 pub row-parent-spec : {M : Type 1} → statement M
 row-parent-spec = tie.close (tie.spec parent-requires id-at-requires returns)

@@ -16,10 +16,10 @@ enum-told c = search needs
 returns : tie.Need-returns
 returns c =
     let l = c .before .before .before in
-    λ g h. zone-told (l .before .before .args .body .now) (l .stamp-past .ensures g h) _ (c .before .stamp .given .1)
+    λ g h. zone-told _ (l .before .before .args .body .now) (l .stamp-past .ensures g h) _ (c .before .stamp .given .1)
 
 returns-2 : tie.Need-returns-2
-returns-2 c = λ g h. no-zone-told (c .before .before .before .before .args .body .now) (c .before .before .stamp-past .ensures g h) (c .enum-told .given .1)
+returns-2 c = λ g h. no-zone-told _ (c .before .before .before .before .args .body .now) (c .before .before .stamp-past .ensures g h) (c .enum-told .given .1)
 
 pub zone-past-spec : {M : Type 1} → statement M
 zone-past-spec =

@@ -1,5 +1,5 @@
 -- `rowvisit::numbers::collect_parents` meets its contract: a plain list is told by the numbers, any other is read. Assumes nothing.
-use Rattle.hash.specs.Bytes.{idBytes}
+use Rattle.hash.specs.Bytes.{widthOf}
 use Rattle.commitgraph.specs.Graph.{parentsIn}
 use Rattle.reading.specs.Row.{levelOf}
 use Rattle.reading.proofs.Rows.{row-read}
@@ -25,7 +25,7 @@ returns-2 c =
     let t = c .before .before in
     let s = t .before .before in
     let x = s .args in
-    row-read (levelOf (x .graph .now) (x .l) (x .position)) (parentsIn idBytes (x .graph .now) (x .l) (x .position)) (plain-list (s .pre .0) (t .plain-count .ensures) (c .before .if1 .left)) (level-told (x .graph .now) (x .l) (x .position) (x .third) (s .pre .1) (c .level .ensures))
+    row-read (levelOf (widthOf (x .kind)) (x .graph .now) (x .l) (x .position)) (parentsIn (widthOf (x .kind)) (x .graph .now) (x .l) (x .position)) (plain-list (s .pre .0) (t .plain-count .ensures) (c .before .if1 .left)) (level-told (widthOf (x .kind)) (x .graph .now) (x .l) (x .position) (x .third) (s .pre .1) (c .level .ensures))
 
 pub collect-parents-spec : {M : Type 1} → statement M
 collect-parents-spec =

@@ -9,15 +9,16 @@ use Rattle.tested.specs.Ahead.{slotWords}
 use borrow.Author.Needs.{needs}
 use Rattle.tested.proofs.ahead.place_words.Statement.{statement}
 use Rattle.tested.proofs.ahead.place_words.Tie as tie
+use Rattle.hash.specs.Bytes.{widthOf}
 
 returns : tie.Need-returns
-returns c = let x = c .before .before .before .args in ap (λ (t : Bool). cond t (slotWords (x .names .now) (x .line .now) (getD (x .line .now) (x .from + (x .k + x .d)) 0)) 0) (sym (le-ltb (x .k + x .d) (x .n) (omega arith)))
+returns c = let x = c .before .before .before .args in ap (λ (t : Bool). cond t (slotWords (widthOf (x .kind)) (x .names .now) (x .line .now) (getD (x .line .now) (x .from + (x .k + x .d)) 0)) 0) (sym (le-ltb (x .k + x .d) (x .n) (omega arith)))
 
 sub-if2 : tie.Need-sub-if2
 sub-if2 c = search needs
 
 returns-2 : tie.Need-returns-2
-returns-2 c = let x = c .before .before .before .before .args in ap (λ (t : Bool). cond t (slotWords (x .names .now) (x .line .now) (getD (x .line .now) (x .from + (x .k + x .d)) 0)) 0) (sym (le-ltb (x .k + x .d) (x .n) (omega arith)))
+returns-2 c = let x = c .before .before .before .before .args in ap (λ (t : Bool). cond t (slotWords (widthOf (x .kind)) (x .names .now) (x .line .now) (getD (x .line .now) (x .from + (x .k + x .d)) 0)) 0) (sym (le-ltb (x .k + x .d) (x .n) (omega arith)))
 
 add-slot-after : tie.Need-add-slot-after
 add-slot-after c = search needs
@@ -29,7 +30,7 @@ slot-words-requires : tie.Need-slot-words-requires
 slot-words-requires c κs = search needs
 
 returns-3 : tie.Need-returns-3
-returns-3 c = let x = c .before .before .before .before .before .before .args in c .slot-words .ensures ∙ ap (λ (s : ℕ). slotWords (x .names .now) (x .line .now) s) (c .before .slot-after .ensures) ∙ ap (λ (t : Bool). cond t (slotWords (x .names .now) (x .line .now) (getD (x .line .now) (x .from + (x .k + x .d)) 0)) 0) (sym (lt-ltb (x .k + x .d) (x .n) (omega arith)))
+returns-3 c = let x = c .before .before .before .before .before .before .args in c .slot-words .ensures ∙ ap (λ (s : ℕ). slotWords (widthOf (x .kind)) (x .names .now) (x .line .now) s) (c .before .slot-after .ensures) ∙ ap (λ (t : Bool). cond t (slotWords (widthOf (x .kind)) (x .names .now) (x .line .now) (getD (x .line .now) (x .from + (x .k + x .d)) 0)) 0) (sym (lt-ltb (x .k + x .d) (x .n) (omega arith)))
 
 pub place-words-spec : {M : Type 1} → statement M
 place-words-spec =

@@ -12,6 +12,9 @@ id-at-requires c κs = search needs
 entry-id-requires : tie.Need-entry-id-requires
 entry-id-requires c κs = search needs
 
+width-requires : tie.Need-width-requires
+width-requires c κs = search needs
+
 be32-requires : tie.Need-be32-requires
 be32-requires c κs = search needs
 
@@ -31,6 +34,7 @@ row-words-spec =
     row-requires
     id-at-requires
     entry-id-requires
+    width-requires
     be32-requires
     be32-requires-2
     be32-requires-3

@@ -6,6 +6,7 @@ use Rattle.tested.specs.Ahead.{nearAt, wordsAt, wordsAhead}
 use borrow.Author.Needs.{needs}
 use Rattle.tested.proofs.ahead.words_ahead.Statement.{statement}
 use Rattle.tested.proofs.ahead.words_ahead.Tie as tie
+use Rattle.hash.specs.Bytes.{widthOf}
 
 enum-known-cache : tie.Need-enum-known-cache
 enum-known-cache c = search needs
@@ -29,12 +30,12 @@ returns c =
     let parent = c .before .before .parent .ensures in
     let one = c .before .near-after .ensures ∙ ap (λ (q : ℕ). nearAt (x .line .now) (x .from) (x .n) (x .k + 1) q) parent in
     subst
-    (λ (y : Cache). c .words-at .result ≡ wordsAhead y (x .names .now) (x .marks .now) (x .line .now) (x .cap) (x .from) (x .n) (x .k) (x .graph .now) (x .store .now) (x .near))
+    (λ (y : Cache). c .words-at .result ≡ wordsAhead (widthOf (x .kind)) y (x .names .now) (x .marks .now) (x .line .now) (x .cap) (x .from) (x .n) (x .k) (x .graph .now) (x .store .now) (x .near))
     (sym (c .before .before .before .before .cache .given .1))
-    (c .words-at .ensures ∙ (λ i. wordsAt (x .names .now) (x .marks .now) (x .line .now) (x .cap) (x .from) (x .n) (x .k) (x .graph .now) l (x .store .now) (parent i) (one i)))
+    (c .words-at .ensures ∙ (λ i. wordsAt (widthOf (x .kind)) (x .names .now) (x .marks .now) (x .line .now) (x .cap) (x .from) (x .n) (x .k) (x .graph .now) l (x .store .now) (parent i) (one i)))
 
 returns-2 : tie.Need-returns-2
-returns-2 c = let x = c .before .before .before .before .before .before .before .args in subst (λ (y : Cache). _≡_ {A = ℕ} 0 (wordsAhead y (x .names .now) (x .marks .now) (x .line .now) (x .cap) (x .from) (x .n) (x .k) (x .graph .now) (x .store .now) (x .near))) (sym (c .enum-told .given .1)) refl
+returns-2 c = let x = c .before .before .before .before .before .before .before .args in subst (λ (y : Cache). _≡_ {A = ℕ} 0 (wordsAhead (widthOf (x .kind)) y (x .names .now) (x .marks .now) (x .line .now) (x .cap) (x .from) (x .n) (x .k) (x .graph .now) (x .store .now) (x .near))) (sym (c .enum-told .given .1)) refl
 
 pub words-ahead-spec : {M : Type 1} → statement M
 words-ahead-spec =

@@ -3,7 +3,7 @@ use mathlib.Core.Path.{ap, _∙_}
 use mathlib.Core.List.{List}
 use Prim.Native.Nat.{ℕ, _+_}
 use lib.Bits.{bitXor}
-use Rattle.hash.specs.Bytes.{Id, idBytes, u32At}
+use Rattle.hash.specs.Bytes.{Id, u32At, widthOf}
 use Rattle.commitgraph.specs.Graph.{idIn}
 use Rattle.tested.specs.Ahead.{nearAt, startOf, homeWords, rowWords}
 use borrow.Author.Needs.{needs}
@@ -47,8 +47,8 @@ returns c =
     let home = c .before .before .before .before .before .home-words .ensures ∙ ap (λ (s : ℕ). homeWords (x .marks .now) (x .line .now) s) (c .before .before .before .before .before .before .start-of .ensures ∙ ap (λ (y : Id). startOf y (x .cap)) (c .before .before .before .before .before .before .before .id-at .ensures)) in
     let place = c .before .before .before .before .place-words .ensures in
     let body = c .before .before .before .body-words .ensures in
-    let row = c .before .before .row-words .ensures ∙ ap (λ (q : ℕ). rowWords (x .graph .now) (x .l) (x .store .now) q) (c .before .before .before .before .before .before .before .before .near-after .ensures ∙ ap (λ (q : ℕ). nearAt (x .line .now) (x .from) (x .n) (x .k + 2) q) next) in
-    let id = c .be32 .ensures ∙ ap (λ (y : List ℕ). u32At y 0) (c .before .id-at2 .ensures ∙ ap (λ (q : ℕ). idIn idBytes (x .graph .now) (x .l) q) next) in
+    let row = c .before .before .row-words .ensures ∙ ap (λ (q : ℕ). rowWords (widthOf (x .kind)) (x .graph .now) (x .l) (x .store .now) q) (c .before .before .before .before .before .before .before .before .near-after .ensures ∙ ap (λ (q : ℕ). nearAt (x .line .now) (x .from) (x .n) (x .k + 2) q) next) in
+    let id = c .be32 .ensures ∙ ap (λ (y : List ℕ). u32At y 0) (c .before .id-at2 .ensures ∙ ap (λ (q : ℕ). idIn (widthOf (x .kind)) (x .graph .now) (x .l) q) next) in
     λ i. bitXor (bitXor (bitXor (home i) (place i)) (bitXor (body i) (row i))) (id i)
 
 pub words-at-spec : {M : Type 1} → statement M

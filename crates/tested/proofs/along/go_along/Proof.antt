@@ -7,15 +7,16 @@ use Rattle.tested.proofs.Steps.{Along, along-first, along-next, along-s
 use borrow.Author.Needs.{needs}
 use Rattle.tested.proofs.along.go_along.Statement.{statement}
 use Rattle.tested.proofs.along.go_along.Tie as tie
+use Rattle.hash.specs.Bytes.{widthOf}
 
 abbrev Inv-loop : tie.InvT-loop
-Inv-loop names₀ marks₀ levels₀ times₀ line₀ cap from cache graph store n count₀ k₀ names marks levels times line count k = Along cache graph store cap from (held names₀ marks₀ levels₀ times₀ line₀) (held names marks levels times line) n count k
+Inv-loop kind names₀ marks₀ levels₀ times₀ line₀ cap from cache graph store n count₀ k₀ names marks levels times line count k = Along (widthOf kind) cache graph store cap from (held names₀ marks₀ levels₀ times₀ line₀) (held names marks levels times line) n count k
 
 abbrev μ-loop : tie.MeasureT-loop
-μ-loop names₀ marks₀ levels₀ times₀ line₀ cap from cache graph store n count₀ k₀ names marks levels times line count k = cap - k
+μ-loop kind names₀ marks₀ levels₀ times₀ line₀ cap from cache graph store n count₀ k₀ names marks levels times line count k = cap - k
 
 loop-holds : tie.Need-loop-holds Inv-loop μ-loop
-loop-holds c = let x = c .before .before .before .before .before .before .args in along-first (x .cache) (x .graph .now) (x .store .now) (x .cap) (x .from) (held (x .names .now) (x .marks .now) (x .levels .now) (x .times .now) (x .line .now)) (x .n)
+loop-holds c = let x = c .before .before .before .before .before .before .args in along-first (widthOf (x .kind)) (x .cache) (x .graph .now) (x .store .now) (x .cap) (x .from) (held (x .names .now) (x .marks .now) (x .levels .now) (x .times .now) (x .line .now)) (x .n)
 
 same-length : tie.Need-same-length Inv-loop μ-loop
 same-length c = c .before .before .loop .inv .long .names
@@ -45,19 +46,19 @@ enum-told : tie.Need-enum-told Inv-loop μ-loop
 enum-told c = search needs
 
 same-length-6 : tie.Need-same-length-6 Inv-loop μ-loop
-same-length-6 c = c .before .before .before .before .before .before .before .before .before .before .before .read-at .kept .0 ∙ c .before .before .before .before .before .before .before .before .before .before .before .before .before .before .before .before .before .before .before .loop .inv .long .names
+same-length-6 c = c .before .before .before .before .before .before .before .before .before .before .before .read-at .kept .1 .0 ∙ c .before .before .before .before .before .before .before .before .before .before .before .before .before .before .before .before .before .before .before .loop .inv .long .names
 
 same-length-7 : tie.Need-same-length-7 Inv-loop μ-loop
-same-length-7 c = c .before .before .before .before .before .before .before .before .before .before .before .read-at .kept .1 .0 ∙ c .before .before .before .before .before .before .before .before .before .before .before .before .before .before .before .before .before .before .before .loop .inv .long .marks
+same-length-7 c = c .before .before .before .before .before .before .before .before .before .before .before .read-at .kept .1 .1 .0 ∙ c .before .before .before .before .before .before .before .before .before .before .before .before .before .before .before .before .before .before .before .loop .inv .long .marks
 
 same-length-8 : tie.Need-same-length-8 Inv-loop μ-loop
-same-length-8 c = c .before .before .before .before .before .before .before .before .before .before .before .read-at .kept .1 .1 .0 ∙ c .before .before .before .before .before .before .before .before .before .before .before .before .before .before .before .before .before .before .before .loop .inv .long-levels
+same-length-8 c = c .before .before .before .before .before .before .before .before .before .before .before .read-at .kept .1 .1 .1 .0 ∙ c .before .before .before .before .before .before .before .before .before .before .before .before .before .before .before .before .before .before .before .loop .inv .long-levels
 
 same-length-9 : tie.Need-same-length-9 Inv-loop μ-loop
-same-length-9 c = c .before .before .before .before .before .before .before .before .before .before .before .read-at .kept .1 .1 .1 .0 ∙ c .before .before .before .before .before .before .before .before .before .before .before .before .before .before .before .before .before .before .before .loop .inv .long-times
+same-length-9 c = c .before .before .before .before .before .before .before .before .before .before .before .read-at .kept .1 .1 .1 .1 .0 ∙ c .before .before .before .before .before .before .before .before .before .before .before .before .before .before .before .before .before .before .before .loop .inv .long-times
 
 same-length-10 : tie.Need-same-length-10 Inv-loop μ-loop
-same-length-10 c = c .before .before .before .before .before .before .before .before .before .before .before .read-at .kept .1 .1 .1 .1 .0 ∙ c .before .before .before .before .before .before .before .before .before .before .before .before .before .before .before .before .before .before .before .loop .inv .long .line
+same-length-10 c = c .before .before .before .before .before .before .before .before .before .before .before .read-at .kept .1 .1 .1 .1 .1 .0 ∙ c .before .before .before .before .before .before .before .before .before .before .before .before .before .before .before .before .before .before .before .loop .inv .long .line
 
 returns-2 : tie.Need-returns-2 Inv-loop μ-loop
 returns-2 c = along-stuck (c .before .before .before .before .before .before .before .before .before .before .before .before .before .before .before .before .before .before .before .loop .inv) (c .before .before .before .before .before .before .before .before .before .before .before .before .before .before .before .before .before .before .loop-test .taken) (c .before .before .before .before .before .before .before .before .before .before .before .read-at .ensures) (c .enum-told .given .1)
@@ -66,19 +67,19 @@ enum-told-2 : tie.Need-enum-told-2 Inv-loop μ-loop
 enum-told-2 c = search needs
 
 same-length-11 : tie.Need-same-length-11 Inv-loop μ-loop
-same-length-11 c = c .before .before .before .before .before .before .before .before .before .before .before .read-at .kept .0 ∙ c .before .before .before .before .before .before .before .before .before .before .before .before .before .before .before .before .before .before .before .loop .inv .long .names
+same-length-11 c = c .before .before .before .before .before .before .before .before .before .before .before .read-at .kept .1 .0 ∙ c .before .before .before .before .before .before .before .before .before .before .before .before .before .before .before .before .before .before .before .loop .inv .long .names
 
 same-length-12 : tie.Need-same-length-12 Inv-loop μ-loop
-same-length-12 c = c .before .before .before .before .before .before .before .before .before .before .before .read-at .kept .1 .0 ∙ c .before .before .before .before .before .before .before .before .before .before .before .before .before .before .before .before .before .before .before .loop .inv .long .marks
+same-length-12 c = c .before .before .before .before .before .before .before .before .before .before .before .read-at .kept .1 .1 .0 ∙ c .before .before .before .before .before .before .before .before .before .before .before .before .before .before .before .before .before .before .before .loop .inv .long .marks
 
 same-length-13 : tie.Need-same-length-13 Inv-loop μ-loop
-same-length-13 c = c .before .before .before .before .before .before .before .before .before .before .before .read-at .kept .1 .1 .0 ∙ c .before .before .before .before .before .before .before .before .before .before .before .before .before .before .before .before .before .before .before .loop .inv .long-levels
+same-length-13 c = c .before .before .before .before .before .before .before .before .before .before .before .read-at .kept .1 .1 .1 .0 ∙ c .before .before .before .before .before .before .before .before .before .before .before .before .before .before .before .before .before .before .before .loop .inv .long-levels
 
 same-length-14 : tie.Need-same-length-14 Inv-loop μ-loop
-same-length-14 c = c .before .before .before .before .before .before .before .before .before .before .before .read-at .kept .1 .1 .1 .0 ∙ c .before .before .before .before .before .before .before .before .before .before .before .before .before .before .before .before .before .before .before .loop .inv .long-times
+same-length-14 c = c .before .before .before .before .before .before .before .before .before .before .before .read-at .kept .1 .1 .1 .1 .0 ∙ c .before .before .before .before .before .before .before .before .before .before .before .before .before .before .before .before .before .before .before .loop .inv .long-times
 
 same-length-15 : tie.Need-same-length-15 Inv-loop μ-loop
-same-length-15 c = c .before .before .before .before .before .before .before .before .before .before .before .read-at .kept .1 .1 .1 .1 .0 ∙ c .before .before .before .before .before .before .before .before .before .before .before .before .before .before .before .before .before .before .before .loop .inv .long .line
+same-length-15 c = c .before .before .before .before .before .before .before .before .before .before .before .read-at .kept .1 .1 .1 .1 .1 .0 ∙ c .before .before .before .before .before .before .before .before .before .before .before .before .before .before .before .before .before .before .before .loop .inv .long .line
 
 returns-3 : tie.Need-returns-3 Inv-loop μ-loop
 returns-3 c = along-odd (c .before .before .before .before .before .before .before .before .before .before .before .before .before .before .before .before .before .before .before .loop .inv) (c .before .before .before .before .before .before .before .before .before .before .before .before .before .before .before .before .before .before .loop-test .taken) (c .before .before .before .before .before .before .before .before .before .before .before .read-at .ensures) (c .enum-told2 .given .1)
@@ -87,19 +88,19 @@ enum-told-3 : tie.Need-enum-told-3 Inv-loop μ-loop
 enum-told-3 c = search needs
 
 same-length-16 : tie.Need-same-length-16 Inv-loop μ-loop
-same-length-16 c = c .before .before .before .before .before .before .before .before .before .before .before .read-at .kept .0 ∙ c .before .before .before .before .before .before .before .before .before .before .before .before .before .before .before .before .before .before .before .loop .inv .long .names
+same-length-16 c = c .before .before .before .before .before .before .before .before .before .before .before .read-at .kept .1 .0 ∙ c .before .before .before .before .before .before .before .before .before .before .before .before .before .before .before .before .before .before .before .loop .inv .long .names
 
 same-length-17 : tie.Need-same-length-17 Inv-loop μ-loop
-same-length-17 c = c .before .before .before .before .before .before .before .before .before .before .before .read-at .kept .1 .0 ∙ c .before .before .before .before .before .before .before .before .before .before .before .before .before .before .before .before .before .before .before .loop .inv .long .marks
+same-length-17 c = c .before .before .before .before .before .before .before .before .before .before .before .read-at .kept .1 .1 .0 ∙ c .before .before .before .before .before .before .before .before .before .before .before .before .before .before .before .before .before .before .before .loop .inv .long .marks
 
 same-length-18 : tie.Need-same-length-18 Inv-loop μ-loop
-same-length-18 c = c .before .before .before .before .before .before .before .before .before .before .before .read-at .kept .1 .1 .0 ∙ c .before .before .before .before .before .before .before .before .before .before .before .before .before .before .before .before .before .before .before .loop .inv .long-levels
+same-length-18 c = c .before .before .before .before .before .before .before .before .before .before .before .read-at .kept .1 .1 .1 .0 ∙ c .before .before .before .before .before .before .before .before .before .before .before .before .before .before .before .before .before .before .before .loop .inv .long-levels
 
 same-length-19 : tie.Need-same-length-19 Inv-loop μ-loop
-same-length-19 c = c .before .before .before .before .before .before .before .before .before .before .before .read-at .kept .1 .1 .1 .0 ∙ c .before .before .before .before .before .before .before .before .before .before .before .before .before .before .before .before .before .before .before .loop .inv .long-times
+same-length-19 c = c .before .before .before .before .before .before .before .before .before .before .before .read-at .kept .1 .1 .1 .1 .0 ∙ c .before .before .before .before .before .before .before .before .before .before .before .before .before .before .before .before .before .before .before .loop .inv .long-times
 
 same-length-20 : tie.Need-same-length-20 Inv-loop μ-loop
-same-length-20 c = c .before .before .before .before .before .before .before .before .before .before .before .read-at .kept .1 .1 .1 .1 .0 ∙ c .before .before .before .before .before .before .before .before .before .before .before .before .before .before .before .before .before .before .before .loop .inv .long .line
+same-length-20 c = c .before .before .before .before .before .before .before .before .before .before .before .read-at .kept .1 .1 .1 .1 .1 .0 ∙ c .before .before .before .before .before .before .before .before .before .before .before .before .before .before .before .before .before .before .before .loop .inv .long .line
 
 returns-4 : tie.Need-returns-4 Inv-loop μ-loop
 returns-4 c = along-small (c .before .before .before .before .before .before .before .before .before .before .before .before .before .before .before .before .before .before .before .loop .inv) (c .before .before .before .before .before .before .before .before .before .before .before .before .before .before .before .before .before .before .loop-test .taken) (c .before .before .before .before .before .before .before .before .before .before .before .read-at .ensures) (c .enum-told3 .given .1)
@@ -111,7 +112,7 @@ loop-less : tie.Need-loop-less Inv-loop μ-loop
 loop-less c = omega (arith, c .before .before .before .before .before .before .before .before .before .before .before .before .before .before .before .before .before .before .if1 .left)
 
 loop-again : tie.Need-loop-again Inv-loop μ-loop
-loop-again c = along-next (c .before .before .before .before .before .before .before .before .before .before .before .before .before .before .before .before .before .before .before .before .loop .inv) (c .before .before .before .before .before .before .before .before .before .before .before .before .before .before .before .before .before .before .before .loop-test .taken) (c .before .before .before .before .before .before .before .before .before .before .before .before .read-at .ensures) (record { names = c .before .before .before .before .before .before .before .before .before .before .before .before .read-at .kept .0; marks = c .before .before .before .before .before .before .before .before .before .before .before .before .read-at .kept .1 .0; line = c .before .before .before .before .before .before .before .before .before .before .before .before .read-at .kept .1 .1 .1 .1 .0 }) (c .before .before .before .before .before .before .before .before .before .before .before .before .read-at .kept .1 .1 .0) (c .before .before .before .before .before .before .before .before .before .before .before .before .read-at .kept .1 .1 .1 .0) (c .before .m .given .1)
+loop-again c = along-next (c .before .before .before .before .before .before .before .before .before .before .before .before .before .before .before .before .before .before .before .before .loop .inv) (c .before .before .before .before .before .before .before .before .before .before .before .before .before .before .before .before .before .before .before .loop-test .taken) (c .before .before .before .before .before .before .before .before .before .before .before .before .read-at .ensures) (record { names = c .before .before .before .before .before .before .before .before .before .before .before .before .read-at .kept .1 .0; marks = c .before .before .before .before .before .before .before .before .before .before .before .before .read-at .kept .1 .1 .0; line = c .before .before .before .before .before .before .before .before .before .before .before .before .read-at .kept .1 .1 .1 .1 .1 .0 }) (c .before .before .before .before .before .before .before .before .before .before .before .before .read-at .kept .1 .1 .1 .0) (c .before .before .before .before .before .before .before .before .before .before .before .before .read-at .kept .1 .1 .1 .1 .0) (c .before .m .given .1)
 
 same-length-21 : tie.Need-same-length-21 Inv-loop μ-loop
 same-length-21 c = c .before .loop .inv .long .names

@@ -5,6 +5,7 @@ use Rattle.tested.proofs.Steps.{step-bad, step-crowded, step-odd, step-
 use borrow.Author.Needs.{needs}
 use Rattle.tested.proofs.step.read_at.Statement.{statement}
 use Rattle.tested.proofs.step.read_at.Tie as tie
+use Rattle.hash.specs.Bytes.{widthOf}
 
 slot-after-requires : tie.Need-slot-after-requires
 slot-after-requires c κs = search needs
@@ -64,7 +65,7 @@ same-length-5 : tie.Need-same-length-5
 same-length-5 c = search needs
 
 returns : tie.Need-returns
-returns c = let x = c .before .before .before .before .before .before .before .before .before .before .before .before .before .before .before .before .before .before .before .before .before .before .before .before .before .before .before .before .before .before .before .before .before .before .before .before .before .before .before .before .before .before .before .args in step-taken (x .cache) (x .graph .now) (x .cap) (x .from) (held (x .names .now) (x .marks .now) (x .levels .now) (x .times .now) (x .line .now)) (x .n) (x .k) (c .before .before .before .before .before .before .before .before .before .before .before .before .before .before .before .before .before .before .before .before .before .before .before .before .before .before .before .before .before .before .before .before .before .before .before .slot-after .ensures) (c .before .before .before .before .before .before .before .before .before .before .before .before .before .before .before .before .before .before .before .before .before .before .before .before .before .before .before .body-in .ensures) _ _ (sym (c .before .before .before .before .before .before .before .before .before .before .before .before .before .before .before .before .before .before .before .before .before .before .before .before .before .before .readable .ensures) ∙ c .before .before .before .before .before .before .before .before .before .before .before .before .before .before .before .before .before .before .before .before .before .before .before .before .parents .given .1) (c .before .before .before .before .before .before .before .before .before .before .before .before .before .before .before .before .before .before .before .before .judge-in .ensures) _ _ (c .before .before .before .before .before .before .before .before .before .before .before .before .before .before .before .before .before .before .position .given .1) (c .before .before .before .before .before .before .before .before .before .take .ensures)
+returns c = let x = c .before .before .before .before .before .before .before .before .before .before .before .before .before .before .before .before .before .before .before .before .before .before .before .before .before .before .before .before .before .before .before .before .before .before .before .before .before .before .before .before .before .before .before .args in step-taken (widthOf (x .kind)) (x .cache) (x .graph .now) (x .cap) (x .from) (held (x .names .now) (x .marks .now) (x .levels .now) (x .times .now) (x .line .now)) (x .n) (x .k) (c .before .before .before .before .before .before .before .before .before .before .before .before .before .before .before .before .before .before .before .before .before .before .before .before .before .before .before .before .before .before .before .before .before .before .before .slot-after .ensures) (c .before .before .before .before .before .before .before .before .before .before .before .before .before .before .before .before .before .before .before .before .before .before .before .before .before .before .before .body-in .ensures) _ _ (sym (c .before .before .before .before .before .before .before .before .before .before .before .before .before .before .before .before .before .before .before .before .before .before .before .before .before .before .readable .ensures) ∙ c .before .before .before .before .before .before .before .before .before .before .before .before .before .before .before .before .before .before .before .before .before .before .before .before .parents .given .1) (c .before .before .before .before .before .before .before .before .before .before .before .before .before .before .before .before .before .before .before .before .judge-in .ensures) _ _ (c .before .before .before .before .before .before .before .before .before .before .before .before .before .before .before .before .before .before .position .given .1) (c .before .before .before .before .before .before .before .before .before .take .ensures)
 
 same-length-6 : tie.Need-same-length-6
 same-length-6 c = search needs
@@ -76,7 +77,7 @@ same-length-8 : tie.Need-same-length-8
 same-length-8 c = search needs
 
 returns-2 : tie.Need-returns-2
-returns-2 c = let x = c .before .before .before .before .before .before .before .before .before .before .before .before .before .before .before .before .before .before .before .before .before .before .before .before .before .args in step-odd (x .cache) (x .graph .now) (x .cap) (x .from) (held (x .names .now) (x .marks .now) (x .levels .now) (x .times .now) (x .line .now)) (x .n) (x .k) (c .before .before .before .before .before .before .before .before .before .before .before .before .before .before .before .before .before .slot-after .ensures) (c .before .before .before .before .before .before .before .before .before .body-in .ensures) _ _ (sym (c .before .before .before .before .before .before .before .before .readable .ensures) ∙ c .before .before .before .before .before .before .parents .given .1) (c .before .before .judge-in .ensures) (c .enum-told .given .1)
+returns-2 c = let x = c .before .before .before .before .before .before .before .before .before .before .before .before .before .before .before .before .before .before .before .before .before .before .before .before .before .args in step-odd (widthOf (x .kind)) (x .cache) (x .graph .now) (x .cap) (x .from) (held (x .names .now) (x .marks .now) (x .levels .now) (x .times .now) (x .line .now)) (x .n) (x .k) (c .before .before .before .before .before .before .before .before .before .before .before .before .before .before .before .before .before .slot-after .ensures) (c .before .before .before .before .before .before .before .before .before .body-in .ensures) _ _ (sym (c .before .before .before .before .before .before .before .before .readable .ensures) ∙ c .before .before .before .before .before .before .parents .given .1) (c .before .before .judge-in .ensures) (c .enum-told .given .1)
 
 same-length-9 : tie.Need-same-length-9
 same-length-9 c = search needs
@@ -88,7 +89,7 @@ same-length-11 : tie.Need-same-length-11
 same-length-11 c = search needs
 
 returns-3 : tie.Need-returns-3
-returns-3 c = let x = c .before .before .before .before .before .before .before .before .before .before .before .before .before .before .before .before .before .before .before .args in step-bad (x .cache) (x .graph .now) (x .cap) (x .from) (held (x .names .now) (x .marks .now) (x .levels .now) (x .times .now) (x .line .now)) (x .n) (x .k) (c .before .before .before .before .before .before .before .before .before .before .before .slot-after .ensures) (c .before .before .before .body-in .ensures) (sym (c .before .before .readable .ensures) ∙ c .enum-told2 .given .1)
+returns-3 c = let x = c .before .before .before .before .before .before .before .before .before .before .before .before .before .before .before .before .before .before .before .args in step-bad (widthOf (x .kind)) (x .cache) (x .graph .now) (x .cap) (x .from) (held (x .names .now) (x .marks .now) (x .levels .now) (x .times .now) (x .line .now)) (x .n) (x .k) (c .before .before .before .before .before .before .before .before .before .before .before .slot-after .ensures) (c .before .before .before .body-in .ensures) (sym (c .before .before .readable .ensures) ∙ c .enum-told2 .given .1)
 
 same-length-12 : tie.Need-same-length-12
 same-length-12 c = search needs
@@ -100,7 +101,7 @@ same-length-14 : tie.Need-same-length-14
 same-length-14 c = search needs
 
 returns-4 : tie.Need-returns-4
-returns-4 c = let x = c .before .before .before .before .before .before .before .before .before .before .before .before .before .before .before .before .before .before .before .args in step-crowded (x .cache) (x .graph .now) (x .cap) (x .from) (held (x .names .now) (x .marks .now) (x .levels .now) (x .times .now) (x .line .now)) (x .n) (x .k) (c .before .before .before .before .before .before .before .before .before .before .before .slot-after .ensures) (c .before .before .before .body-in .ensures) (sym (c .before .before .readable .ensures) ∙ c .enum-told3 .given .1)
+returns-4 c = let x = c .before .before .before .before .before .before .before .before .before .before .before .before .before .before .before .before .before .before .before .args in step-crowded (widthOf (x .kind)) (x .cache) (x .graph .now) (x .cap) (x .from) (held (x .names .now) (x .marks .now) (x .levels .now) (x .times .now) (x .line .now)) (x .n) (x .k) (c .before .before .before .before .before .before .before .before .before .before .before .slot-after .ensures) (c .before .before .before .body-in .ensures) (sym (c .before .before .readable .ensures) ∙ c .enum-told3 .given .1)
 
 pub read-at-spec : {M : Type 1} → statement M
 read-at-spec =

@@ -1,11 +1,11 @@
 -- `step::take` meets its contract: the pair set down, the parents noted, their cells lowered. Assumes nothing.
-use Rattle.hash.specs.Bytes.{idBytes}
 use Rattle.object.specs.Header.{header}
 use Rattle.walk.specs.Lookup.{pairOf}
 use Rattle.tested.proofs.Taken.{take-count, take-none}
 use borrow.Author.Needs.{needs}
 use Rattle.tested.proofs.step.take.Statement.{statement}
 use Rattle.tested.proofs.step.take.Tie as tie
+use Rattle.hash.specs.Bytes.{widthOf}
 
 set-pair-requires : tie.Need-set-pair-requires
 set-pair-requires c κs = search needs
@@ -38,7 +38,7 @@ same-length-5 : tie.Need-same-length-5
 same-length-5 c = search needs
 
 returns : tie.Need-returns
-returns c = let x = c .before .before .before .before .before .before .before .before .before .before .before .before .before .before .before .before .before .before .before .before .before .before .before .before .before .before .before .before .before .before .before .before .before .args in take-count (x .cap) (x .from) (x .names .now) (x .marks .now) (x .levels .now) (x .times .now) (x .line .now) (x .n) (x .slot) (pairOf (x .pair)) (header idBytes (x .body .now)) (x .parents) (c .before .before .before .before .before .before .before .before .before .before .before .before .before .before .before .before .before .before .before .before .before .before .before .before .set-pair .ensures .0) (c .before .before .before .before .before .before .before .before .before .before .before .before .before .before .before .before .before .before .before .before .before .before .before .before .set-pair .ensures .1) (c .before .before .before .before .before .before .before .before .before .before .before .before .before .before .before .before .before .note-parents .ensures) _ (c .before .before .before .before .before .before .before .before .before .grown .given .1) (c .before .before .lower-parents .ensures)
+returns c = let x = c .before .before .before .before .before .before .before .before .before .before .before .before .before .before .before .before .before .before .before .before .before .before .before .before .before .before .before .before .before .before .before .before .before .args in take-count (widthOf (x .kind)) (x .cap) (x .from) (x .names .now) (x .marks .now) (x .levels .now) (x .times .now) (x .line .now) (x .n) (x .slot) (pairOf (x .pair)) (header (widthOf (x .kind)) (x .body .now)) (x .parents) (c .before .before .before .before .before .before .before .before .before .before .before .before .before .before .before .before .before .before .before .before .before .before .before .before .set-pair .ensures .0) (c .before .before .before .before .before .before .before .before .before .before .before .before .before .before .before .before .before .before .before .before .before .before .before .before .set-pair .ensures .1) (c .before .before .before .before .before .before .before .before .before .before .before .before .before .before .before .before .before .note-parents .ensures) _ (c .before .before .before .before .before .before .before .before .before .grown .given .1) (c .before .before .lower-parents .ensures)
 
 same-length-6 : tie.Need-same-length-6
 same-length-6 c = search needs
@@ -56,7 +56,7 @@ same-length-10 : tie.Need-same-length-10
 same-length-10 c = search needs
 
 returns-2 : tie.Need-returns-2
-returns-2 c = let x = c .before .before .before .before .before .before .before .before .before .before .before .before .before .before .before .before .before .before .before .before .before .before .before .before .args in take-none (x .cap) (x .from) (x .names .now) (x .marks .now) (x .levels .now) (x .times .now) (x .line .now) (x .n) (x .slot) (pairOf (x .pair)) (header idBytes (x .body .now)) (x .parents) (c .before .before .before .before .before .before .before .before .before .before .before .before .before .before .before .set-pair .ensures .0) (c .before .before .before .before .before .before .before .before .before .before .before .before .before .before .before .set-pair .ensures .1) (c .before .before .before .before .before .before .before .before .note-parents .ensures) (c .enum-told .given .1)
+returns-2 c = let x = c .before .before .before .before .before .before .before .before .before .before .before .before .before .before .before .before .before .before .before .before .before .before .before .before .args in take-none (widthOf (x .kind)) (x .cap) (x .from) (x .names .now) (x .marks .now) (x .levels .now) (x .times .now) (x .line .now) (x .n) (x .slot) (pairOf (x .pair)) (header (widthOf (x .kind)) (x .body .now)) (x .parents) (c .before .before .before .before .before .before .before .before .before .before .before .before .before .before .before .set-pair .ensures .0) (c .before .before .before .before .before .before .before .before .before .before .before .before .before .before .before .set-pair .ensures .1) (c .before .before .before .before .before .before .before .before .note-parents .ensures) (c .enum-told .given .1)
 
 pub take-spec : {M : Type 1} → statement M
 take-spec =

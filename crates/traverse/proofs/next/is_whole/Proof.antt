@@ -7,13 +7,13 @@ use Rattle.traverse.proofs.next.is_whole.Statement.{statement}
 use Rattle.traverse.proofs.next.is_whole.Tie as tie
 
 returns : tie.Need-returns
-returns c = record { shut = λ e. refl; alive = λ e i h. clash (c .if1 .taken) (ap not e) }
+returns c = record { shut = λ e. refl; alive = λ e i k h. clash (c .if1 .taken) (ap not e) }
 
 has-room-requires : tie.Need-has-room-requires
 has-room-requires c κs = search needs
 
 returns-2 : tie.Need-returns-2
-returns-2 c = record { shut = λ e. clash (ap not e) (c .before .before .if1 .left); alive = λ e i h. c .has-room .ensures i h }
+returns-2 c = record { shut = λ e. clash (ap not e) (c .before .before .if1 .left); alive = λ e i k h. c .has-room .ensures i k h }
 
 pub is-whole-spec : {M : Type 1} → statement M
 is-whole-spec = tie.close (tie.spec returns has-room-requires returns-2)

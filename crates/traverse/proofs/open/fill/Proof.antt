@@ -1,5 +1,5 @@
 -- `open::fill` meets its contract: emptied memory reads as the state before any tip, and then the tips come in. Assumes nothing.
-use mathlib.Core.Path.{ap, _∙_}
+use mathlib.Core.Path.{refl, ap, _∙_}
 use Rattle.walk.specs.Settings.{byTime, newestFirst}
 use mathlib.Core.Bool.{_&&_}
 use Rattle.opening.specs.Checks.{inputOf}
@@ -39,7 +39,7 @@ same-length-4 c = search needs
 
 returns : tie.Need-returns
 returns c = let x = c .before .before .before .before .before .before .before .before .before .before .before .before .before .before .before .before .before .before .before .before .before .before .before .before .before .before .before .args in
-    fills (inputOf (x .store .now) (x .graph .now) (x .tips .now) (x .hidden .now) (x .excluded .now) (x .settings)) (c .before .before .before .before .before .before .before .before .before .before .before .before .before .before .before .before .before .before .capacity .ensures (x .excluded .now) (x .settings)) (c .before .before .before .before .before .before .before .before .before .before .before .before .before .before .before .before .start .ensures) (c .before .before .before .before .before .before .before .before .before .before .before .before .before .before .before .before .start .kept .0)
+    fills (inputOf (x .store .now) (x .graph .now) (x .tips .now) (x .hidden .now) (x .excluded .now) (x .settings)) (c .before .before .before .before .before .before .before .before .before .before .before .before .before .before .before .before .before .before .capacity .ensures (x .excluded .now) (x .settings) refl) (c .before .before .before .before .before .before .before .before .before .before .before .before .before .before .before .before .start .ensures) (c .before .before .before .before .before .before .before .before .before .before .before .before .before .before .before .before .start .kept .0)
     (c .before .before .before .before .before .before .before .before .before .before .before .before .first-record .ensures ∙ ap (λ (f : Fixed). freshRecord (byTime (x .settings)) (byTime (x .settings) && newestFirst (x .settings .sorting)) (c .before .before .before .before .before .before .before .before .before .before .before .before .before .before .before .before .before .before .capacity .result) f) (c .before .before .before .before .before .before .before .before .before .before .before .before .before .fixed-for .ensures)) (c .before .before .before .before .before .before .before .filtered .ensures)
 
 pub fill-spec : {M : Type 1} → statement M

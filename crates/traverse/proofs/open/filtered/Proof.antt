@@ -6,13 +6,14 @@ use Rattle.traverse.proofs.OpenLoop.{Turns, turns-start, turns-next, tu
 use borrow.Author.Needs.{needs}
 use Rattle.traverse.proofs.open.filtered.Statement.{statement}
 use Rattle.traverse.proofs.open.filtered.Tie as tie
+use Rattle.hash.specs.Bytes.{widthOf}
 
 abbrev Inv-loop : tie.InvT-loop
-Inv-loop names₀ marks₀ times₀ line₀ store tips excluded sorting n r₀ k₀ names marks times line r k =
-    Turns store tips excluded sorting (mem names₀ marks₀ times₀ line₀) r₀ n (mem names marks times line) r k
+Inv-loop kind names₀ marks₀ times₀ line₀ store tips excluded sorting n r₀ k₀ names marks times line r k =
+    Turns (widthOf kind) store tips excluded sorting (mem names₀ marks₀ times₀ line₀) r₀ n (mem names marks times line) r k
 
 abbrev μ-loop : tie.MeasureT-loop
-μ-loop names₀ marks₀ times₀ line₀ store tips excluded sorting n r₀ k₀ names marks times line r k = n - k
+μ-loop kind names₀ marks₀ times₀ line₀ store tips excluded sorting n r₀ k₀ names marks times line r k = n - k
 
 ids-in-requires : tie.Need-ids-in-requires Inv-loop μ-loop
 ids-in-requires c κs = search needs

@@ -10,7 +10,7 @@ parse-requires : tie.Need-parse-requires
 parse-requires c κs = search needs
 
 returns : tie.Need-returns
-returns c = ap {B = Fixed} (λ (l : Layout). record { layout = l }) (c .parse .ensures)
+returns c = let x = c .before .before .args in ap {B = Fixed} (λ (l : Layout). record { layout = l; kind = x .kind }) (c .parse .ensures)
 
 pub fixed-for-spec : {M : Type 1} → statement M
 fixed-for-spec = tie.close (tie.spec parse-requires returns)

@@ -5,6 +5,7 @@ use Rattle.traverse.proofs.OpenTips.{tip-skipped, tip-taken}
 use borrow.Author.Needs.{needs}
 use Rattle.traverse.proofs.open.take_tip.Statement.{statement}
 use Rattle.traverse.proofs.open.take_tip.Tie as tie
+use Rattle.hash.specs.Bytes.{widthOf}
 
 is-among-requires : tie.Need-is-among-requires
 is-among-requires c κs = search needs
@@ -39,7 +40,7 @@ returns-2 c =
     let s = a .before .before .before .before .before .before .before .before in
     let i = s .before .before .before in
     let x = c .before .before .before .before .before .before .before .before .before .before .before .before .before .before .before .before .before .before .before .before .before .before .args in
-    tip-taken (x .store .now) (x .excluded .now) (x .sorting) (sym (i .before .is-among .ensures) ∙ i .if1 .left) (s .see .ensures) (a .before .tip-admission .ensures) (a .add-to-queue .ensures)
+    tip-taken (widthOf (x .kind)) (x .store .now) (x .excluded .now) (x .sorting) (sym (i .before .is-among .ensures) ∙ i .if1 .left) (s .see .ensures) (a .before .tip-admission .ensures) (a .add-to-queue .ensures)
 
 pub take-tip-spec : {M : Type 1} → statement M
 take-tip-spec =

@@ -1,17 +1,24 @@
 -- `visit::next::end_body` meets its contract: an answer for each end of the reading. Assumes nothing.
 use mathlib.Core.Path.{sym, ap, _∙_}
 use Rattle.reading.specs.declared.body.BodyEnd.{BodyEnd}
-use Rattle.visit.specs.Taking.{endGiven}
-use Rattle.hash.specs.Bytes.{idBytes}
+use mathlib.Core.List.{List}
+use Prim.Native.Nat.{ℕ}
+use Rattle.walk.specs.declared.Outcome.the-variants.{Commit}
+use Rattle.walk.specs.declared.MaybeLevel.the-variants.{NoGeneration}
+use Rattle.visit.specs.Taking.{gave, endGiven}
 use Rattle.object.specs.Ids.{idIn}
 use Rattle.date.specs.declared.Zone.the-variants.{NoZone}
 use Rattle.visit.proofs.Past.{unreadable-not-whole, crowded-not-whole}
 use borrow.Author.Needs.{needs}
 use Rattle.visit.proofs.next.end_body.Statement.{statement}
 use Rattle.visit.proofs.next.end_body.Tie as tie
+use Rattle.hash.specs.Bytes.{widthOf}
 
 enum-told : tie.Need-enum-told
 enum-told c = search needs
+
+id-given-requires : tie.Need-id-given-requires
+id-given-requires c κs = search needs
 
 zone-past-requires : tie.Need-zone-past-requires
 zone-past-requires c κs = search needs
@@ -33,12 +40,14 @@ refuse-requires-2 c κs = search needs
 
 returns : tie.Need-returns
 returns c =
-    let a = c .before .before .before .before .before .args in
+    let a = c .before .before .before .before .before .before .args in
     let z = c .before .zone-past .result in
     record {
       zone = z;
       right = λ g h e. c .before .zone-past .ensures g h;
-      is = c .give .ensures ∙ ap (λ (e : BodyEnd). endGiven e (idIn idBytes (a .id .bytes)) (a .seen .parents) (a .time) z (a .seen .after)) (sym (c .before .before .enum-told .given .1));
+      is = c .give .ensures
+          ∙ ap (λ (y : List ℕ). gave Commit y (a .seen .parents) NoGeneration (a .time) z (a .seen .after)) (c .before .before .id-given .ensures)
+          ∙ ap (λ (e : BodyEnd). endGiven e (idIn (widthOf (a .kind)) (a .id .bytes)) (a .seen .parents) (a .time) z (a .seen .after)) (sym (c .before .before .before .enum-told .given .1));
     }
 
 returns-2 : tie.Need-returns-2
@@ -48,7 +57,7 @@ returns-2 c =
     record {
       zone = NoZone;
       right = λ g h k. absurd (unreadable-not-whole (sym e ∙ k));
-      is = c .refuse .ensures ∙ ap (λ (e : BodyEnd). endGiven e (idIn idBytes (a .id .bytes)) (a .seen .parents) (a .time) NoZone (a .seen .after)) (sym e);
+      is = c .refuse .ensures ∙ ap (λ (e : BodyEnd). endGiven e (idIn (widthOf (a .kind)) (a .id .bytes)) (a .seen .parents) (a .time) NoZone (a .seen .after)) (sym e);
     }
 
 returns-3 : tie.Need-returns-3
@@ -58,7 +67,7 @@ returns-3 c =
     record {
       zone = NoZone;
       right = λ g h k. absurd (crowded-not-whole (sym e ∙ k));
-      is = c .refuse2 .ensures ∙ ap (λ (e : BodyEnd). endGiven e (idIn idBytes (a .id .bytes)) (a .seen .parents) (a .time) NoZone (a .seen .after)) (sym e);
+      is = c .refuse2 .ensures ∙ ap (λ (e : BodyEnd). endGiven e (idIn (widthOf (a .kind)) (a .id .bytes)) (a .seen .parents) (a .time) NoZone (a .seen .after)) (sym e);
     }
 
 pub end-body-spec : {M : Type 1} → statement M
@@ -66,6 +75,7 @@ end-body-spec =
     tie.close
     (tie.spec
     enum-told
+    id-given-requires
     zone-past-requires
     give-requires
     enum-told-2

@@ -1,5 +1,4 @@
 -- `visit::next::end_walk` meets its contract: an id of zeros is no id. Assumes nothing.
-use Rattle.object.specs.Ids.{idIn}
 use borrow.Author.Needs.{needs}
 use Rattle.visit.proofs.next.end_walk.Statement.{statement}
 use Rattle.visit.proofs.next.end_walk.Tie as tie
@@ -8,7 +7,6 @@ give-requires : tie.Need-give-requires
 give-requires c κs = search needs
 
 returns : tie.Need-returns
-unfolding idIn
 returns c = c .give .ensures
 
 pub end-walk-spec : {M : Type 1} → statement M

@@ -3,6 +3,9 @@ use borrow.Author.Needs.{needs}
 use Rattle.visit.proofs.next.give_row.Statement.{statement}
 use Rattle.visit.proofs.next.give_row.Tie as tie
 
+id-given-requires : tie.Need-id-given-requires
+id-given-requires c κs = search needs
+
 level-shown-requires : tie.Need-level-shown-requires
 level-shown-requires c κs = search needs
 
@@ -13,7 +16,7 @@ give-requires : tie.Need-give-requires
 give-requires c κs = search needs
 
 returns : tie.Need-returns
-returns c = rw (c .give .ensures, c .before .before .level-shown .ensures, c .before .time-given .ensures)
+returns c = rw (c .give .ensures, c .before .before .before .id-given .ensures, c .before .before .level-shown .ensures, c .before .time-given .ensures)
 
 pub give-row-spec : {M : Type 1} → statement M
-give-row-spec = tie.close (tie.spec level-shown-requires time-given-requires give-requires returns)
+give-row-spec = tie.close (tie.spec id-given-requires level-shown-requires time-given-requires give-requires returns)

@@ -1,5 +1,4 @@
 -- `visit::next::refuse` meets its contract: an id of zeros is no id. Assumes nothing.
-use Rattle.object.specs.Ids.{idIn}
 use borrow.Author.Needs.{needs}
 use Rattle.visit.proofs.next.refuse.Statement.{statement}
 use Rattle.visit.proofs.next.refuse.Tie as tie
@@ -8,7 +7,6 @@ give-requires : tie.Need-give-requires
 give-requires c κs = search needs
 
 returns : tie.Need-returns
-unfolding idIn
 returns c = c .give .ensures
 
 pub refuse-spec : {M : Type 1} → statement M

@@ -1,4 +1,8 @@
 -- `visit::next::take_body` meets its contract: the body's parents are visited, and the answer is of the record after them. Assumes nothing.
+use mathlib.Core.Path.{_≡_}
+use lib.ListN.{length}
+use Rattle.object.specs.Ids.{idRoom}
+use Rattle.reading.proofs.ByValue.{id-in-kind}
 use Rattle.visit.proofs.Takings.{takes-body}
 use borrow.Author.Needs.{needs}
 use Rattle.visit.proofs.next.take_body.Statement.{statement}
@@ -31,8 +35,12 @@ same-length-5 c = search needs
 same-length-6 : tie.Need-same-length-6
 same-length-6 c = search needs
 
+-- an id by value has 32 bytes
+room : (c : tie.Start) → length (c .args .id .bytes) ≡ idRoom
+room c = search needs
+
 returns : tie.Need-returns
-returns c = takes-body _ (c .before .before .before .before .before .before .before .before .before .before .before .before .before .visit-body .ensures) (rw (c .before .time-given .ensures) at (c .end-body .ensures))
+returns c = let x = c .before .before .before .before .before .before .before .before .before .before .before .before .before .before .before .before .before .before .before .before .before .before .before .before .before .before .before .before .before .args in takes-body _ (c .before .before .before .before .before .before .before .before .before .before .before .before .before .visit-body .ensures) (rw (c .before .time-given .ensures) at (c .end-body .ensures)) (id-in-kind (x .settings .kind) (x .id .bytes) (room (c .before .before .before .before .before .before .before .before .before .before .before .before .before .before .before .before .before .before .before .before .before .before .before .before .before .before .before .before .before)))
 
 pub take-body-spec : {M : Type 1} → statement M
 take-body-spec =

@@ -1,7 +1,10 @@
 -- `visit::next::take_cached` meets its contract: the row's parents were visited, or its list is corrupt and nothing was changed: then the graph is dropped,
 -- and the commit goes back. Assumes nothing.
-use mathlib.Core.Path.{_∙_}
+use lib.ListN.{length}
+use Rattle.object.specs.Ids.{idRoom}
+use mathlib.Core.Path.{_≡_, _∙_}
 use borrow.Author.Needs.{needs}
+use Rattle.reading.proofs.ByValue.{id-in-kind}
 use Rattle.visit.proofs.Takings.{cached-visited, cached-torn}
 use Rattle.visit.proofs.next.take_cached.Statement.{statement}
 use Rattle.visit.proofs.next.take_cached.Tie as tie
@@ -42,8 +45,12 @@ same-length-5 c = c .before .before .before .before .before .before .before .bef
 same-length-6 : tie.Need-same-length-6
 same-length-6 c = c .before .before .before .before .before .before .before .before .before .before .before .before .before .before .before .visit-cached .kept .1 .1 .1 .1 .1 .1 .1 .1 .1 .0
 
+-- an id by value has 32 bytes
+room : (c : tie.Start) → length (c .args .first .id .bytes) ≡ idRoom
+room c = search needs
+
 returns : tie.Need-returns
-returns c = cached-visited (c .before .before .before .before .before .before .before .before .before .before .before .before .before .before .before .visit-cached .ensures) (c .before .before .after .given .1) (c .give-row .ensures)
+returns c = let x = c .before .before .before .before .before .before .before .before .before .before .before .before .before .before .before .before .before .before .before .before .before .before .before .before .before .before .before .before .before .before .args in cached-visited (c .before .before .before .before .before .before .before .before .before .before .before .before .before .before .before .visit-cached .ensures) (id-in-kind (x .settings .kind) (x .first .id .bytes) (room (c .before .before .before .before .before .before .before .before .before .before .before .before .before .before .before .before .before .before .before .before .before .before .before .before .before .before .before .before .before .before))) (c .before .before .after .given .1) (c .give-row .ensures)
 
 same-length-7 : tie.Need-same-length-7
 same-length-7 c = c .before .before .before .before .before .before .before .before .before .before .before .take-stored .kept .1 .1 .0 ∙ c .before .before .before .before .before .before .before .before .before .before .before .before .before .before .before .before .before .before .before .before .before .before .before .before .before .before .before .before .before .before .before .before .before .before .before .before .visit-cached .kept .1 .1 .1 .1 .0

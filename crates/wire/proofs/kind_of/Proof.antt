@@ -1,12 +1,12 @@
--- `graphwire::kind_of` meets its contract: 32 or any other number. Assumes nothing.
+-- `wire::kind_of` meets its contract: 32 or any other number. Assumes nothing.
 use mathlib.Core.Path.{sym, ap}
 use mathlib.Core.Bool.{Bool}
 use borrow.Author.Tests.{eq-eqb, ne-eqb}
 use Rattle.hash.specs.Bytes.{pick}
 use Rattle.hash.specs.declared.Kind.the-variants.{Sha1, Sha256}
-use Rattle.graphwire.specs.Wire.{kindOf}
-use Rattle.graphwire.proofs.kind_of.Statement.{statement}
-use Rattle.graphwire.proofs.kind_of.Tie as tie
+use Rattle.wire.specs.Words.{kindOf}
+use Rattle.wire.proofs.kind_of.Statement.{statement}
+use Rattle.wire.proofs.kind_of.Tie as tie
 
 returns : tie.Need-returns
 unfolding kindOf
