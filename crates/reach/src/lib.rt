@@ -6,6 +6,7 @@ mod notes;
 mod seek;
 
 pub use notes::Grown;
+pub use notes::note;
 pub use notes::note_list;
 pub use notes::note_parents;
 pub use seek::Sought;

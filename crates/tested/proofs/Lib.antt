@@ -1,3 +1,4 @@
+pub mod Parents
 pub mod Taking
 pub mod Fresh
 pub mod Taken

@@ -2,3 +2,4 @@ pub mod Passes
 pub mod Whole
 pub mod Instances
 pub mod Ahead
+pub mod Noting

@@ -4,6 +4,7 @@
 // Every function is total and safe on any bytes and numbers.
 mod ahead;
 mod along;
+mod noting;
 mod step;
 mod whole;
 

@@ -1,5 +1,6 @@
 // One commit of the line is read: its body once, its row beside it, its parents noted, and their cells lowered by its pair.
 use crate::ahead;
+use crate::noting;
 use commit::Cache;
 use commitgraph::Layout;
 use date::Seconds;
@@ -53,8 +54,8 @@ fn judge_in(
     judging::judge(kind, cache, graph, store, id, near, body, n, seconds)
 }
 
-// The commit in a slot has this pair and so many parents in its body: the pair is set down, the parents are noted after the n of the line, and
-// their cells lowered.
+// The commit in a slot has this pair and so many parents in its body: the parents are noted after the n of the line, the pair is set down, and
+// their cells lowered. (The pair's two places are lines of memory that nothing has touched before. Set down first, noting would wait for them.)
 fn take(
     kind: Kind,
     names: &mut [u8],
@@ -75,21 +76,10 @@ fn take(
 ) -> Step
     ensures { λ r. ⌜ Takes (widthOf kind) cap from (held (now (names .entry)) (now (marks .entry)) (now (levels .entry)) (now (times .entry)) (now (line .entry))) (held (now (names .exit)) (now (marks .exit)) (now (levels .exit)) (now (times .exit)) (now (line .exit))) n slot (pairOf pair) (header (widthOf kind) (now (body .entry))) parents r ⌝ }
 {
-    falling::set_pair(levels, times, slot, pair);
-    let grown = reach::note_parents(
-        kind,
-        names,
-        marks,
-        line,
-        cap,
-        false,
-        from,
-        Grown::Count(n),
-        body,
-        parents,
-    );
+    let grown = noting::note_parents(kind, names, marks, line, cap, from, n, body, parents);
     match grown {
         Grown::Count(m) => {
+            falling::set_pair(levels, times, slot, pair);
             falling::lower_parents(
                 kind,
                 names,

@@ -1,4 +1,4 @@
--- `step::take` meets its contract: the pair set down, the parents noted, their cells lowered. Assumes nothing.
+-- `step::take` meets its contract: the parents noted, the pair set down, their cells lowered. Assumes nothing.
 use Rattle.object.specs.Header.{header}
 use Rattle.walk.specs.Lookup.{pairOf}
 use Rattle.tested.proofs.Taken.{take-count, take-none}
@@ -7,14 +7,14 @@ use Rattle.tested.proofs.step.take.Statement.{statement}
 use Rattle.tested.proofs.step.take.Tie as tie
 use Rattle.hash.specs.Bytes.{widthOf}
 
-set-pair-requires : tie.Need-set-pair-requires
-set-pair-requires c κs = search needs
-
 note-parents-requires : tie.Need-note-parents-requires
 note-parents-requires c κs = search needs
 
 enum-known-grown : tie.Need-enum-known-grown
 enum-known-grown c = search needs
+
+set-pair-requires : tie.Need-set-pair-requires
+set-pair-requires c κs = search needs
 
 lower-parents-requires : tie.Need-lower-parents-requires
 lower-parents-requires c κs = search needs
@@ -38,7 +38,7 @@ same-length-5 : tie.Need-same-length-5
 same-length-5 c = search needs
 
 returns : tie.Need-returns
-returns c = let x = c .before .before .before .before .before .before .before .before .before .before .before .before .before .before .before .before .before .before .before .before .before .before .before .before .before .before .before .before .before .before .before .before .before .args in take-count (widthOf (x .kind)) (x .cap) (x .from) (x .names .now) (x .marks .now) (x .levels .now) (x .times .now) (x .line .now) (x .n) (x .slot) (pairOf (x .pair)) (header (widthOf (x .kind)) (x .body .now)) (x .parents) (c .before .before .before .before .before .before .before .before .before .before .before .before .before .before .before .before .before .before .before .before .before .before .before .before .set-pair .ensures .0) (c .before .before .before .before .before .before .before .before .before .before .before .before .before .before .before .before .before .before .before .before .before .before .before .before .set-pair .ensures .1) (c .before .before .before .before .before .before .before .before .before .before .before .before .before .before .before .before .before .note-parents .ensures) _ (c .before .before .before .before .before .before .before .before .before .grown .given .1) (c .before .before .lower-parents .ensures)
+returns c = let x = c .before .before .before .before .before .before .before .before .before .before .before .before .before .before .before .before .before .before .before .before .before .before .before .before .before .before .before .before .before .before .before .before .before .args in take-count (widthOf (x .kind)) (x .cap) (x .from) (x .names .now) (x .marks .now) (x .levels .now) (x .times .now) (x .line .now) (x .n) (x .slot) (pairOf (x .pair)) (header (widthOf (x .kind)) (x .body .now)) (x .parents) (c .before .before .before .before .before .before .before .before .before .before .before .before .before .before .before .before .before .before .before .before .before .before .before .note-parents .ensures) (c .before .before .before .before .before .before .before .before .before .before .before .set-pair .ensures .0) (c .before .before .before .before .before .before .before .before .before .before .before .set-pair .ensures .1) _ (c .before .before .before .before .before .before .before .before .before .before .before .before .before .before .before .grown .given .1) (c .before .before .lower-parents .ensures)
 
 same-length-6 : tie.Need-same-length-6
 same-length-6 c = search needs
@@ -49,22 +49,16 @@ same-length-7 c = search needs
 same-length-8 : tie.Need-same-length-8
 same-length-8 c = search needs
 
-same-length-9 : tie.Need-same-length-9
-same-length-9 c = search needs
-
-same-length-10 : tie.Need-same-length-10
-same-length-10 c = search needs
-
 returns-2 : tie.Need-returns-2
-returns-2 c = let x = c .before .before .before .before .before .before .before .before .before .before .before .before .before .before .before .before .before .before .before .before .before .before .before .before .args in take-none (widthOf (x .kind)) (x .cap) (x .from) (x .names .now) (x .marks .now) (x .levels .now) (x .times .now) (x .line .now) (x .n) (x .slot) (pairOf (x .pair)) (header (widthOf (x .kind)) (x .body .now)) (x .parents) (c .before .before .before .before .before .before .before .before .before .before .before .before .before .before .before .set-pair .ensures .0) (c .before .before .before .before .before .before .before .before .before .before .before .before .before .before .before .set-pair .ensures .1) (c .before .before .before .before .before .before .before .before .note-parents .ensures) (c .enum-told .given .1)
+returns-2 c = let x = c .before .before .before .before .before .before .before .before .before .before .before .before .before .before .before .before .before .before .args in take-none (widthOf (x .kind)) (x .cap) (x .from) (x .names .now) (x .marks .now) (x .levels .now) (x .times .now) (x .line .now) (x .n) (x .slot) (pairOf (x .pair)) (header (widthOf (x .kind)) (x .body .now)) (x .parents) (c .before .before .before .before .before .before .before .before .note-parents .ensures) (c .enum-told .given .1)
 
 pub take-spec : {M : Type 1} → statement M
 take-spec =
     tie.close
     (tie.spec
-    set-pair-requires
     note-parents-requires
     enum-known-grown
+    set-pair-requires
     lower-parents-requires
     enum-told
     same-length
@@ -76,6 +70,4 @@ take-spec =
     same-length-6
     same-length-7
     same-length-8
-    same-length-9
-    same-length-10
     returns-2)
