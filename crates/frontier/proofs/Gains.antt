@@ -2,7 +2,7 @@
 -- way the mark of one id changes and no other. Assumes nothing.
 use mathlib.Core.Path.{_≡_, refl, sym, _∙_, ap, subst}
 use mathlib.Core.Logic.{_⊎_, inl, inr, ⊎-elim}
-use Prim.Native.Nat.{ℕ, _≤_, _<_}
+use Prim.Native.Nat.{ℕ, _*_, _≤_, _<_}
 use mathlib.Core.Bool.{Bool, true, false, not}
 use mathlib.Core.List.{List}
 use native.Mathlib.Omega.{arith}
@@ -10,13 +10,14 @@ use lib.Dec.{eqb}
 use lib.ListN.{getD, set}
 use lib.Seq.{getD-set-other}
 use borrow.Author.Tests.{eqb-true, not-false}
-use Rattle.hash.specs.Bytes.{Id}
+use Rattle.hash.specs.Bytes.{Id, setDown}
 use Rattle.hash.proofs.Tests.{byCases, clash}
 use Rattle.hashtable.specs.Marks.{live}
 use Rattle.hashtable.specs.Table.{idOf, liveAt, Holds, Table, markFor, Finds, Inserts}
 use Rattle.hashtable.specs.declared.table.Slot.{Slot}
 use Rattle.hashtable.specs.declared.table.Slot.the-variants.{Found, Vacant, Full as TableFull}
 use Rattle.hashtable.proofs.TableIds.{same?}
+use Rattle.hashtable.proofs.TableInsert.{as-vacant as put-in}
 use Rattle.hashtable.proofs.TableKept.{remark, remark-holds}
 use Rattle.hashtable.proofs.TableView.{mark-held, remark-this, remark-other, vacant-mark, new-holds, new-mark, other-mark}
 use Rattle.frontier.specs.Bits.{isPainted, withBits}
@@ -71,32 +72,26 @@ told-as : {width : ℕ} {names marks names′ marks′ : List ℕ} {cap : ℕ} {
 told-as {width} true k g e = (g, e)
 told-as {width} false k g e = (g, e)
 
--- ---- the three answers of the table
+-- ---- the three answers of a search
 
-module _ {width : ℕ} {names marks names₁ marks₁ : List ℕ} {cap : ℕ} {x : Id} (bits first : ℕ) {s : Slot} (z : first ≡ withBits bits 0) (i : Inserts width false names marks names₁ marks₁ cap x first s) where
-  inserts : Inserts width false names marks names₁ marks₁ cap x (withBits bits 0) s
-  inserts = subst (λ (n : ℕ). Inserts width false names marks names₁ marks₁ cap x n s) z i
-
-  pub as-found : {marks′ : List ℕ} {known : Bool} {r : Added} (k : ℕ) → s ≡ Found k → known ≡ isPainted (getD marks₁ k 0) → marks′ ≡ set marks₁ k (withBits bits (getD marks₁ k 0))
-      → (k < mostSlots → r ≡ addedAt known k) → AddsMark width names marks names₁ marks′ cap x bits r
-  as-found {marks′} {known} {r} k e p q f = record {
+module _ {width : ℕ} {names marks : List ℕ} {cap : ℕ} {x : Id} {s : Slot} (bits : ℕ) (f : Finds width false names marks cap x s) where
+  pub as-found : {marks′ : List ℕ} {known : Bool} {r : Added} (k : ℕ) → s ≡ Found k → known ≡ isPainted (getD marks k 0) → marks′ ≡ set marks k (withBits bits (getD marks k 0))
+      → (k < mostSlots → r ≡ addedAt known k) → AddsMark width names marks names marks′ cap x bits r
+  as-found {marks′} {known} {r} k e p q a = record {
     right = λ t b c.
-        let h : Holds width false names marks cap x k = i .finds .hit k e in
-        let n : names₁ ≡ names = i .found k e .0 in
-        let m : marks₁ ≡ marks = i .found k e .1 in
-        let o : marks′ ≡ set marks k (withBits bits (getD marks k 0)) = q ∙ ap (λ (l : List ℕ). set l k (withBits bits (getD l k 0))) m in
-        let g : Gained width names marks names₁ marks′ cap x bits k =
-        subst (λ (l : List ℕ). Gained width names marks l marks′ cap x bits k) (sym n) (subst (λ (l : List ℕ). Gained width names marks names l cap x bits k) (sym o) (raised bits t b k h)) in
-        subst (λ (a : Added). ToldAdded width names marks names₁ marks′ cap x bits a) (sym (f (omega (arith, h .low))))
-        (told-as known k g (sym (p ∙ ap (λ (l : List ℕ). isPainted (getD l k 0)) m)));
+        let h : Holds width false names marks cap x k = f .hit k e in
+        let g : Gained width names marks names marks′ cap x bits k = subst (λ (l : List ℕ). Gained width names marks names l cap x bits k) (sym q) (raised bits t b k h) in
+        subst (λ (d : Added). ToldAdded width names marks names marks′ cap x bits d) (sym (a (omega (arith, h .low)))) (told-as known k g (sym p));
   }
 
-  pub as-vacant : {r : Added} (k : ℕ) → s ≡ Vacant k → (k < mostSlots → r ≡ addedAt false k) → AddsMark width names marks names₁ marks₁ cap x bits r
-  as-vacant {r} k e f = record {
+  pub as-vacant : {names′ marks′ : List ℕ} {first : ℕ} {r : Added} (k : ℕ) → s ≡ Vacant k → names′ ≡ setDown names (width * k) x → first ≡ withBits bits 0 → marks′ ≡ set marks k first
+      → (k < mostSlots → r ≡ addedAt false k) → AddsMark width names marks names′ marks′ cap x bits r
+  as-vacant {names′} {marks′} {first} {r} k e n z m a = record {
     right = λ t b c.
-        subst (λ (a : Added). ToldAdded width names marks names₁ marks₁ cap x bits a) (sym (f (omega (arith, i .finds .free k e .low))))
-        (entered bits t b inserts k e, free-new bits t b inserts k e);
+        let i : Inserts width false names marks names′ marks′ cap x (withBits bits 0) (Vacant k) =
+        subst (λ (l : List ℕ). Inserts width false names marks names′ l cap x (withBits bits 0) (Vacant k)) (sym (m ∙ ap (set marks k) z)) (put-in f (withBits bits 0) e n) in
+        subst (λ (d : Added). ToldAdded width names marks names′ marks′ cap x bits d) (sym (a (omega (arith, f .free k e .low)))) (entered bits t b i k refl, free-new bits t b i k refl);
   }
 
-  pub as-full : s ≡ TableFull → AddsMark width names marks names₁ marks₁ cap x bits Full
-  as-full e = record { right = λ t b c. subst (λ (a : Slot). Finds width false names marks cap x a) e (i .finds) }
+  pub as-full : s ≡ TableFull → AddsMark width names marks names marks cap x bits Full
+  as-full e = record { right = λ t b c. subst (λ (a : Slot). Finds width false names marks cap x a) e f }

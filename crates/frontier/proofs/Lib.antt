@@ -2,6 +2,7 @@ pub mod PaintBits
 pub mod Gains
 pub mod MarkStep
 pub mod MarkAnswers
+pub mod ReadAgain
 pub mod Steps
 pub mod Runs
 pub mod TurnLaws

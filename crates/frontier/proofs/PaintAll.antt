@@ -35,7 +35,7 @@ use Rattle.frontier.specs.Paint.{Lent, lent, Files, entryAt, PaintReads,
 use Rattle.frontier.specs.Lists.{idsIn, RunBelow, MayTake, MarksRun, AllTakenAfter, TakesAllAfter}
 use Rattle.frontier.specs.Turns.{MayTurns, TurnsTakenAfter, TakesTurnsAfter}
 use Rattle.frontier.specs.Prepare.{washed, Collects}
-use Rattle.frontier.specs.Painted.{loweredTo, startOf, Ample, waitingIds, MayPaint, Paints, MayStart, PaintsFrom}
+use Rattle.frontier.specs.Painted.{loweredTo, emptyIn, startOf, Ample, waitingIds, MayPaint, Paints, MayStart, inputsMarked, MarksInputs, PaintsFrom}
 use Rattle.frontier.proofs.PaintBits.{painted-0}
 use Rattle.frontier.proofs.Steps.{ends-then, then-is, then-stop}
 use Rattle.frontier.proofs.PaintRoom.{paint-parts, turns-room, shown-room, hidden-room}
@@ -87,13 +87,13 @@ spares-less {width} {m = m} {m′ = m′} base low h k = record {
 
 -- the queue while n slots stand below its memory
 abbrev pub runOf : ℕ → ℕ → Pending
-runOf cap n = record { base = 2 * cap + n; low = 2 * cap + n; high = 2 * cap + n; start = 5 * cap; end = 5 * cap }
+runOf cap n = emptyIn (2 * cap + n) (5 * cap)
 
-module _ (width : ℕ) (c : Cache) (g s : List ℕ) (cap : ℕ) (m m₁ m₂ m₃ : Lent) (n : ℕ) (hide : List Id) (r₁ r₂ r₃ : Marked) (large : 5 * cap ≤ length (m .line)) (few : n ≤ cap) where
-  module _ (f : Files width c g s) (u waiting : List Id) (h : MayStart width (worldUnder width c g s) cap u m n waiting hide) where
-    abbrev w : World
-    w = worldUnder width c g s
+module _ (width : ℕ) (c : Cache) (g s : List ℕ) (cap : ℕ) (m : Lent) (n : ℕ) (hide : List Id) (f : Files width c g s) (u waiting : List Id) (h : MayStart width (worldUnder width c g s) cap u m n waiting hide) where
+  abbrev w : World
+  w = worldUnder width c g s
 
+  module _ (m₁ m₂ : Lent) (r₁ r₂ : Marked) (large : 5 * cap ≤ length (m .line)) (few : n ≤ cap) where
     -- the waiting commits get VISIBLE
     shown : MarksRun width c g s cap m m₁ (runOf cap n) (2 * cap) n 1 r₁ → Ends width w cap u (runOf cap n) m m₁ r₁ (markAll w VISIBLE (sorted waiting) unpainted)
     shown o =
@@ -112,7 +112,7 @@ module _ (width : ℕ) (c : Cache) (g s : List ℕ) (cap : ℕ) (m m₁ m₂ m�
 
     -- the hidden tips get HIDDEN
     hiding : (r : Marked) → Ends width w cap u (runOf cap n) m m₁ r (markAll w VISIBLE (sorted waiting) unpainted) → AllTakenAfter width markAll c g s cap m₁ m₂ (loweredTo (2 * cap) r) hide 2 r₂
-        → Ends width w cap u (startOf cap) m m₂ r₂ (then (markAll w VISIBLE (sorted waiting) unpainted) (λ st. markAll w HIDDEN hide st))
+        → Ends width w cap u (startOf cap) m m₂ r₂ (inputsMarked w waiting hide)
     hiding (Going p) gone o =
         let low : Goes width w cap u (startOf cap) m m₁ (record { base = 2 * cap; low = p .low; high = p .high; start = p .start; end = p .end }) (markAll w VISIBLE (sorted waiting) unpainted) =
         record {
@@ -136,8 +136,8 @@ module _ (width : ℕ) (c : Cache) (g s : List ℕ) (cap : ℕ) (m m₁ m₂ m�
           room = λ i st e. omega (arith, hidden-room (h .ample) VISIBLE (gone .is) i (marksOf 2) st e, gone .end);
         }))
     hiding (Stop k) gone o =
-        subst (λ (a : Marked). Ends width w cap u (startOf cap) m m₂ a (then (markAll w VISIBLE (sorted waiting) unpainted) (λ st. markAll w HIDDEN hide st))) (sym (o .1))
-        (subst (λ (b : Lent). Stops width cap (startOf cap) m b k (then (markAll w VISIBLE (sorted waiting) unpainted) (λ st. markAll w HIDDEN hide st))) (sym (o .0))
+        subst (λ (a : Marked). Ends width w cap u (startOf cap) m m₂ a (inputsMarked w waiting hide)) (sym (o .1))
+        (subst (λ (b : Lent). Stops width cap (startOf cap) m b k (inputsMarked w waiting hide)) (sym (o .0))
         (record {
           is = ap (λ (a : Painting). then a (λ st. markAll w HIDDEN hide st)) (gone .is) ∙ then-stop k (λ st. markAll w HIDDEN hide st);
           table = gone .table;
@@ -145,8 +145,9 @@ module _ (width : ℕ) (c : Cache) (g s : List ℕ) (cap : ℕ) (m m₁ m₂ m�
         }))
     hiding NoRoom gone o = absurd gone
 
+  module _ (m₂ m₃ : Lent) (r₃ : Marked) where
     -- the turns
-    turning : (r : Marked) → Ends width w cap u (startOf cap) m m₂ r (then (markAll w VISIBLE (sorted waiting) unpainted) (λ st. markAll w HIDDEN hide st))
+    turning : (r : Marked) → Ends width w cap u (startOf cap) m m₂ r (inputsMarked w waiting hide)
         → TurnsTakenAfter width c g s cap m₂ m₃ r (4 * cap) r₃ → Ends width w cap u (startOf cap) m m₃ r₃ (paint w (4 * cap) waiting hide)
     turning (Going p) gone o =
         ends-then m₃ r₃ gone
@@ -170,14 +171,19 @@ module _ (width : ℕ) (c : Cache) (g s : List ℕ) (cap : ℕ) (m m₁ m₂ m�
         }))
     turning NoRoom gone o = absurd gone
 
-pub paints-from : {width : ℕ} {c : Cache} {g s : List ℕ} {cap : ℕ} {m m₁ m₂ m₃ : Lent} {n : ℕ} {hide : List Id} {low r₁ r₂ r₃ : Marked} → 5 * cap ≤ length (m .line) → n ≤ cap → MarksRun width c g s cap m m₁ (runOf cap n) (2 * cap) n 1 r₁
-    → low ≡ loweredTo (2 * cap) r₁ → TakesAllAfter width markAll c g s cap m₁ m₂ low hide 2 r₂ → TakesTurnsAfter width c g s cap m₂ m₃ r₂ (4 * cap) r₃ → PaintsFrom width c g s cap m m₃ n hide r₃
-paints-from {width} {c} {g} {s} {cap} {m} {m₁} {m₂} {m₃} {n} {hide} {low} {r₁} {r₂} {r₃} large few a e b d = record {
+pub marks-inputs : {width : ℕ} {c : Cache} {g s : List ℕ} {cap : ℕ} {m m₁ m₂ : Lent} {n : ℕ} {hide : List Id} {p : Pending} {low r₁ r₂ : Marked} → 5 * cap ≤ length (m .line) → n ≤ cap → p ≡ runOf cap n
+    → MarksRun width c g s cap m m₁ p (2 * cap) n 1 r₁ → low ≡ loweredTo (2 * cap) r₁ → TakesAllAfter width markAll c g s cap m₁ m₂ low hide 2 r₂ → MarksInputs width c g s cap m m₂ n hide r₂
+marks-inputs {width} {c} {g} {s} {cap} {m} {m₁} {m₂} {n} {hide} {p} {low} {r₁} {r₂} large few i a e b = record {
   right = λ f u waiting h.
-      turning width c g s cap m m₁ m₂ m₃ n hide r₁ r₂ r₃ large few f u waiting h r₂
-      (hiding width c g s cap m m₁ m₂ m₃ n hide r₁ r₂ r₃ large few f u waiting h r₁ (shown width c g s cap m m₁ m₂ m₃ n hide r₁ r₂ r₃ large few f u waiting h a)
-      (subst (λ (q : Marked). AllTakenAfter width markAll c g s cap m₁ m₂ q hide 2 r₂) e (b .does)))
-      (d .does);
+      hiding width c g s cap m n hide f u waiting h m₁ m₂ r₁ r₂ large few r₁
+      (shown width c g s cap m n hide f u waiting h m₁ m₂ r₁ r₂ large few (subst (λ (q : Pending). MarksRun width c g s cap m m₁ q (2 * cap) n 1 r₁) i a))
+      (subst (λ (q : Marked). AllTakenAfter width markAll c g s cap m₁ m₂ q hide 2 r₂) e (b .does));
+}
+
+pub paints-from : {width : ℕ} {c : Cache} {g s : List ℕ} {cap : ℕ} {m m₂ m₃ : Lent} {n : ℕ} {hide : List Id} {r₂ r₃ : Marked} → MarksInputs width c g s cap m m₂ n hide r₂
+    → TakesTurnsAfter width c g s cap m₂ m₃ r₂ (4 * cap) r₃ → PaintsFrom width c g s cap m m₃ n hide r₃
+paints-from {width} {c} {g} {s} {cap} {m} {m₂} {m₃} {n} {hide} {r₂} {r₃} b d = record {
+  right = λ f u waiting h. turning width c g s cap m n hide f u waiting h m₂ m₃ r₃ r₂ (b .right f u waiting h) (d .does);
 }
 
 -- ---- before that

@@ -15,16 +15,13 @@ use Rattle.hashtable.specs.declared.table.Slot.{Slot}
 use Rattle.hashtable.specs.declared.table.Slot.the-variants.{Found, Vacant, Full as TableFull}
 use Rattle.hashtable.proofs.TableView.{found-mark, vacant-mark, mark-absent, full-absent}
 use Rattle.pending.specs.declared.Pending.{Pending}
-use Rattle.walk.specs.Lookup.{World, Read, fail, good, read, parentsOf}
+use Rattle.walk.specs.Lookup.{World, read, parentsOf}
 use Rattle.walk.specs.Painting.{Paint, Painting, stop, going, then, Marks, mark, markAll, lacks, pass}
-use Rattle.walk.specs.declared.GenThenTime.{GenThenTime}
 use Rattle.walk.specs.declared.Refusal.{Refusal}
 use Rattle.reading.specs.Files.{worldUnder}
-use Rattle.reading.specs.Whole.{Has, Tells, IsRead, parentCount, GivesParent}
+use Rattle.reading.specs.Whole.{parentCount, GivesParent}
 use Rattle.reading.proofs.IdLists.{mem-at, one-more}
-use Rattle.reading.proofs.Whole.{commit-parent-right}
 use Rattle.reading.specs.declared.Commit.{Commit}
-use Rattle.reading.specs.declared.Commit.the-variants.{Row, Body, Failed}
 use Rattle.object.specs.Ids.{idIn}
 use Rattle.object.specs.declared.ObjectId.{ObjectId}
 use Rattle.frontier.specs.declared.marking.Marked.{Marked}
@@ -32,6 +29,7 @@ use Rattle.frontier.specs.declared.marking.Marked.the-variants.{Going, S
 use Rattle.frontier.specs.Bits.{isPainted, marksOf, lacksBits}
 use Rattle.frontier.specs.Paint.{Lent, lent, Files, PaintReads, Spares, Named, Goes, Stops, Ends}
 use Rattle.frontier.specs.Mark.{Step, MayStep, Takes, TakenAfter, TakesAfter, passTo, LacksMark}
+use Rattle.frontier.specs.Parents.{HasParents}
 use Rattle.frontier.specs.Lists.{Steps, MayTake, TakesAll, AllTakenAfter, TakesAllAfter, PassesAll}
 use Rattle.frontier.proofs.MarkStep.{spares-none, spares-then}
 
@@ -282,31 +280,13 @@ module _ {width : ℕ} {names marks : List ℕ} {cap : ℕ} {x : Id} {a : Slot} 
   pub lacks-full : {b : Bool} → a ≡ TableFull → b ≡ lacksBits bits 0 → LacksMark width names marks cap x bits b
   lacks-full e p = record { right = λ t. p ∙ ap (lacksBits bits) (sym (mark-absent (full-absent t f e))) }
 
--- ---- the parents of a commit that was read
-
-module _ {width : ℕ} {c : Cache} {g s : List ℕ} {y : Id} where
-  pub count-is : (d : Commit) → IsRead width c g s y d → parentCount d ≡ length (parentsOf (read (worldUnder width c g s) y))
-  unfolding parentsOf
-  count-is (Row p n q) i = i .tells .count ∙ sym (ap (λ (o : Read). length (parentsOf o)) (i .tells .is))
-  count-is (Body a z n q) i = i .tells .count ∙ sym (ap (λ (o : Read). length (parentsOf o)) (i .tells .is))
-  count-is (Failed n) i = sym (ap (λ (o : Read). length (parentsOf o)) (i .tells))
-
-  parent-good : {d : Commit} {n k : ℕ} {q : GenThenTime} {r : ObjectId} → Files width c g s → IsRead width c g s y d → Has n q (read (worldUnder width c g s) y) → GivesParent width c g s d k r → k < n
-      → idIn width (r .bytes) ≡ getD (parentsOf (read (worldUnder width c g s) y)) k []
-  unfolding parentsOf
-  parent-good {k = k} f i h v l =
-      commit-parent-right (f .small) v (f .store-ok) (f .graph-ok) y i (h .parents) _ (h .is) (omega (arith, h .count)) ∙ sym (ap (λ (o : Read). getD (parentsOf o) k []) (h .is))
-
-  pub parent-is : {k : ℕ} {r : ObjectId} (d : Commit) → Files width c g s → IsRead width c g s y d → GivesParent width c g s d k r → k < parentCount d → idIn width (r .bytes) ≡ getD (parentsOf (read (worldUnder width c g s) y)) k []
-  parent-is (Row p n q) f i v l = parent-good f i (i .tells) v l
-  parent-is (Body a z n q) f i v l = parent-good f i (i .tells) v l
-  parent-is (Failed n) f i v l = absurd (omega arith)
+-- ---- the parents of a commit
 
 -- a loop over the parents of d, begun at an answer, after i of them
 pub record Passing (width : ℕ) (c : Cache) (g s : List ℕ) (cap : ℕ) (m₀ m : Lent) (past : Marked) (d : Commit) (bits i : ℕ) (r : Marked) : Type 0 where
   pub upto : i ≤ parentCount d
   pub long : Long m₀ m
-  pub begun : (p : Pending) → past ≡ Going p → Files width c g s → (y : Id) → IsRead width c g s y d
+  pub begun : (p : Pending) → past ≡ Going p → Files width c g s → (y : Id) → HasParents width c g s y d
       → Upto width pass (worldUnder width c g s) cap m₀ m p (parentsOf (read (worldUnder width c g s) y)) bits i r
 
 pub passing-first : (width : ℕ) (c : Cache) (g s : List ℕ) (cap : ℕ) (m : Lent) (past : Marked) (d : Commit) (bits : ℕ) → Passing width c g s cap m m past d bits 0 past
@@ -320,12 +300,12 @@ passing-first width c g s cap m past d bits = record {
 
 pub passing-next : {width : ℕ} {c : Cache} {g s : List ℕ} {cap : ℕ} {m₀ m m′ : Lent} {past : Marked} {d : Commit} {bits i : ℕ} {r r′ : Marked} {z : ObjectId} {x : Id} → Passing width c g s cap m₀ m past d bits i r
     → i < parentCount d → x ≡ idIn width (z .bytes) → length x ≡ width → GivesParent width c g s d i z → Long m m′ → TakesAfter width passTo c g s cap m m′ r x bits r′ → Passing width c g s cap m₀ m′ past d bits (i + 1) r′
-passing-next {width} {d = d} v l a wd k b o = record {
+passing-next {width} {d = d} {i = i} {z = z} v l a wd k b o = record {
   upto = omega arith;
   long = long-then (v .long) b;
-  begun = λ p e f y h. upto-next width passTo pass pass-nil pass-snoc f (omega (arith, count-is d h)) wd (λ u st q j gone. a ∙ parent-is d f h k l) (v .begun p e f y h) o;
+  begun = λ p e f y h. upto-next width passTo pass pass-nil pass-snoc f (omega (arith, h .count)) wd (λ u st q j gone. a ∙ h .each i z l k) (v .begun p e f y h) o;
 }
 
 pub passing-last : {width : ℕ} {c : Cache} {g s : List ℕ} {cap : ℕ} {m₀ m : Lent} {p : Pending} {d : Commit} {bits i : ℕ} {r : Marked} → Passing width c g s cap m₀ m (Going p) d bits i r → parentCount d ≤ i
     → PassesAll width c g s cap m₀ m p d bits r
-passing-last {width} {p = p} {d = d} v l = record { right = λ f y h. upto-last width passTo pass pass-nil pass-snoc (v .begun p refl f y h) (omega (arith, count-is d h)) }
+passing-last {width} {p = p} {d = d} v l = record { right = λ f y h. upto-last width passTo pass pass-nil pass-snoc (v .begun p refl f y h) (omega (arith, h .count)) }

@@ -15,7 +15,7 @@ use Rattle.hash.proofs.Tests.{byCases, clash, guard-test, guarded}
 use Rattle.commit.specs.declared.Cache.{Cache}
 use Rattle.hashtable.specs.Marks.{visible, hidden, stale}
 use Rattle.hashtable.specs.Table.{idOf, markFor}
-use Rattle.hashtable.proofs.TableIds.{less?, width-of}
+use Rattle.hashtable.proofs.TableIds.{less?}
 use Rattle.hashtable.proofs.TableView.{mark-held}
 use Rattle.pending.specs.Pending.{slotsIn, waiting, Took, Pops, staleAt}
 use Rattle.pending.specs.declared.Pending.{Pending}
@@ -25,19 +25,17 @@ use Rattle.walk.specs.Lookup.{World, Pair, read, parentsOf}
 use Rattle.walk.specs.Painting.{Paint, Painting, stop, going, then, Marks, pass, passed, withPending, fresh, turn, turns}
 use Rattle.walk.specs.declared.Refusal.{Refusal}
 use Rattle.reading.specs.Files.{worldUnder}
-use Rattle.object.specs.Ids.{padded, idIn}
-use Rattle.reading.specs.Whole.{IsRead, ReadsCommit}
-use Rattle.reading.proofs.Whole.{commit-right}
 use Rattle.reading.specs.declared.Commit.{Commit}
-use Rattle.object.proofs.IdBytes.{id-in}
 use Rattle.frontier.specs.declared.marking.Marked.{Marked}
 use Rattle.frontier.specs.declared.marking.Marked.the-variants.{Going, Stop, NoRoom}
 use Rattle.frontier.specs.Bits.{isPainted, marksOf, passedBits}
 use Rattle.frontier.specs.Paint.{Lent, Files, entryAt, PaintReads, Named, Goes, Stops, Ends}
+use Rattle.frontier.specs.Parents.{ReadsParents}
 use Rattle.frontier.specs.Lists.{PassesAll}
 use Rattle.frontier.specs.Turns.{TurnFits, MayTurn, TakesTurn, TurnTakenAfter, TakesTurnAfter, anyLacking, dueAfter, MayTurns, TakesTurns, TurnsTakenAfter, TakesTurnsAfter}
 use Rattle.frontier.proofs.PaintBits.{painted-live, visible-passed, hidden-passed, stale-passed, painted-passed}
 use Rattle.frontier.proofs.MarkStep.{spares-none}
+use Rattle.frontier.proofs.ReadAgain.{has-parents}
 use Rattle.frontier.proofs.Steps.{ends-then, goes-still, then-is, then-stop, then-going, then-both, Long, long-none, long-then}
 
 -- ---- the queue's marks
@@ -119,14 +117,13 @@ module _ {width : ℕ} {w : World} {cap : ℕ} {m : Lent} {p : Pending} {st : Pa
   turn-is = ap (turn w st) first-is ∙ turn-first w st (entryAt width (m .names) (m .levels) (m .times) (t .slot)) rest
 
 module _ {width : ℕ} {c : Cache} {g s : List ℕ} {cap : ℕ} {m : Lent} {p : Pending} {t : Taken} (v : Pops (m .levels) (m .times) p (m .line) t) where
-  pub turn-some : {m′ : Lent} {d : Commit} {y : Id} {n b : ℕ} {r : Marked} → t .found ≡ true → n ≡ getD (m .marks) (t .slot) 0 → b ≡ passedBits n → y ≡ idIn width (padded (idOf width (m .names) (t .slot)))
-      → ReadsCommit width c g s y d → PassesAll width c g s cap m m′ (t .pending) d b r → TakesTurn width c g s cap m m′ p r
+  pub turn-some : {m′ : Lent} {d : Commit} {y : Id} {n b : ℕ} {r : Marked} → t .found ≡ true → n ≡ getD (m .marks) (t .slot) 0 → b ≡ passedBits n → y ≡ idOf width (m .names) (t .slot)
+      → ReadsParents width c g s y d → PassesAll width c g s cap m m′ (t .pending) d b r → TakesTurn width c g s cap m m′ p r
   turn-some {m′} {d} {y} {n} {b} {r} fd en eb ey rd o = record {
     right = λ f u st h.
         let e = v .took (v .waits fd) in
         let i = h .reads .queued (t .slot) (taken-in e (t .slot) (inl refl)) in
         let x : Id = idOf width (m .names) (t .slot) in
-        let ex : y ≡ idOf width (m .names) (t .slot) = ey ∙ id-in width (idOf width (m .names) (t .slot)) (width-of (t .slot) (h .reads .table .sized) (i .0)) (f .small) in
         let ebits : b ≡ passedBits (getD (m .marks) (t .slot) 0) = eb ∙ ap passedBits en in
         let k : passed st (idOf width (m .names) (t .slot)) ≡ marksOf b = passed-is (h .reads) (t .slot) (i .0) (i .1) ∙ ap marksOf (sym ebits) in
         let st′ : Paint = withPending (rest (h .reads) e) st in
@@ -144,7 +141,7 @@ module _ {width : ℕ} {c : Cache} {g s : List ℕ} {cap : ℕ} {m : Lent} {p : 
         (ap
         (λ (z : Marks). pass (worldUnder width c g s) z (parentsOf (read (worldUnder width c g s) (idOf width (m .names) (t .slot)))) (withPending (rest (h .reads) e) st)) (sym k)
         ∙ sym (turn-is (h .reads) e))
-        (o .right f (idOf width (m .names) (t .slot)) (subst (λ (z : Id). IsRead width c g s z d) ex (commit-right rd (f .store-ok) (f .graph-ok))) u (withPending (rest (h .reads) e) st)
+        (o .right f (idOf width (m .names) (t .slot)) (has-parents f (h .reads .known (t .slot) (i .0) (i .1) .is) (subst (λ (z : Id). ReadsParents width c g s z d) ey rd)) u (withPending (rest (h .reads) e) st)
         (record {
           reads = rest-reads (h .reads) e;
           named = h .named;

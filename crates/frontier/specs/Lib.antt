@@ -2,6 +2,7 @@ pub mod Bits
 pub mod Slots
 pub mod Paint
 pub mod Mark
+pub mod Parents
 pub mod Lists
 pub mod Turns
 pub mod Prepare

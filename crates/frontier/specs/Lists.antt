@@ -13,12 +13,12 @@ use Rattle.pending.specs.declared.Pending.{Pending}
 use Rattle.walk.specs.Lookup.{World, read, parentsOf}
 use Rattle.walk.specs.Painting.{Paint, Painting, Marks, markAll, pass}
 use Rattle.reading.specs.Files.{worldUnder}
-use Rattle.reading.specs.Whole.{IsRead}
 use Rattle.reading.specs.declared.Commit.{Commit}
 use Rattle.frontier.specs.declared.marking.Marked.{Marked}
 use Rattle.frontier.specs.declared.marking.Marked.the-variants.{Going, Stop, NoRoom}
 use Rattle.frontier.specs.Bits.{isPainted, marksOf}
 use Rattle.frontier.specs.Paint.{Lent, Files, PaintReads, Named, Short, Ends}
+use Rattle.frontier.specs.Parents.{HasParents}
 
 -- a part of painting over a list of commits
 abbrev pub Steps : Type 0
@@ -65,8 +65,8 @@ pub record MarksRun (width : ℕ) (c : Cache) (g s : List ℕ) (cap : ℕ) (m m�
 
 -- ---- the parents of a commit
 
--- what `pass_to_parents` does with the commit d that was read for the id y: `pass`
+-- what `pass_to_parents` does with an answer d that tells the parents of the commit y: `pass`
 pub record PassesAll (width : ℕ) (c : Cache) (g s : List ℕ) (cap : ℕ) (m m′ : Lent) (p : Pending) (d : Commit) (bits : ℕ) (r : Marked) : Type 0 where
-  pub right : Files width c g s → (y : Id) → IsRead width c g s y d → (u : List Id) (st : Paint)
+  pub right : Files width c g s → (y : Id) → HasParents width c g s y d → (u : List Id) (st : Paint)
       → MayTake width pass (worldUnder width c g s) cap u m p (parentsOf (read (worldUnder width c g s) y)) bits st
       → Ends width (worldUnder width c g s) cap u p m m′ r (pass (worldUnder width c g s) (marksOf bits) (parentsOf (read (worldUnder width c g s) y)) st)

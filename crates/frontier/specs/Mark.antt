@@ -9,6 +9,7 @@ use lib.IntN.{ℤ}
 use Rattle.hash.specs.Bytes.{Id}
 use Rattle.commit.specs.declared.Cache.{Cache}
 use Rattle.hashtable.specs.Table.{Table, markFor, Finds}
+use Rattle.hashtable.specs.declared.table.Slot.{Slot}
 use Rattle.hashtable.specs.declared.table.Slot.the-variants.{Full as TableFull}
 use Rattle.pending.specs.Pending.{Room, Entered}
 use Rattle.pending.specs.declared.Pending.{Pending}
@@ -18,11 +19,12 @@ use Rattle.walk.specs.Painting.{Paint, Painting, going, Marks, mark, lacks}
 use Rattle.reading.specs.Files.{worldUnder}
 use Rattle.frontier.specs.declared.marking.Marked.{Marked}
 use Rattle.frontier.specs.declared.marking.Marked.the-variants.{Going, Stop, NoRoom}
+use Rattle.frontier.specs.declared.slots.Added.{Added}
 use Rattle.frontier.specs.declared.marking.Spot.{Spot}
 use Rattle.frontier.specs.declared.marking.Spot.the-variants.{At, Unread, NoSlot}
 use Rattle.frontier.specs.Bits.{isPainted, marksOf, lacksBits}
-use Rattle.frontier.specs.Slots.{mostSlots, Gained}
-use Rattle.frontier.specs.Paint.{Lent, Files, PaintReads, Named, Short, Ends}
+use Rattle.frontier.specs.Slots.{mostSlots, Gained, AddsMark}
+use Rattle.frontier.specs.Paint.{Lent, lent, Files, PaintReads, Named, Short, Ends}
 
 -- ---- a commit is read
 
@@ -56,10 +58,15 @@ module _ (width : ℕ) (w : World) (names marks levels : List ℕ) (times : List
   ToldPlaced (Unread n) = (read w x ≡ fail n) × ((k : ℕ) × Gained width names marks names′ marks′ cap x bits k)
   ToldPlaced NoSlot = Finds width false names marks cap x TableFull
 
--- what `place` does
+-- an id gains marks, and its commit is read where these are the first
 pub record Places (width : ℕ) (c : Cache) (g s names marks levels : List ℕ) (times : List ℤ) (names′ marks′ levels′ : List ℕ) (times′ : List ℤ) (cap : ℕ) (x : Id) (bits : ℕ) (r : Spot) : Type 0 where
   pub right : Files width c g s → Table width false names marks cap → isPainted bits ≡ true → cap ≤ mostSlots
       → ToldPlaced width (worldUnder width c g s) names marks levels times names′ marks′ levels′ times′ cap x bits r
+
+-- what `place` does for an id that gained marks, as a says
+pub record PlacesAdded (width : ℕ) (c : Cache) (g s levels : List ℕ) (times : List ℤ) (levels′ : List ℕ) (times′ : List ℤ) (x : Id) (a : Added) (r : Spot) : Type 0 where
+  pub right : (names marks names′ marks′ : List ℕ) (cap bits : ℕ) → AddsMark width names marks names′ marks′ cap x bits a
+      → Places width c g s names marks levels times names′ marks′ levels′ times′ cap x bits r
 
 -- ---- its slot is queued
 
@@ -89,6 +96,11 @@ pub record Takes (width : ℕ) (step : Step) (c : Cache) (g s : List ℕ) (cap :
   pub right : Files width c g s → (u : List Id) (st : Paint) → MayStep width (worldUnder width c g s) cap u m p x bits st (step (worldUnder width c g s) (marksOf bits) x st)
       → Ends width (worldUnder width c g s) cap u p m m′ r (step (worldUnder width c g s) (marksOf bits) x st)
 
+-- what `queue_added` does for an id that gained marks, as a says: with that it is the step `mark`
+pub record TakesAdded (width : ℕ) (c : Cache) (g s levels : List ℕ) (times : List ℤ) (line levels′ : List ℕ) (times′ : List ℤ) (line′ : List ℕ) (p : Pending) (x : Id) (a : Added) (r : Marked) : Type 0 where
+  pub right : (names marks names′ marks′ : List ℕ) (cap bits : ℕ) → AddsMark width names marks names′ marks′ cap x bits a
+      → Takes width mark c g s cap (lent names marks levels times line) (lent names′ marks′ levels′ times′ line′) p x bits r
+
 -- the same after an answer: where painting does not go on, nothing is done
 abbrev pub TakenAfter : ℕ → Step → Cache → List ℕ → List ℕ → ℕ → Lent → Lent → Marked → Id → ℕ → Marked → Type 0
 TakenAfter width step c g s cap m m′ (Going p) x bits r = Takes width step c g s cap m m′ p x bits r
@@ -102,6 +114,10 @@ pub record TakesAfter (width : ℕ) (step : Step) (c : Cache) (g s : List ℕ) (
 unfoldable pub passTo : World → Marks → Id → Paint → Painting
 passTo w m x st = cond (lacks m x st) (mark w m x st) (going st)
 
--- what `is_lacking` says
+-- whether an id lacks a mark of `bits`
 pub record LacksMark (width : ℕ) (names marks : List ℕ) (cap : ℕ) (x : Id) (bits : ℕ) (r : Bool) : Type 0 where
   pub right : Table width false names marks cap → r ≡ lacksBits bits (markFor width false names marks cap x)
+
+-- what `is_lacking` says of the slot that a search for an id answered
+pub record LacksMarkAt (marks : List ℕ) (s : Slot) (bits : ℕ) (r : Bool) : Type 0 where
+  pub right : (width : ℕ) (names : List ℕ) (cap : ℕ) (x : Id) → Finds width false names marks cap x s → LacksMark width names marks cap x bits r

@@ -14,7 +14,7 @@ use Rattle.revwalk.specs.Queue.{GoodQueue, slotsOf}
 use Rattle.pending.specs.declared.Pending.{Pending}
 use Rattle.revwalk.specs.declared.queue.Queue.{Queue}
 use Rattle.walk.specs.Lookup.{World, read, parentsOf}
-use Rattle.walk.specs.Painting.{unpainted, sorted, paint}
+use Rattle.walk.specs.Painting.{Painting, then, VISIBLE, HIDDEN, markAll, unpainted, sorted, paint}
 use Rattle.reading.specs.Files.{worldUnder}
 use Rattle.frontier.specs.declared.marking.Marked.{Marked}
 use Rattle.frontier.specs.declared.marking.Marked.the-variants.{Going, Stop, NoRoom}
@@ -27,9 +27,13 @@ loweredTo base (Going p) = Going (record { base = base; low = p .low; high = p .
 loweredTo base (Stop n) = Stop n
 loweredTo base NoRoom = NoRoom
 
--- painting's queue, empty, in line[2 · cap .. 5 · cap)
+-- painting's queue, empty, in line[base .. end)
+abbrev pub emptyIn : ℕ → ℕ → Pending
+emptyIn base end = record { base = base; low = base; high = base; start = end; end = end }
+
+-- the same in line[2 · cap .. 5 · cap)
 abbrev pub startOf : ℕ → Pending
-startOf cap = record { base = 2 * cap; low = 2 * cap; high = 2 * cap; start = 5 * cap; end = 5 * cap }
+startOf cap = emptyIn (2 * cap) (5 * cap)
 
 -- cap slots are enough: for the two lists and every id that is a parent, repeats counted; and u has them all
 pub record Ample (w : World) (cap : ℕ) (u waiting hidden : List Id) : Type 0 where
@@ -63,7 +67,7 @@ pub record Paints (width : ℕ) (c : Cache) (g s : List ℕ) (cap : ℕ) (m m′
   pub right : Files width c g s → (u : List Id) → MayPaint width (worldUnder width c g s) cap u m q hidden
       → Ends width (worldUnder width c g s) cap u (startOf cap) m m′ r (paint (worldUnder width c g s) (4 * cap) (waitingIds width q m) hidden)
 
--- ---- the inner function
+-- ---- the inner functions
 
 -- painting may go on from slots in the line: no id has a mark of painting's, and the slots have the waiting ids by rising id
 pub record MayStart (width : ℕ) (w : World) (cap : ℕ) (u : List Id) (m : Lent) (n : ℕ) (waiting hidden : List Id) : Type 0 where
@@ -73,6 +77,16 @@ pub record MayStart (width : ℕ) (w : World) (cap : ℕ) (u : List Id) (m : Len
   pub taken : (s : ℕ) → In s (slice (2 * cap) (2 * cap + n) (m .line)) → (s < cap) × (liveAt false (m .marks) s ≡ true)
   pub ample : Ample w cap u waiting hidden
 
+-- the marks that painting begins with: VISIBLE for the commits that wait, by rising id, and HIDDEN for the hidden tips
+abbrev pub inputsMarked : World → List Id → List Id → Painting
+inputsMarked w waiting hidden = then (markAll w VISIBLE (sorted waiting) unpainted) (λ st. markAll w HIDDEN hidden st)
+
+-- what `mark_inputs` does
+pub record MarksInputs (width : ℕ) (c : Cache) (g s : List ℕ) (cap : ℕ) (m m′ : Lent) (n : ℕ) (hidden : List Id) (r : Marked) : Type 0 where
+  pub right : Files width c g s → (u waiting : List Id) → MayStart width (worldUnder width c g s) cap u m n waiting hidden
+      → Ends width (worldUnder width c g s) cap u (startOf cap) m m′ r (inputsMarked (worldUnder width c g s) waiting hidden)
+
+-- what `paint_from` does
 pub record PaintsFrom (width : ℕ) (c : Cache) (g s : List ℕ) (cap : ℕ) (m m′ : Lent) (n : ℕ) (hidden : List Id) (r : Marked) : Type 0 where
   pub right : Files width c g s → (u waiting : List Id) → MayStart width (worldUnder width c g s) cap u m n waiting hidden
       → Ends width (worldUnder width c g s) cap u (startOf cap) m m′ r (paint (worldUnder width c g s) (4 * cap) waiting hidden)

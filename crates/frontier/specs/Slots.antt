@@ -6,6 +6,7 @@ use mathlib.Core.List.{List}
 use lib.ListN.{getD}
 use Rattle.hash.specs.Bytes.{Id}
 use Rattle.hashtable.specs.Table.{idOf, liveAt, Holds, Table, markFor, Finds}
+use Rattle.hashtable.specs.declared.table.Slot.{Slot}
 use Rattle.hashtable.specs.declared.table.Slot.the-variants.{Full as TableFull}
 use Rattle.frontier.specs.declared.slots.Added.{Added}
 use Rattle.frontier.specs.declared.slots.Added.the-variants.{New, Known, Full}
@@ -36,6 +37,10 @@ ToldAdded width names marks names′ marks′ cap x bits (New k) = Gained width 
 ToldAdded width names marks names′ marks′ cap x bits (Known k) = Gained width names marks names′ marks′ cap x bits k × (isPainted (getD marks k 0) ≡ true)
 ToldAdded width names marks names′ marks′ cap x bits Full = Finds width false names marks cap x TableFull
 
--- what `add_mark` makes of a right table
+-- what giving marks to an id makes of a right table
 pub record AddsMark (width : ℕ) (names marks names′ marks′ : List ℕ) (cap : ℕ) (x : Id) (bits : ℕ) (r : Added) : Type 0 where
   pub right : Table width false names marks cap → isPainted bits ≡ true → cap ≤ mostSlots → ToldAdded width names marks names′ marks′ cap x bits r
+
+-- what `add_mark` does with the slot that a search for the id answered, in a table of any number of slots
+pub record AddsMarkAt (width : ℕ) (names marks names′ marks′ : List ℕ) (x : Id) (s : Slot) (bits : ℕ) (r : Added) : Type 0 where
+  pub right : (cap : ℕ) → Finds width false names marks cap x s → AddsMark width names marks names′ marks′ cap x bits r

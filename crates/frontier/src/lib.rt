@@ -4,6 +4,7 @@
 mod bits;
 mod lists;
 mod marking;
+mod parents;
 mod prepare;
 mod slots;
 mod turns;
@@ -20,7 +21,7 @@ ghost use Prim.Native.Nat.{_*_, _≤_};
 ghost use lib.ListN.{length};
 ghost use Rattle.walk.specs.Opening.{listIds};
 ghost use Rattle.frontier.specs.Paint.{lent};
-ghost use Rattle.frontier.specs.Painted.{loweredTo, PaintsFrom, Paints};
+ghost use Rattle.frontier.specs.Painted.{emptyIn, loweredTo, MarksInputs, PaintsFrom, Paints};
 ghost use Rattle.hash.specs.Bytes.{widthOf};
 
 // An answer whose queue may reach down to another place.
@@ -40,9 +41,22 @@ fn lowered(past: Marked, base: usize) -> Marked
     }
 }
 
-// Painting, where the commits that wait stand in the n slots from line[2 * cap] on by rising id. While these get VISIBLE the queue keeps
-// clear of them.
-fn paint_from(
+// Painting's queue, empty, in line[base..end).
+fn empty_queue(base: usize, end: usize) -> Pending
+    ensures { λ r. ⌜ r ≡ emptyIn base end ⌝ }
+{
+    Pending {
+        base,
+        low: base,
+        high: base,
+        start: end,
+        end,
+    }
+}
+
+// The marks that painting begins with: VISIBLE for the commits that wait, which stand in the n slots from line[2 * cap] on by rising id,
+// and HIDDEN for the hidden tips. While the first get theirs the queue keeps clear of these slots.
+fn mark_inputs(
     kind: Kind,
     names: &mut [u8],
     marks: &mut [u8],
@@ -57,19 +71,10 @@ fn paint_from(
     hidden: &[u8],
 ) -> Marked
     requires { ⌜ (5 * cap ≤ length (now line)) × (n ≤ cap) ⌝ }
-    ensures { λ r. ⌜ PaintsFrom (widthOf kind) cache (now (graph .entry)) (now (store .entry)) cap (lent (now (names .entry)) (now (marks .entry)) (now (levels .entry)) (now (times .entry)) (now (line .entry))) (lent (now (names .exit)) (now (marks .exit)) (now (levels .exit)) (now (times .exit)) (now (line .exit))) n (listIds (widthOf kind) (now (hidden .entry))) r ⌝ }
+    ensures { λ r. ⌜ MarksInputs (widthOf kind) cache (now (graph .entry)) (now (store .entry)) cap (lent (now (names .entry)) (now (marks .entry)) (now (levels .entry)) (now (times .entry)) (now (line .entry))) (lent (now (names .exit)) (now (marks .exit)) (now (levels .exit)) (now (times .exit)) (now (line .exit))) n (listIds (widthOf kind) (now (hidden .entry))) r ⌝ }
 {
     let from = 2 * cap;
-    let end = 5 * cap;
-    let most = 4 * cap;
-    let base = from + n;
-    let p = Pending {
-        base,
-        low: base,
-        high: base,
-        start: end,
-        end,
-    };
+    let p = empty_queue(from + n, 5 * cap);
     let shown = lists::mark_run(
         kind,
         names,
@@ -87,7 +92,7 @@ fn paint_from(
         VISIBLE,
     );
     let low = lowered(shown, from);
-    let both = lists::mark_list(
+    lists::mark_list(
         kind,
         names,
         marks,
@@ -101,7 +106,42 @@ fn paint_from(
         low,
         hidden,
         HIDDEN,
+    )
+}
+
+// Painting, where the commits that wait stand in the n slots from line[2 * cap] on by rising id.
+fn paint_from(
+    kind: Kind,
+    names: &mut [u8],
+    marks: &mut [u8],
+    levels: &mut [u32],
+    times: &mut [i64],
+    line: &mut [u32],
+    cap: usize,
+    cache: Cache,
+    graph: &[u8],
+    store: &[u8],
+    n: usize,
+    hidden: &[u8],
+) -> Marked
+    requires { ⌜ (5 * cap ≤ length (now line)) × (n ≤ cap) ⌝ }
+    ensures { λ r. ⌜ PaintsFrom (widthOf kind) cache (now (graph .entry)) (now (store .entry)) cap (lent (now (names .entry)) (now (marks .entry)) (now (levels .entry)) (now (times .entry)) (now (line .entry))) (lent (now (names .exit)) (now (marks .exit)) (now (levels .exit)) (now (times .exit)) (now (line .exit))) n (listIds (widthOf kind) (now (hidden .entry))) r ⌝ }
+{
+    let both = mark_inputs(
+        kind,
+        names,
+        marks,
+        levels,
+        times,
+        line,
+        cap,
+        cache,
+        graph,
+        store,
+        n,
+        hidden,
     );
+    let most = 4 * cap;
     turns::turns(
         kind,
         names,

@@ -2,6 +2,7 @@
 use crate::bits;
 use crate::marking;
 use crate::marking::Marked;
+use crate::slots;
 use commit::Cache;
 use hash::Kind;
 use hashtable::table;
@@ -18,7 +19,7 @@ ghost use Rattle.hashtable.specs.Table.{idOf};
 ghost use Rattle.object.specs.Ids.{padded};
 ghost use Rattle.reading.specs.Whole.{parentCount};
 ghost use Rattle.frontier.specs.Paint.{lent};
-ghost use Rattle.frontier.specs.Mark.{Takes, TakesAfter, passTo, LacksMark};
+ghost use Rattle.frontier.specs.Mark.{Takes, TakesAfter, passTo, LacksMarkAt};
 ghost use Rattle.frontier.specs.Lists.{TakesAllAfter, MarksRun, PassesAll};
 ghost use Rattle.hash.specs.Bytes.{widthOf};
 
@@ -136,12 +137,11 @@ pub fn mark_run(
     r
 }
 
-// Whether an id lacks one of the marks.
-fn is_lacking(kind: Kind, names: &[u8], marks: &[u8], cap: usize, id: &[u8], bits: u8) -> bool
-    ensures { λ r. ⌜ LacksMark (widthOf kind) (now (names .entry)) (now (marks .entry)) cap (now (id .entry)) bits r ⌝ }
+// Whether an id lacks one of the marks, by the slot that a search for it answered.
+fn is_lacking(marks: &[u8], slot: Slot, bits: u8) -> bool
+    ensures { λ r. ⌜ LacksMarkAt (now (marks .entry)) slot bits r ⌝ }
 {
-    let s = table::find_slot(kind, names, marks, cap, false, id);
-    match s {
+    match slot {
         Slot::Found(k) => bits::lacks_bits(bits, table::mark_of(marks, k)),
         Slot::Vacant(_) => bits::lacks_bits(bits, 0),
         Slot::Full => bits::lacks_bits(bits, 0),
@@ -168,23 +168,22 @@ fn pass_one(
 ) -> Marked
     ensures { λ r. ⌜ Takes (widthOf kind) passTo cache (now (graph .entry)) (now (store .entry)) cap (lent (now (names .entry)) (now (marks .entry)) (now (levels .entry)) (now (times .entry)) (now (line .entry))) (lent (now (names .exit)) (now (marks .exit)) (now (levels .exit)) (now (times .exit)) (now (line .exit))) p (now (id .entry)) bits r ⌝ }
 {
-    if is_lacking(kind, names, marks, cap, id, bits) {
+    let slot = table::find_slot(kind, names, marks, cap, false, id);
+    if is_lacking(marks, slot, bits) {
         let near = reading::parent_near(kind, commit, k, cache, graph);
-        marking::mark_one(
+        let added = slots::add_mark(kind, names, marks, id, slot, bits);
+        marking::queue_added(
             kind,
-            names,
-            marks,
             levels,
             times,
             line,
-            cap,
             cache,
             graph,
             store,
             p,
             id,
             near,
-            bits,
+            added,
         )
     } else {
         Marked::Going(p)

@@ -3,13 +3,14 @@ use crate::slots;
 use crate::slots::Added;
 use commit::Cache;
 use hash::Kind;
+use hashtable::table;
 use pending::Pending;
 use reading::Commit;
 use reading::NOWHERE;
 use walk::Refusal;
 ghost use mathlib.Core.Path.{_≡_};
 ghost use Rattle.frontier.specs.Paint.{lent};
-ghost use Rattle.frontier.specs.Mark.{Learns, Places, Queues, Takes, TakesAfter};
+ghost use Rattle.frontier.specs.Mark.{Learns, PlacesAdded, Queues, Takes, TakesAdded, TakesAfter};
 ghost use Rattle.walk.specs.Painting.{mark};
 ghost use Rattle.hash.specs.Bytes.{widthOf};
 
@@ -55,25 +56,21 @@ fn learn(
     }
 }
 
-// Gives marks to an id, and reads its commit where these are the first. No promise speaks of near, where the commit may stand.
+// Reads the commit of an id that gained marks, where these are the first. No promise speaks of near, where the commit may stand.
 fn place(
     kind: Kind,
-    names: &mut [u8],
-    marks: &mut [u8],
     levels: &mut [u32],
     times: &mut [i64],
-    cap: usize,
     cache: Cache,
     graph: &[u8],
     store: &[u8],
     id: &[u8],
     near: usize,
-    bits: u8,
+    added: Added,
 ) -> Spot
-    ensures { λ r. ⌜ Places (widthOf kind) cache (now (graph .entry)) (now (store .entry)) (now (names .entry)) (now (marks .entry)) (now (levels .entry)) (now (times .entry)) (now (names .exit)) (now (marks .exit)) (now (levels .exit)) (now (times .exit)) cap (now (id .entry)) bits r ⌝ }
+    ensures { λ r. ⌜ PlacesAdded (widthOf kind) cache (now (graph .entry)) (now (store .entry)) (now (levels .entry)) (now (times .entry)) (now (levels .exit)) (now (times .exit)) (now (id .entry)) added r ⌝ }
 {
-    let a = slots::add_mark(kind, names, marks, cap, id, bits);
-    match a {
+    match added {
         Added::New(k) => learn(kind, levels, times, cache, graph, store, id, near, k),
         Added::Known(k) => Spot::At(k),
         Added::Full => Spot::NoSlot,
@@ -93,8 +90,33 @@ fn queue_slot(p: Pending, line: &mut [u32], levels: &[u32], times: &[i64], slot:
     }
 }
 
-// Gives marks to a commit and queues it.
-pub fn mark_one(
+// Queues a commit that gained marks in the table, as `added` says. The table is no part of it, so that the id is only handed on: where it
+// is written into a slot too, the compiler sets its slice down anew for the reading, which then waits for the slot.
+pub fn queue_added(
+    kind: Kind,
+    levels: &mut [u32],
+    times: &mut [i64],
+    line: &mut [u32],
+    cache: Cache,
+    graph: &[u8],
+    store: &[u8],
+    p: Pending,
+    id: &[u8],
+    near: usize,
+    added: Added,
+) -> Marked
+    ensures { λ r. ⌜ TakesAdded (widthOf kind) cache (now (graph .entry)) (now (store .entry)) (now (levels .entry)) (now (times .entry)) (now (line .entry)) (now (levels .exit)) (now (times .exit)) (now (line .exit)) p (now (id .entry)) added r ⌝ }
+{
+    let s = place(kind, levels, times, cache, graph, store, id, near, added);
+    match s {
+        Spot::At(k) => queue_slot(p, line, levels, times, k),
+        Spot::Unread(n) => Marked::Stop(n),
+        Spot::NoSlot => Marked::NoRoom,
+    }
+}
+
+// Gives marks to a commit of which no place is known, and queues it.
+fn mark_one(
     kind: Kind,
     names: &mut [u8],
     marks: &mut [u8],
@@ -107,33 +129,28 @@ pub fn mark_one(
     store: &[u8],
     p: Pending,
     id: &[u8],
-    near: usize,
     bits: u8,
 ) -> Marked
     ensures { λ r. ⌜ Takes (widthOf kind) mark cache (now (graph .entry)) (now (store .entry)) cap (lent (now (names .entry)) (now (marks .entry)) (now (levels .entry)) (now (times .entry)) (now (line .entry))) (lent (now (names .exit)) (now (marks .exit)) (now (levels .exit)) (now (times .exit)) (now (line .exit))) p (now (id .entry)) bits r ⌝ }
 {
-    let s = place(
+    let slot = table::find_slot(kind, names, marks, cap, false, id);
+    let added = slots::add_mark(kind, names, marks, id, slot, bits);
+    queue_added(
         kind,
-        names,
-        marks,
         levels,
         times,
-        cap,
+        line,
         cache,
         graph,
         store,
+        p,
         id,
-        near,
-        bits,
-    );
-    match s {
-        Spot::At(k) => queue_slot(p, line, levels, times, k),
-        Spot::Unread(n) => Marked::Stop(n),
-        Spot::NoSlot => Marked::NoRoom,
-    }
+        NOWHERE,
+        added,
+    )
 }
 
-// The same after an answer, of a commit of which no place is known: where painting does not go on, nothing is done.
+// The same after an answer: where painting does not go on, nothing is done.
 pub fn mark_next(
     kind: Kind,
     names: &mut [u8],
@@ -165,7 +182,6 @@ pub fn mark_next(
             store,
             p,
             id,
-            NOWHERE,
             bits,
         ),
         Marked::Stop(n) => Marked::Stop(n),

@@ -10,7 +10,7 @@ ghost use mathlib.Core.Path.{_≡_};
 ghost use Prim.Native.Nat.{_<_};
 ghost use lib.ListN.{getD, set};
 ghost use Rattle.frontier.specs.Bits.{isPainted, withBits};
-ghost use Rattle.frontier.specs.Slots.{mostSlots, addedAt, AddsMark};
+ghost use Rattle.frontier.specs.Slots.{mostSlots, addedAt, AddsMarkAt};
 ghost use Rattle.hash.specs.Bytes.{widthOf};
 
 // The slot of an id that gained marks: it had none of painting's, or it had one; or there is no slot for it.
@@ -47,22 +47,24 @@ fn raise(marks: &mut [u8], slot: usize, bits: u8) -> bool
     bits::is_painted(m)
 }
 
-// Gives marks to an id, which enters the table where it is not there.
+// Gives marks to an id in the slot that a search for it answered; where that is a vacant one, the id enters the table there.
 pub fn add_mark(
     kind: Kind,
     names: &mut [u8],
     marks: &mut [u8],
-    cap: usize,
     id: &[u8],
+    s: Slot,
     bits: u8,
 ) -> Added
-    ensures { λ r. ⌜ AddsMark (widthOf kind) (now (names .entry)) (now (marks .entry)) (now (names .exit)) (now (marks .exit)) cap (now (id .entry)) bits r ⌝ }
+    ensures { λ r. ⌜ AddsMarkAt (widthOf kind) (now (names .entry)) (now (marks .entry)) (now (names .exit)) (now (marks .exit)) (now (id .entry)) s bits r ⌝ }
 {
-    let first = bits::with_bits(bits, 0);
-    let s = table::insert(kind, names, marks, cap, false, id, first);
     match s {
         Slot::Found(k) => slot_added(raise(marks, k, bits), k),
-        Slot::Vacant(k) => slot_added(false, k),
+        Slot::Vacant(k) => {
+            hash::set_nth(kind, names, k, id);
+            table::set_mark(marks, k, bits::with_bits(bits, 0));
+            slot_added(false, k)
+        }
         Slot::Full => Added::Full,
     }
 }

@@ -2,11 +2,11 @@
 use crate::bits;
 use crate::lists;
 use crate::marking::Marked;
+use crate::parents;
 use commit::Cache;
 use hash::Kind;
 use hashtable::table;
 use pending::Pending;
-use reading::NOWHERE;
 ghost use mathlib.Core.Path.{_≡_};
 ghost use Rattle.frontier.specs.Paint.{lent};
 ghost use Rattle.frontier.specs.Turns.{TakesTurn, TakesTurnAfter, dueAfter, TakesTurnsAfter};
@@ -33,14 +33,12 @@ pub fn turn(
         let slot = t.slot;
         let rest = t.pending;
         let given = bits::passed_bits(table::mark_of(marks, slot as usize));
-        let id = lists::id_in(kind, names, slot);
-        let commit = reading::read_commit(
+        let commit = parents::read_parents(
             kind,
             cache,
             graph,
             store,
-            object::id_slice(kind, &id.bytes),
-            NOWHERE,
+            table::id_of(kind, names, slot as usize),
         );
         lists::pass_to_parents(
             kind,

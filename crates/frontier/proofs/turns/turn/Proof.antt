@@ -1,6 +1,4 @@
 -- `turns::turn` meets its contract: the slot that leaves has the first commit of the queue, and what it passes are that commit's marks. Assumes nothing.
-use mathlib.Core.Path.{_∙_, ap}
-use Rattle.object.specs.Ids.{idIn}
 use Rattle.frontier.proofs.TurnLaws.{turn-some, turn-none}
 use borrow.Author.Needs.{needs}
 use Rattle.frontier.proofs.turns.turn.Statement.{statement}
@@ -18,14 +16,14 @@ mark-of-requires c κs = search needs
 passed-bits-requires : tie.Need-passed-bits-requires
 passed-bits-requires c κs = search needs
 
-id-in-requires : tie.Need-id-in-requires
-id-in-requires c κs = search needs
+cast-id-of : tie.Need-cast-id-of
+cast-id-of c = search needs
 
-id-slice-requires : tie.Need-id-slice-requires
-id-slice-requires c κs = search needs
+id-of-requires : tie.Need-id-of-requires
+id-of-requires c κs = search needs
 
-read-commit-requires : tie.Need-read-commit-requires
-read-commit-requires c κs = search needs
+read-parents-requires : tie.Need-read-parents-requires
+read-parents-requires c κs = search needs
 
 pass-to-parents-requires : tie.Need-pass-to-parents-requires
 pass-to-parents-requires c κs = search needs
@@ -46,7 +44,7 @@ same-length-5 : tie.Need-same-length-5
 same-length-5 c = search needs
 
 returns : tie.Need-returns
-returns c = turn-some (c .before .before .before .before .before .before .before .before .before .before .before .before .before .before .before .before .before .before .before .before .before .before .before .before .before .before .pop .ensures) (c .before .before .before .before .before .before .before .before .before .before .before .before .before .before .before .before .before .before .before .before .before .before .before .before .before .if1 .taken) (c .before .before .before .before .before .before .before .before .before .before .before .before .before .before .before .before .before .before .before .before .before .before .mark-of .ensures) (c .before .before .before .before .before .before .before .before .before .before .before .before .before .before .before .before .before .before .before .before .before .passed-bits .ensures) (c .before .before .before .before .before .before .before .before .before .before .before .before .before .before .before .before .id-slice .ensures ∙ ap (idIn _) (c .before .before .before .before .before .before .before .before .before .before .before .before .before .before .before .before .before .before .before .id-in .ensures)) (c .before .before .before .before .before .before .before .before .before .before .before .before .before .before .before .read-commit .ensures) (c .before .before .before .before .before .before .before .before .before .pass-to-parents .ensures)
+returns c = turn-some (c .before .before .before .before .before .before .before .before .before .before .before .before .before .before .before .before .before .before .before .before .before .before .before .pop .ensures) (c .before .before .before .before .before .before .before .before .before .before .before .before .before .before .before .before .before .before .before .before .before .before .if1 .taken) (c .before .before .before .before .before .before .before .before .before .before .before .before .before .before .before .before .before .before .before .mark-of .ensures) (c .before .before .before .before .before .before .before .before .before .before .before .before .before .before .before .before .before .before .passed-bits .ensures) (c .before .before .before .before .before .before .before .before .before .before .before .before .before .before .before .before .id-of .ensures) (c .before .before .before .before .before .before .before .before .before .before .before .before .before .before .before .read-parents .ensures) (c .before .before .before .before .before .before .before .before .before .pass-to-parents .ensures)
 
 same-length-6 : tie.Need-same-length-6
 same-length-6 c = search needs
@@ -68,9 +66,9 @@ turn-spec =
     cast-mark-of
     mark-of-requires
     passed-bits-requires
-    id-in-requires
-    id-slice-requires
-    read-commit-requires
+    cast-id-of
+    id-of-requires
+    read-parents-requires
     pass-to-parents-requires
     same-length
     same-length-2
