@@ -5,7 +5,7 @@ use Prim.Native.Nat.{ℕ, _+_, _≤_, _<_}
 use mathlib.Core.Bool.{Bool, true, false, not}
 use mathlib.Core.List.{List, [], _∷_, _++_, List·Memᴰ·eq-of-singleton, Memᴰ·append-left, Memᴰ·append-right, List·Memᴰ·append-cases}
 use native.Mathlib.Omega.{arith}
-use lib.ListN.{length, take, getD, set, length-append, length-set, List·getD-append}
+use lib.ListN.{length, take, drop, getD, set, length-append, length-set, take-append-drop, List·getD-append}
 use lib.Seq.{take-all, getD-append-add, getD-set-same, getD-set-other}
 use Rattle.hash.specs.Bytes.{Id}
 use Rattle.hash.proofs.Tests.{clash}
@@ -24,7 +24,7 @@ use Rattle.reach.specs.declared.notes.Marking.{Marking}
 use Rattle.reach.specs.declared.notes.Marking.the-variants.{Fresh, Known, Full}
 use Rattle.reach.specs.declared.notes.Grown.{Grown}
 use Rattle.reach.specs.declared.notes.Grown.the-variants.{Count, NoRoom}
-use Rattle.reach.specs.Memory.{hasBit, Lent, lent, markIn, Lists, Named, Spares, Gained, MarksId, Puts, Went, Told, Notes, NotedAfter, NotesNext, AllNoted, NotesAll, NotesParents}
+use Rattle.reach.specs.Memory.{hasBit, Lent, lent, markIn, Lists, Named, Spares, Gained, MarksId, Puts, Went, Told, Notes, NotedAfter, NotesNext, AllNoted, NotesAll, NotesOne, NotesParents}
 use Rattle.reach.proofs.Growth.{same-id?, mem-end, nodup-end, last-place, grows-none, grows-known, grows-new, grows-then}
 use Rattle.reach.proofs.MarkBits.{bit-with, other-with, bit-not-0}
 
@@ -234,22 +234,38 @@ listing-last a h = record { does = upto-last (a .begun) h }
 
 -- ---- the parents of a header
 
--- a loop over the n parents of h, after i of them
-pub record Passing (width : ℕ) (second : Bool) (cap from : ℕ) (h : Header) (m₀ m : Lent) (past : Grown) (n i : ℕ) (r : Grown) : Type 0 where
-  pub upto : i ≤ n
-  pub long : Long m₀ m
-  pub begun : h .tree ≡ true → n ≡ length (h .ids) → Upto width second cap from m₀ m past (h .ids) i r
-
-pub passing-first : (width : ℕ) (second : Bool) (cap from : ℕ) (h : Header) (m : Lent) (past : Grown) (n : ℕ) → Passing width second cap from h m m past n 0 past
-passing-first width second cap from h m past n = record { upto = omega arith; long = long-none m; begun = λ t e. upto-first width second cap from m past (h .ids) }
-
-pub passing-next : {width : ℕ} → width ≤ idRoom → {second : Bool} {cap from : ℕ} {m₀ m m′ : Lent} {past : Grown} {n i : ℕ} {r r′ : Grown} {x : Id} (b : List ℕ) (z : ObjectId) → Passing width second cap from (header width b) m₀ m past n i r → i < n
-    → z .bytes ≡ parentIdAt width b i → x ≡ idIn width (z .bytes) → Long m m′ → NotesNext width second cap from m m′ r x r′ → Passing width second cap from (header width b) m₀ m′ past n (i + 1) r′
-passing-next {width} small {i = i} b z v l give e k o = record {
-  upto = omega arith;
-  long = long-then (v .long) k;
-  begun = λ t q. upto-next (v .begun t q) (omega arith) (e ∙ ap (idIn width) give ∙ parent-right width small b i t (omega arith)) (ap length e ∙ id-in-width width small (z .bytes) (ap length give ∙ parent-length width b i)) o;
+-- a parent whose line was decoded
+pub one-decoded : {width : ℕ} → width ≤ idRoom → {second : Bool} {cap from : ℕ} {m m′ : Lent} {n k : ℕ} {r : Grown} {x : Id} (b : List ℕ) (z : ObjectId) → z .bytes ≡ parentIdAt width b k → x ≡ idIn width (z .bytes)
+    → Notes width second cap from m m′ n x r → NotesOne width second cap from (header width b) m m′ n k r
+one-decoded {width} small {k = k} {x = x} b z give e o = record {
+  id = x;
+  is = λ t l. e ∙ ap (idIn width) give ∙ parent-right width small b k t l;
+  wide = ap length e ∙ id-in-width width small (z .bytes) (ap length give ∙ parent-length width b k);
+  notes = o;
 }
 
-pub passing-last : {width : ℕ} {second : Bool} {cap from : ℕ} {h : Header} {m₀ m : Lent} {past : Grown} {n i : ℕ} {r : Grown} → Passing width second cap from h m₀ m past n i r → n ≤ i → NotesParents width second cap from h m₀ m past n r
+-- a loop over the c parents of h, after i of them: the line had n slots and has `have` now
+pub record Passing (width : ℕ) (second : Bool) (cap from : ℕ) (h : Header) (m₀ m : Lent) (n c i have : ℕ) : Type 0 where
+  pub upto : i ≤ c
+  pub long : Long m₀ m
+  pub begun : h .tree ≡ true → c ≡ length (h .ids) → Upto width second cap from m₀ m (Count n) (h .ids) i (Count have)
+
+pub passing-first : (width : ℕ) (second : Bool) (cap from : ℕ) (h : Header) (m : Lent) (n c : ℕ) → Passing width second cap from h m m n c 0 n
+passing-first width second cap from h m n c = record { upto = omega arith; long = long-none m; begun = λ t e. upto-first width second cap from m (Count n) (h .ids) }
+
+module _ {width : ℕ} {second : Bool} {cap from : ℕ} {h : Header} {m₀ m m′ : Lent} {n c i have : ℕ} {r : Grown} (v : Passing width second cap from h m₀ m n c i have) (l : i < c) (o : NotesOne width second cap from h m m′ have i r) where
+  -- one more
+  upto-one : (a : Grown) → r ≡ a → h .tree ≡ true → c ≡ length (h .ids) → Upto width second cap from m₀ m′ (Count n) (h .ids) (i + 1) a
+  upto-one a e t q = subst (Upto width second cap from m₀ m′ (Count n) (h .ids) (i + 1)) e (upto-next (v .begun t q) (omega arith) (o .is t (omega arith)) (o .wide) (record { does = o .notes }))
+
+  pub passing-next : Long m m′ → {more : ℕ} → r ≡ Count more → Passing width second cap from h m₀ m′ n c (i + 1) more
+  passing-next k {more} e = record { upto = omega arith; long = long-then (v .long) k; begun = upto-one (Count more) e }
+
+  -- no room for this one: so none for all of them
+  pub passing-short : r ≡ NoRoom → NotesParents width second cap from h m₀ m′ n c NoRoom
+  passing-short e = record {
+    right = λ t q u l′ a d j. upto-one NoRoom e t q .so-far u l′ a d (λ x p. j x (subst (λ (z : List Id). Mem x z) (take-append-drop (i + 1) (h .ids)) (Memᴰ·append-left (drop (i + 1) (h .ids)) p)));
+  }
+
+pub passing-last : {width : ℕ} {second : Bool} {cap from : ℕ} {h : Header} {m₀ m : Lent} {n c i have : ℕ} → Passing width second cap from h m₀ m n c i have → c ≤ i → NotesParents width second cap from h m₀ m n c (Count have)
 passing-last v l = record { right = λ t e. upto-last (v .begun t e) (omega arith) }

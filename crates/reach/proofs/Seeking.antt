@@ -82,7 +82,7 @@ module _ (width : ℕ) (second : Bool) (cap from : ℕ) {s : List ℕ} (m : Lent
         }
     read-told m′ g u roots l ok v h Short o = o
 
-    pub read-noted : {m′ : Lent} {r : Grown} {a : Step} → NotesParents width second cap from (header width b) m m′ (CountOf n) c r → a ≡ stepOf r → Reads width second cap from s m m′ n k a
+    pub read-noted : {m′ : Lent} {r : Grown} {a : Step} → NotesParents width second cap from (header width b) m m′ n c r → a ≡ stepOf r → Reads width second cap from s m m′ n k a
     read-noted {m′} {r} {a} p z = record {
       right = λ ok g u roots l v h.
           let i = in-hand v h e f in

@@ -139,6 +139,13 @@ AllNoted width second cap from m m′ NoRoom xs r = (m′ ≡ m) × (r ≡ NoRoo
 pub record NotesAll (width : ℕ) (second : Bool) (cap from : ℕ) (m m′ : Lent) (past : Grown) (xs : List Id) (r : Grown) : Type 0 where
   pub does : AllNoted width second cap from m m′ past xs r
 
--- the parents of a header with a good tree line, of which there are n
-pub record NotesParents (width : ℕ) (second : Bool) (cap from : ℕ) (h : Header) (m m′ : Lent) (past : Grown) (n : ℕ) (r : Grown) : Type 0 where
-  pub right : h .tree ≡ true → n ≡ length (h .ids) → AllNoted width second cap from m m′ past (h .ids) r
+-- what `note_one` does: an id of the width is noted, and it is parent k of a header with a good tree line, where there is one
+pub record NotesOne (width : ℕ) (second : Bool) (cap from : ℕ) (h : Header) (m m′ : Lent) (n k : ℕ) (r : Grown) : Type 0 where
+  pub id : Id
+  pub is : h .tree ≡ true → k < length (h .ids) → id ≡ getD (h .ids) k []
+  pub wide : length id ≡ width
+  pub notes : Notes width second cap from m m′ n id r
+
+-- the parents of a header with a good tree line, of which there are c, are noted after the n of the line
+pub record NotesParents (width : ℕ) (second : Bool) (cap from : ℕ) (h : Header) (m m′ : Lent) (n c : ℕ) (r : Grown) : Type 0 where
+  pub right : h .tree ≡ true → c ≡ length (h .ids) → AllNoted width second cap from m m′ (Count n) (h .ids) r

@@ -7,7 +7,7 @@ ghost use mathlib.Core.Path.{_≡_};
 ghost use Prim.Native.Nat.{_+_, _<_};
 ghost use Rattle.object.specs.Header.{header};
 ghost use Rattle.walk.specs.Opening.{listIds};
-ghost use Rattle.reach.specs.Memory.{mostSlots, freshAt, Raises, MarksId, Puts, lent, Notes, NotesNext, NotesAll, NotesParents};
+ghost use Rattle.reach.specs.Memory.{mostSlots, freshAt, Raises, MarksId, Puts, lent, Notes, NotesNext, NotesAll, NotesOne, NotesParents};
 ghost use Rattle.hash.specs.Bytes.{widthOf};
 
 // What came of an id: it was new to this search and stands in a slot; it was known; or there is no slot for it.
@@ -146,7 +146,38 @@ pub fn note_list(
     r
 }
 
-// Notes the parents of a commit, in order: the ids of the first `count` parent lines of its body, which a good tree line stands before.
+// Notes parent k of a body after the n of the line.
+fn note_one(
+    kind: Kind,
+    names: &mut [u8],
+    marks: &mut [u8],
+    line: &mut [u32],
+    cap: usize,
+    second: bool,
+    from: usize,
+    n: usize,
+    body: &[u8],
+    k: usize,
+) -> Grown
+    ensures { λ r. ⌜ NotesOne (widthOf kind) second cap from (header (widthOf kind) (now (body .entry))) (lent (now (names .entry)) (now (marks .entry)) (now (line .entry))) (lent (now (names .exit)) (now (marks .exit)) (now (line .exit))) n k r ⌝ }
+{
+    let id = reading::body_parent(kind, body, k);
+    note(
+        kind,
+        names,
+        marks,
+        line,
+        cap,
+        second,
+        from,
+        n,
+        object::id_slice(kind, &id.bytes),
+    )
+}
+
+// Notes the parents of a commit after the n of the line, in order: the ids of the first `count` parent lines of its body, which a good tree line
+// stands before. How many slots the line has is carried as a plain number: an answer that is carried from turn to turn is copied whole just after
+// its parts were stored, and such a copy waits until every store before it has arrived in memory.
 pub fn note_parents(
     kind: Kind,
     names: &mut [u8],
@@ -155,28 +186,24 @@ pub fn note_parents(
     cap: usize,
     second: bool,
     from: usize,
-    past: Grown,
+    n: usize,
     body: &[u8],
     count: usize,
 ) -> Grown
-    ensures { λ r. ⌜ NotesParents (widthOf kind) second cap from (header (widthOf kind) (now (body .entry))) (lent (now (names .entry)) (now (marks .entry)) (now (line .entry))) (lent (now (names .exit)) (now (marks .exit)) (now (line .exit))) past count r ⌝ }
+    ensures { λ r. ⌜ NotesParents (widthOf kind) second cap from (header (widthOf kind) (now (body .entry))) (lent (now (names .entry)) (now (marks .entry)) (now (line .entry))) (lent (now (names .exit)) (now (marks .exit)) (now (line .exit))) n count r ⌝ }
 {
-    let mut r = past;
+    let mut have = n;
     let mut i = 0;
     while i < count {
-        let id = reading::body_parent(kind, body, i);
-        r = note_next(
-            kind,
-            names,
-            marks,
-            line,
-            cap,
-            second,
-            from,
-            r,
-            object::id_slice(kind, &id.bytes),
-        );
+        match note_one(kind, names, marks, line, cap, second, from, have, body, i) {
+            Grown::Count(m) => {
+                have = m;
+            }
+            Grown::NoRoom => {
+                return Grown::NoRoom;
+            }
+        }
         i += 1;
     }
-    r
+    Grown::Count(have)
 }

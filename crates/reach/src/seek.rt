@@ -85,7 +85,7 @@ fn read_at(
             cap,
             second,
             from,
-            Grown::Count(n),
+            n,
             body,
             parents,
         )),

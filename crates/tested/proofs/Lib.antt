@@ -1,4 +1,3 @@
-pub mod Parents
 pub mod Taking
 pub mod Fresh
 pub mod Taken

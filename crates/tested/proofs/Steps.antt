@@ -30,7 +30,7 @@ use Rattle.judging.specs.declared.Judged.the-variants.{Pair as PairOf, AtOdds a
 use Rattle.tested.specs.declared.step.Step.{Step}
 use Rattle.tested.specs.declared.step.Step.the-variants.{Count, Unreadable, AtOdds, NoRoom}
 use Rattle.tested.specs.declared.along.Gone.the-variants.{Whole, Unreadable as NotReadable, AtOdds as IsAtOdds, NoRoom as TooSmall}
-use Rattle.tested.specs.Passes.{Held, slotAt, Going, GoesOn, Takes, ToldStep, Steps, Goes}
+use Rattle.tested.specs.Passes.{Held, slotAt, Going, GoesOn, Takes, ToldStep, Steps, StepsIn, StepsRead, Goes}
 
 -- ---- one commit
 
@@ -45,59 +45,70 @@ again v = record {
   parents-in = v .parents-in;
 }
 
-module _ (width : ℕ) (ca : Cache) (g : List ℕ) {s : List ℕ} (cap from : ℕ) (m : Held) (n k : ℕ) {slot : ℕ} {b : List ℕ} (e : slot ≡ slotAt from m k)
-    (f : GivesBody width s (idOf width (m .lent .names) slot) b) where
-  -- the commit in the slot is that of place k
-  its-id : {w : World} {u roots l : List Id} → Going width w u roots cap from m n l k → k < n → idOf width (m .lent .names) slot ≡ getD l k []
-  its-id v h = ap (idOf width (m .lent .names)) e ∙ v .seeking .lists .slots k h .is
+-- the commit in the slot of place k is that of the list
+its-id : {width : ℕ} {w : World} {u roots : List Id} {cap from : ℕ} (m : Held) {n : ℕ} {l : List Id} (k : ℕ) {slot : ℕ} → slot ≡ slotAt from m k → Going width w u roots cap from m n l k → k < n → idOf width (m .lent .names) slot ≡ getD l k []
+its-id {width} m k e v h = ap (idOf width (m .lent .names)) e ∙ v .seeking .lists .slots k h .is
 
-  -- the commit is reached, and it is not readable
-  stuck : ((x : Id) → GivesBody width s x b → storeOk width s ≡ true → Readable (worldOf width s g) x → ⊥) → Steps width ca g s cap from m m n k Unreadable
-  stuck bars = record {
-    right = λ fs u roots l v h. record {
-      commit = getD l k [];
-      reached = v .seeking .growing .sound (getD l k []) (mem-at l k (omega (arith, v .seeking .lists .count)));
-      unreadable = bars (getD l k []) (body-at (its-id v h) f) (fs .store);
-    };
-  }
-
-  pub step-bad : readingOf (header width b) ≡ Bad → Steps width ca g s cap from m m n k Unreadable
-  step-bad d = stuck (λ x i ok. stored-bad i ok g d)
-
-  pub step-crowded : readingOf (header width b) ≡ Crowded → Steps width ca g s cap from m m n k Unreadable
-  step-crowded d = stuck (λ x i ok. stored-crowded i ok g d)
-
-  module _ (c : ℕ) (t : Stamp) (d : readingOf (header width b) ≡ AsReadable c t) {j : Judged} (o : Judges width ca g s (idOf width (m .lent .names) slot) b c (t .seconds .0) j) where
-    told : (a : Judged) → j ≡ a → Files width ca g s → {u roots l : List Id} → Going width (worldOf width s g) u roots cap from m n l k → k < n → ToldJudged (worldOf width s g) (getD l k []) a
-    told a i fs v h = subst (λ (x : Id). ToldJudged (worldOf width s g) x a) (its-id v h) (subst (ToldJudged (worldOf width s g) (idOf width (m .lent .names) slot)) i (o .right fs f t d refl))
-
-    pub step-odd : j ≡ IsOdd → Steps width ca g s cap from m m n k AtOdds
-    step-odd i = record {
-      right = λ fs u roots l v h. record {
-        commit = getD l k [];
-        reached = v .seeking .growing .sound (getD l k []) (mem-at l k (omega (arith, v .seeking .lists .count)));
-        odd = told IsOdd i fs v h;
-        list = l;
-        seeking = again (v .seeking);
+module _ (width : ℕ) (ca : Cache) (g : List ℕ) {s : List ℕ} (cap from : ℕ) (m : Held) (n : ℕ) {slot : ℕ} {b : List ℕ} where
+  module _ (f : GivesBody width s (idOf width (m .lent .names) slot) b) where
+    -- the commit is reached, and it is not readable
+    stuck : ((x : Id) → GivesBody width s x b → storeOk width s ≡ true → Readable (worldOf width s g) x → ⊥) → StepsIn width ca g s cap from m m n slot Unreadable
+    stuck bars = record {
+      right = λ k e. record {
+        right = λ fs u roots l v h. record {
+          commit = getD l k [];
+          reached = v .seeking .growing .sound (getD l k []) (mem-at l k (omega (arith, v .seeking .lists .count)));
+          unreadable = bars (getD l k []) (body-at (its-id m k e v h) f) (fs .store);
+        };
       };
     }
 
-    pub step-taken : (p : ℕ) (q : GenThenTime) {m′ : Held} {r : Step} → j ≡ PairOf p q → Takes width cap from m m′ n slot (pairOf q) (header width b) c r → Steps width ca g s cap from m m′ n k r
-    step-taken p q i tk = record {
-      right = λ fs u roots l v h.
-          let gb = body-at (its-id v h) f in
-          let y = told (PairOf p q) i fs v h in
-          let gh = stored-good gb (fs .store) g c t d in
-          tk .right (worldOf width s g) u roots l k v h
-          (record {
-            slot-is = e;
-            tree = gh .tree;
-            count = gh .count;
-            links-are = stored-links gb (fs .store) g c t d;
-            readable = stored-readable gb (fs .store) g c t d;
-            agrees = y .0;
-            pair = y .1;
-          });
+    pub step-bad : readingOf (header width b) ≡ Bad → StepsIn width ca g s cap from m m n slot Unreadable
+    step-bad d = stuck (λ x i ok. stored-bad i ok g d)
+
+    pub step-crowded : readingOf (header width b) ≡ Crowded → StepsIn width ca g s cap from m m n slot Unreadable
+    step-crowded d = stuck (λ x i ok. stored-crowded i ok g d)
+
+  module _ (c : ℕ) (seconds : ℤ) {j : Judged} (o : Judges width ca g s (idOf width (m .lent .names) slot) b c seconds j) where
+    module _ (a : Judged) (i : j ≡ a) (f : GivesBody width s (idOf width (m .lent .names) slot) b) (t : Stamp) (d : readingOf (header width b) ≡ AsReadable c t) (q : seconds ≡ t .seconds .0) where
+      told : (k : ℕ) → slot ≡ slotAt from m k → Files width ca g s → {u roots l : List Id} → Going width (worldOf width s g) u roots cap from m n l k → k < n → ToldJudged (worldOf width s g) (getD l k []) a
+      told k e fs v h = subst (λ (x : Id). ToldJudged (worldOf width s g) x a) (its-id m k e v h) (subst (ToldJudged (worldOf width s g) (idOf width (m .lent .names) slot)) i (o .right fs f t d q))
+
+    pub step-odd : j ≡ IsOdd → StepsRead width ca g s cap from m m n slot b c seconds AtOdds
+    step-odd i = record {
+      right = λ f t d q. record {
+        right = λ k e. record {
+          right = λ fs u roots l v h. record {
+            commit = getD l k [];
+            reached = v .seeking .growing .sound (getD l k []) (mem-at l k (omega (arith, v .seeking .lists .count)));
+            odd = told IsOdd i f t d q k e fs v h;
+            list = l;
+            seeking = again (v .seeking);
+          };
+        };
+      };
+    }
+
+    pub step-taken : (p : ℕ) (pair : GenThenTime) {m′ : Held} {r : Step} → j ≡ PairOf p pair → Takes width cap from m m′ n slot (pairOf pair) (header width b) c r → StepsRead width ca g s cap from m m′ n slot b c seconds r
+    step-taken p pair i tk = record {
+      right = λ f t d q. record {
+        right = λ k e. record {
+          right = λ fs u roots l v h.
+              let gb = body-at (its-id m k e v h) f in
+              let y = told (PairOf p pair) i f t d q k e fs v h in
+              let gh = stored-good gb (fs .store) g c t d in
+              tk .right (worldOf width s g) u roots l k v h
+              (record {
+                slot-is = e;
+                tree = gh .tree;
+                count = gh .count;
+                links-are = stored-links gb (fs .store) g c t d;
+                readable = stored-readable gb (fs .store) g c t d;
+                agrees = y .0;
+                pair = y .1;
+              });
+        };
+      };
     }
 
 -- ---- the loop

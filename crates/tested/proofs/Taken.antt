@@ -20,7 +20,7 @@ use Rattle.tested.proofs.Taking.{right₁, slot-of, taken}
 use Rattle.tested.proofs.Fresh.{new-lowered}
 
 module _ (width : ℕ) (cap from : ℕ) (names marks levels : List ℕ) (times : List ℤ) (line : List ℕ) (n slot : ℕ) (q : Pair) (hd : Header) (c : ℕ) {names₁ marks₁ line₁ : List ℕ} {r : Grown}
-    (p : NotesParents width false cap from hd (lent names marks line) (lent names₁ marks₁ line₁) (CountOf n) c r) where
+    (p : NotesParents width false cap from hd (lent names marks line) (lent names₁ marks₁ line₁) n c r) where
   told : (w : World) (u roots l : List Id) (k : ℕ) → Going width w u roots cap from (held names marks levels times line) n l k → InHand w from (held names marks levels times line) l k slot q hd c
       → Told width false cap from u (lent names marks line) (lent names₁ marks₁ line₁) l (hd .ids) r
   told w u roots l k v a = p .right (a .tree) (a .count) u l (v .seeking .lists) (v .seeking .named) (λ x j. v .seeking .parents-in (getD l k []) x (subst (λ (z : List Id). Mem x z) (sym (a .links-are)) j))

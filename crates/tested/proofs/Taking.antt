@@ -17,10 +17,8 @@ use Rattle.walk.specs.Lookup.{World, Pair, ltPair}
 use Rattle.walk.specs.Reach.{Mem, links}
 use Rattle.walk.specs.Demand.{Readable, pairAt}
 use Rattle.reading.proofs.IdLists.{mem-at}
-use Rattle.reach.specs.declared.notes.Grown.{Grown}
-use Rattle.reach.specs.declared.notes.Grown.the-variants.{Count as CountOf, NoRoom as Short}
 use Rattle.reach.specs.Search.{ReachedBy, Growing}
-use Rattle.reach.specs.Memory.{Lent, lent, In, Lists, Named, Went, Told, NotesParents}
+use Rattle.reach.specs.Memory.{Lent, lent, In, Lists, Named, Went}
 use Rattle.reach.specs.Seek.{Seeking}
 use Rattle.reach.proofs.Growth.{last-place, place-of, grow-more, grow-read, reached-on, readable-more, readable-read}
 use Rattle.reach.specs.Tested.{agreesIn}

@@ -2,4 +2,3 @@ pub mod Passes
 pub mod Whole
 pub mod Instances
 pub mod Ahead
-pub mod Noting

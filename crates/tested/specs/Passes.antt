@@ -7,11 +7,16 @@ use mathlib.Core.List.{List, []}
 use lib.ListN.{length, getD}
 use lib.IntN.{ℤ}
 use Rattle.hash.specs.Bytes.{Id}
-use Rattle.object.specs.Header.{Header}
+use Rattle.date.specs.declared.Stamp.{Stamp}
+use Rattle.object.specs.Header.{Header, header}
+use Rattle.object.specs.Read.{readingOf}
+use Rattle.object.specs.declared.Reading.the-variants.{Readable as AsReadable}
+use Rattle.hashtable.specs.Table.{idOf}
 use Rattle.commit.specs.declared.Cache.{Cache}
 use Rattle.walk.specs.Lookup.{World, worldOf, Pair, ltPair}
 use Rattle.walk.specs.Reach.{Mem, links}
 use Rattle.walk.specs.Demand.{Readable, pairAt}
+use Rattle.reading.specs.Stored.{GivesBody}
 use Rattle.reach.specs.Search.{ReachedBy, Reached, AllReadable, Stuck}
 use Rattle.reach.specs.Memory.{Lent, lent, In}
 use Rattle.reach.specs.Seek.{Seeking}
@@ -103,6 +108,14 @@ pub record Takes (width : ℕ) (cap from : ℕ) (m m′ : Held) (n slot : ℕ) (
 -- what `read_at` does
 pub record Steps (width : ℕ) (c : Cache) (g s : List ℕ) (cap from : ℕ) (m m′ : Held) (n k : ℕ) (r : Step) : Type 0 where
   pub right : Files width c g s → (u roots l : List Id) → Going width (worldOf width s g) u roots cap from m n l k → k < n → ToldStep width (worldOf width s g) u roots cap from m′ n k r
+
+-- what `read_in` does: the same of each place whose slot this is
+pub record StepsIn (width : ℕ) (c : Cache) (g s : List ℕ) (cap from : ℕ) (m m′ : Held) (n slot : ℕ) (r : Step) : Type 0 where
+  pub right : (k : ℕ) → slot ≡ slotAt from m k → Steps width c g s cap from m m′ n k r
+
+-- what `judge_and_take` does: the same, where b is the body of the slot's commit, and readable with p parents and these seconds
+pub record StepsRead (width : ℕ) (c : Cache) (g s : List ℕ) (cap from : ℕ) (m m′ : Held) (n slot : ℕ) (b : List ℕ) (p : ℕ) (seconds : ℤ) (r : Step) : Type 0 where
+  pub right : GivesBody width s (idOf width (m .lent .names) slot) b → (t : Stamp) → readingOf (header width b) ≡ AsReadable p t → seconds ≡ t .seconds .0 → StepsIn width c g s cap from m m′ n slot r
 
 -- ---- the line
 

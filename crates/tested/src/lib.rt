@@ -4,7 +4,6 @@
 // Every function is total and safe on any bytes and numbers.
 mod ahead;
 mod along;
-mod noting;
 mod step;
 mod whole;
 

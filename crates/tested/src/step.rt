@@ -1,6 +1,5 @@
 // One commit of the line is read: its body once, its row beside it, its parents noted, and their cells lowered by its pair.
 use crate::ahead;
-use crate::noting;
 use commit::Cache;
 use commitgraph::Layout;
 use date::Seconds;
@@ -16,7 +15,7 @@ ghost use Rattle.hashtable.specs.Table.{idOf};
 ghost use Rattle.reading.specs.Stored.{GivesBody};
 ghost use Rattle.judging.specs.Judge.{Judges};
 ghost use Rattle.walk.specs.Lookup.{pairOf};
-ghost use Rattle.tested.specs.Passes.{held, Takes, Steps};
+ghost use Rattle.tested.specs.Passes.{held, Takes, StepsRead, StepsIn, Steps};
 ghost use Rattle.hash.specs.Bytes.{widthOf};
 
 // How many slots the line has then; the commit is not readable; the commit-graph file is at odds with it; or the lent memory is too small.
@@ -76,7 +75,7 @@ fn take(
 ) -> Step
     ensures { λ r. ⌜ Takes (widthOf kind) cap from (held (now (names .entry)) (now (marks .entry)) (now (levels .entry)) (now (times .entry)) (now (line .entry))) (held (now (names .exit)) (now (marks .exit)) (now (levels .exit)) (now (times .exit)) (now (line .exit))) n slot (pairOf pair) (header (widthOf kind) (now (body .entry))) parents r ⌝ }
 {
-    let grown = noting::note_parents(kind, names, marks, line, cap, from, n, body, parents);
+    let grown = reach::note_parents(kind, names, marks, line, cap, false, from, n, body, parents);
     match grown {
         Grown::Count(m) => {
             falling::set_pair(levels, times, slot, pair);
@@ -101,6 +100,111 @@ fn take(
             Step::Count(m)
         }
         Grown::NoRoom => Step::NoRoom,
+    }
+}
+
+// The commit in a slot, whose body has so many parents and these seconds: its row beside it says whether it is taken.
+fn judge_and_take(
+    kind: Kind,
+    names: &mut [u8],
+    marks: &mut [u8],
+    levels: &mut [u32],
+    times: &mut [i64],
+    line: &mut [u32],
+    cap: usize,
+    from: usize,
+    cache: Cache,
+    graph: &[u8],
+    store: &[u8],
+    n: usize,
+    slot: u32,
+    near: usize,
+    words: u32,
+    body: &[u8],
+    parents: usize,
+    seconds: Seconds,
+) -> Step
+    ensures { λ r. ⌜ StepsRead (widthOf kind) cache (now (graph .entry)) (now (store .entry)) cap from (held (now (names .entry)) (now (marks .entry)) (now (levels .entry)) (now (times .entry)) (now (line .entry))) (held (now (names .exit)) (now (marks .exit)) (now (levels .exit)) (now (times .exit)) (now (line .exit))) n slot (now (body .entry)) parents (seconds .0) r ⌝ }
+{
+    let judged = judge_in(
+        kind,
+        names,
+        slot,
+        cache,
+        graph,
+        store,
+        near,
+        body,
+        parents,
+        seconds,
+    );
+    match judged {
+        Judged::Pair { position, pair } => take(
+            kind,
+            names,
+            marks,
+            levels,
+            times,
+            line,
+            cap,
+            from,
+            n,
+            slot,
+            pair,
+            body,
+            parents,
+            graph,
+            reading::layout_of(cache),
+            ahead::kept_beside(words, position),
+        ),
+        Judged::AtOdds => Step::AtOdds,
+    }
+}
+
+// Reads the commit in a slot, which may stand under entry near. The words read ahead only come along.
+fn read_in(
+    kind: Kind,
+    names: &mut [u8],
+    marks: &mut [u8],
+    levels: &mut [u32],
+    times: &mut [i64],
+    line: &mut [u32],
+    cap: usize,
+    from: usize,
+    cache: Cache,
+    graph: &[u8],
+    store: &[u8],
+    n: usize,
+    slot: u32,
+    near: usize,
+    words: u32,
+) -> Step
+    ensures { λ r. ⌜ StepsIn (widthOf kind) cache (now (graph .entry)) (now (store .entry)) cap from (held (now (names .entry)) (now (marks .entry)) (now (levels .entry)) (now (times .entry)) (now (line .entry))) (held (now (names .exit)) (now (marks .exit)) (now (levels .exit)) (now (times .exit)) (now (line .exit))) n slot r ⌝ }
+{
+    let body = body_in(kind, names, slot, store, near);
+    match object::readable(kind, body) {
+        Reading::Readable { parents, stamp } => judge_and_take(
+            kind,
+            names,
+            marks,
+            levels,
+            times,
+            line,
+            cap,
+            from,
+            cache,
+            graph,
+            store,
+            n,
+            slot,
+            near,
+            words,
+            body,
+            parents,
+            stamp.seconds,
+        ),
+        Reading::Bad => Step::Unreadable,
+        Reading::Crowded => Step::Unreadable,
     }
 }
 
@@ -138,44 +242,21 @@ pub fn read_at(
         store,
         near,
     );
-    let body = body_in(kind, names, slot, store, near);
-    match object::readable(kind, body) {
-        Reading::Readable { parents, stamp } => {
-            let seconds = stamp.seconds;
-            match judge_in(
-                kind,
-                names,
-                slot,
-                cache,
-                graph,
-                store,
-                near,
-                body,
-                parents,
-                seconds,
-            ) {
-                Judged::Pair { position, pair } => take(
-                    kind,
-                    names,
-                    marks,
-                    levels,
-                    times,
-                    line,
-                    cap,
-                    from,
-                    n,
-                    slot,
-                    pair,
-                    body,
-                    parents,
-                    graph,
-                    reading::layout_of(cache),
-                    ahead::kept_beside(words, position),
-                ),
-                Judged::AtOdds => Step::AtOdds,
-            }
-        }
-        Reading::Bad => Step::Unreadable,
-        Reading::Crowded => Step::Unreadable,
-    }
+    read_in(
+        kind,
+        names,
+        marks,
+        levels,
+        times,
+        line,
+        cap,
+        from,
+        cache,
+        graph,
+        store,
+        n,
+        slot,
+        near,
+        words,
+    )
 }

@@ -1,31 +1,43 @@
 -- `notes::note_parents` meets its contract: after i turns the first i parents of the body are noted. What is left of them grows less. Assumes nothing.
 use Prim.Native.Nat.{_-_}
+use mathlib.Core.Path.{_∙_}
 use Rattle.object.specs.Header.{header}
 use Rattle.reach.specs.Memory.{lent}
-use Rattle.reach.proofs.Noting.{Passing, passing-first, passing-next, passing-last}
+use Rattle.reach.proofs.Noting.{Passing, passing-first, passing-next, passing-short, passing-last}
 use borrow.Author.Needs.{needs}
 use Rattle.reach.proofs.notes.note_parents.Statement.{statement}
 use Rattle.reach.proofs.notes.note_parents.Tie as tie
 use Rattle.hash.specs.Bytes.{widthOf}
-use Rattle.hash.proofs.Widths.{width-most}
 
 abbrev Inv-loop : tie.InvT-loop
-Inv-loop kind names₀ marks₀ line₀ cap second from body count r₀ i₀ names marks line r i = Passing (widthOf kind) second cap from (header (widthOf kind) body) (lent names₀ marks₀ line₀) (lent names marks line) r₀ count i r
+Inv-loop kind names₀ marks₀ line₀ cap second from n body count have₀ i₀ names marks line have i = Passing (widthOf kind) second cap from (header (widthOf kind) body) (lent names₀ marks₀ line₀) (lent names marks line) n count i have
 
 abbrev μ-loop : tie.MeasureT-loop
-μ-loop kind names₀ marks₀ line₀ cap second from body count r₀ i₀ names marks line r i = count - i
+μ-loop kind names₀ marks₀ line₀ cap second from n body count have₀ i₀ names marks line have i = count - i
 
 loop-holds : tie.Need-loop-holds Inv-loop μ-loop
-loop-holds c = let x = c .before .before .before .before .args in passing-first (widthOf (x .kind)) (x .second) (x .cap) (x .from) (header (widthOf (x .kind)) (x .body .now)) _ (x .past) (x .count)
+loop-holds c = let x = c .before .before .before .before .args in passing-first (widthOf (x .kind)) (x .second) (x .cap) (x .from) (header (widthOf (x .kind)) (x .body .now)) _ (x .n) (x .count)
 
-body-parent-requires : tie.Need-body-parent-requires Inv-loop μ-loop
-body-parent-requires c κs = search needs
+note-one-requires : tie.Need-note-one-requires Inv-loop μ-loop
+note-one-requires c κs = search needs
 
-id-slice-requires : tie.Need-id-slice-requires Inv-loop μ-loop
-id-slice-requires c κs = search needs
+enum-known-m : tie.Need-enum-known-m Inv-loop μ-loop
+enum-known-m c = search needs
 
-note-next-requires : tie.Need-note-next-requires Inv-loop μ-loop
-note-next-requires c κs = search needs
+enum-told : tie.Need-enum-told Inv-loop μ-loop
+enum-told c = search needs
+
+same-length : tie.Need-same-length Inv-loop μ-loop
+same-length c = c .before .before .before .before .before .before .before .before .note-one .kept .1 .0 ∙ c .before .before .before .before .before .before .before .before .before .before .before .before .before .loop .inv .long .names
+
+same-length-2 : tie.Need-same-length-2 Inv-loop μ-loop
+same-length-2 c = c .before .before .before .before .before .before .before .before .note-one .kept .1 .1 .0 ∙ c .before .before .before .before .before .before .before .before .before .before .before .before .before .loop .inv .long .marks
+
+same-length-3 : tie.Need-same-length-3 Inv-loop μ-loop
+same-length-3 c = c .before .before .before .before .before .before .before .before .note-one .kept .1 .1 .1 .0 ∙ c .before .before .before .before .before .before .before .before .before .before .before .before .before .loop .inv .long .line
+
+returns : tie.Need-returns Inv-loop μ-loop
+returns c = passing-short (c .before .before .before .before .before .before .before .before .before .before .before .before .before .loop .inv) (c .before .before .before .before .before .before .before .before .before .before .before .before .loop-test .taken) (c .before .before .before .before .before .before .before .before .note-one .ensures) (c .enum-told .given .1)
 
 add-i : tie.Need-add-i Inv-loop μ-loop
 add-i c = search needs
@@ -34,20 +46,19 @@ loop-less : tie.Need-loop-less Inv-loop μ-loop
 loop-less c = search needs
 
 loop-again : tie.Need-loop-again Inv-loop μ-loop
-loop-again c =
-    passing-next (width-most (c .before .before .before .before .before .before .before .before .before .before .before .before .before .before .before .before .before .before .before .before .args .kind)) (c .before .before .before .before .before .before .before .before .before .before .before .before .before .before .before .before .before .before .before .before .args .body .now) (c .before .before .before .before .before .before .before .before .before .before .before .before .before .body-parent .result) (c .before .before .before .before .before .before .before .before .before .before .before .before .before .before .before .loop .inv) (c .before .before .before .before .before .before .before .before .before .before .before .before .before .before .loop-test .taken) (c .before .before .before .before .before .before .before .before .before .before .before .before .before .body-parent .ensures) (c .before .before .before .before .before .before .before .id-slice .ensures) (record { names = c .before .before .before .before .before .before .note-next .kept .1 .0; marks = c .before .before .before .before .before .before .note-next .kept .1 .1 .0; line = c .before .before .before .before .before .before .note-next .kept .1 .1 .1 .0 }) (c .before .before .before .before .before .before .note-next .ensures)
+loop-again c = passing-next (c .before .before .before .before .before .before .before .before .before .before .before .before .before .before .loop .inv) (c .before .before .before .before .before .before .before .before .before .before .before .before .before .loop-test .taken) (c .before .before .before .before .before .before .before .before .before .note-one .ensures) (record { names = c .before .before .before .before .before .before .before .before .before .note-one .kept .1 .0; marks = c .before .before .before .before .before .before .before .before .before .note-one .kept .1 .1 .0; line = c .before .before .before .before .before .before .before .before .before .note-one .kept .1 .1 .1 .0 }) (c .before .m .given .1)
 
-same-length : tie.Need-same-length Inv-loop μ-loop
-same-length c = c .before .loop .inv .long .names
+same-length-4 : tie.Need-same-length-4 Inv-loop μ-loop
+same-length-4 c = c .before .loop .inv .long .names
 
-same-length-2 : tie.Need-same-length-2 Inv-loop μ-loop
-same-length-2 c = c .before .loop .inv .long .marks
+same-length-5 : tie.Need-same-length-5 Inv-loop μ-loop
+same-length-5 c = c .before .loop .inv .long .marks
 
-same-length-3 : tie.Need-same-length-3 Inv-loop μ-loop
-same-length-3 c = c .before .loop .inv .long .line
+same-length-6 : tie.Need-same-length-6 Inv-loop μ-loop
+same-length-6 c = c .before .loop .inv .long .line
 
-returns : tie.Need-returns Inv-loop μ-loop
-returns c = passing-last (c .before .loop .inv) (c .loop-test .left)
+returns-2 : tie.Need-returns-2 Inv-loop μ-loop
+returns-2 c = passing-last (c .before .loop .inv) (c .loop-test .left)
 
 pub note-parents-spec : {M : Type 1} → statement M
 note-parents-spec =
@@ -56,13 +67,17 @@ note-parents-spec =
     Inv-loop
     μ-loop
     loop-holds
-    body-parent-requires
-    id-slice-requires
-    note-next-requires
-    add-i
-    loop-less
-    loop-again
+    note-one-requires
+    enum-known-m
+    enum-told
     same-length
     same-length-2
     same-length-3
-    returns)
+    returns
+    add-i
+    loop-less
+    loop-again
+    same-length-4
+    same-length-5
+    same-length-6
+    returns-2)

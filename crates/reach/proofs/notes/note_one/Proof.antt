@@ -1,8 +1,8 @@
--- `noting::note_one` meets its contract: the id of the line is decoded and noted. Assumes nothing.
-use Rattle.tested.proofs.Parents.{one-decoded}
+-- `notes::note_one` meets its contract: the id of the line is decoded and noted. Assumes nothing.
+use Rattle.reach.proofs.Noting.{one-decoded}
 use borrow.Author.Needs.{needs}
-use Rattle.tested.proofs.noting.note_one.Statement.{statement}
-use Rattle.tested.proofs.noting.note_one.Tie as tie
+use Rattle.reach.proofs.notes.note_one.Statement.{statement}
+use Rattle.reach.proofs.notes.note_one.Tie as tie
 use Rattle.hash.proofs.Widths.{width-most}
 
 body-parent-requires : tie.Need-body-parent-requires
