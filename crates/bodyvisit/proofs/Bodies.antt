@@ -31,6 +31,8 @@ use Rattle.reading.proofs.Lines.{parent-right, ending-tree, ending-stopped, end
 use Rattle.reading.proofs.Bodies.{no-ids, followed-one, followed-all}
 use Rattle.reading.proofs.Whole.{header-few}
 use Rattle.state.specs.declared.Record.{Record}
+use Rattle.state.specs.declared.Waiting.{Waiting}
+use Rattle.state.specs.Shapes.{waitingIn}
 use Rattle.state.specs.Reads.{Memory}
 use Rattle.links.specs.Link.{Visits, VisitsStored}
 use Rattle.links.specs.Visits.{VisitsAll, VisitsEach}
@@ -94,10 +96,6 @@ module _ {excluded : List ℕ} {settings : Settings} {store d b : List ℕ} {n :
   pub body-start : BodyRun excluded settings store d b n 0 r m m r
   body-start = record { few = omega arith; right = λ ok g h s. each-none }
 
-  -- from a record that is the same
-  pub body-from : {r′ : Record} → r′ ≡ r → BodyRun excluded settings store d b n 0 r m m r′
-  body-from e = subst (λ (z : Record). BodyRun excluded settings store d b n 0 r m m z) (sym e) body-start
-
   pub body-next : {k : ℕ} {r′ r″ : Record} {m′ m″ : Memory} → BodyRun excluded settings store d b n k r m m′ r′ → k < n → VisitsBodyParent excluded settings store d b k r′ m′ m″ r″
       → BodyRun excluded settings store d b n (k + 1) r m m″ r″
   body-next {k} {r′} {r″} {m′} {m″} run less one = record {
@@ -118,10 +116,6 @@ module _ {excluded : List ℕ} {settings : Settings} {store d b : List ℕ} {n :
   body-done {k} {r′} {m′} run e =
       let q : k ≡ n = omega (arith, run .few, e) in
       record { right = λ ok g h s. subst (λ (j : ℕ). VisitsEach excluded settings r m m′ (stored (worldOf (widthOf (settings .kind)) store g) (take j (header (widthOf (settings .kind)) d .ids))) r′) q (run .right ok g h s) }
-
--- to a record that is the same
-pub body-to : {excluded : List ℕ} {settings : Settings} {store d b : List ℕ} {n : ℕ} {r r′ r″ : Record} {m m′ : Memory} → r″ ≡ r′ → VisitsParents excluded settings store d b n r m m′ r′ → VisitsParents excluded settings store d b n r m m′ r″
-body-to {excluded} {settings} {store} {d} {b} {n} {r} {r′} {r″} {m} {m′} e v = subst (λ (z : Record). VisitsParents excluded settings store d b n r m m′ z) (sym e) v
 
 -- ---- what the mode follows
 
@@ -169,13 +163,13 @@ stored-ids : (w : World) (l : List Id) → map (λ p. p .0) (stored w l) ≡ l
 stored-ids w [] = refl
 stored-ids w (x ∷ l) = ap (λ (r : List Id). x ∷ r) (stored-ids w l)
 
-pub body-visited : {excluded : List ℕ} {settings : Settings} {store d : List ℕ} {r r′ : Record} {m m′ : Memory} {b b′ : List ℕ} {first : Bool} {a : BodyRead} → onlyFirst settings ≡ first
-    → length b′ ≡ length b → ReadsBody (widthOf (settings .kind)) first (header (widthOf (settings .kind)) d) b b′ a → VisitsParents excluded settings store d b′ (a .parents) r m m′ r′
-    → VisitsBody excluded settings store (header (widthOf (settings .kind)) d) r m m′ b b′ (record { after = r′; parents = a .parents; ends = a .ends })
-body-visited {excluded} {settings} {store} {d} {r} {r′} {m} {m′} {b} {b′} {first} {a} o same e v = record {
+pub body-visited : {excluded : List ℕ} {settings : Settings} {store d : List ℕ} {r : Record} {w w′ : Waiting} {m m′ : Memory} {b b′ : List ℕ} {first : Bool} {a : BodyRead} → onlyFirst settings ≡ first
+    → length b′ ≡ length b → ReadsBody (widthOf (settings .kind)) first (header (widthOf (settings .kind)) d) b b′ a → VisitsParents excluded settings store d b′ (a .parents) (waitingIn r w) m m′ (waitingIn r w′)
+    → VisitsBody excluded settings store (header (widthOf (settings .kind)) d) r w m m′ b b′ (record { after = w′; parents = a .parents; ends = a .ends })
+body-visited {excluded} {settings} {store} {d} {r} {w} {w′} {m} {m′} {b} {b′} {first} {a} o same e v = record {
   parents = e .parents settings o;
   ends = e .ends settings o;
-  right = λ ok g. subst (λ (k : List Id). VisitsAll excluded settings r m m′ b b′ (stored (worldOf (widthOf (settings .kind)) store g) k) r′) taken (record {
+  right = λ ok g. subst (λ (k : List Id). VisitsAll excluded settings (waitingIn r w) m m′ b b′ (stored (worldOf (widthOf (settings .kind)) store g) k) (waitingIn r w′)) taken (record {
     went = v .right ok g few (ids-stand (widthOf (settings .kind)) d (a .parents) few b b′ same (λ h. e .down (omega (arith, h)))) .went;
     down = λ room. e .down (omega (arith, room)) ∙ ap (λ (k : List Id). setDown b 0 (joined k)) (sym (stored-ids (worldOf (widthOf (settings .kind)) store g) (take (a .parents) (header (widthOf (settings .kind)) d .ids))));
   });

@@ -16,6 +16,8 @@ use Rattle.walk.specs.Lookup.{World, worldOf, secondsFor}
 use Rattle.walk.specs.Next.{ending}
 use Rattle.reading.specs.Body.{refusalOf}
 use Rattle.state.specs.declared.Record.{Record}
+use Rattle.state.specs.declared.Waiting.{Waiting}
+use Rattle.state.specs.Shapes.{waitingIn}
 use Rattle.state.specs.Reads.{Memory}
 use Rattle.bodyvisit.specs.declared.body.BodyVisited.{BodyVisited}
 use Rattle.links.specs.Link.{Visits}
@@ -41,9 +43,9 @@ pub record VisitsParents (excluded : List ℕ) (settings : Settings) (store d b 
   pub right : storeOk (widthOf (settings .kind)) store ≡ true → (g : List ℕ) → n ≤ length (header (widthOf (settings .kind)) d .ids) → Stand (widthOf (settings .kind)) (header (widthOf (settings .kind)) d) n b
       → VisitsEach excluded settings r m m′ (stored (worldOf (widthOf (settings .kind)) store g) (take n (header (widthOf (settings .kind)) d .ids))) r′
 
--- the parents of a body with the header h that the mode follows, and why the header is refused
-pub record VisitsBody (excluded : List ℕ) (settings : Settings) (store : List ℕ) (h : Header) (r : Record) (m m′ : Memory) (b b′ : List ℕ) (a : BodyVisited) : Type 0 where
+-- the parents of a body with the header h that the mode follows, from the record r with w that wait, and why the header is refused
+pub record VisitsBody (excluded : List ℕ) (settings : Settings) (store : List ℕ) (h : Header) (r : Record) (w : Waiting) (m m′ : Memory) (b b′ : List ℕ) (a : BodyVisited) : Type 0 where
   pub parents : a .parents ≡ length (followed settings (h .ids))
   pub ends : refusalOf (a .ends) ≡ ending settings h
-  pub right : storeOk (widthOf (settings .kind)) store ≡ true → (g : List ℕ) → VisitsAll excluded settings r m m′ b b′ (stored (worldOf (widthOf (settings .kind)) store g) (followed settings (h .ids))) (a .after)
+  pub right : storeOk (widthOf (settings .kind)) store ≡ true → (g : List ℕ) → VisitsAll excluded settings (waitingIn r w) m m′ b b′ (stored (worldOf (widthOf (settings .kind)) store g) (followed settings (h .ids))) (waitingIn r (a .after))
   pub past : Past (widthOf (settings .kind)) (a .parents) b b′

@@ -16,7 +16,7 @@ ghost use Rattle.walk.specs.Opening.{parentsRoom};
 
 // The parents of a body that were visited, how many they are, and how its reading ended.
 pub struct BodyVisited {
-    pub after: Record,
+    pub after: Waiting,
     pub parents: usize,
     pub ends: BodyEnd,
 }
@@ -85,6 +85,7 @@ fn visit_body_parent(
 // Visits the first n parents of a body, whose ids were set down.
 fn visit_parents(
     r: Record,
+    w: Waiting,
     store: &[u8],
     body: &[u8],
     n: usize,
@@ -97,9 +98,9 @@ fn visit_parents(
     excluded: &[u8],
     settings: Settings,
 ) -> Waiting
-    ensures { λ a. ⌜ VisitsParents (now (excluded .entry)) settings (now (store .entry)) (now (body .entry)) (now (parents .entry)) n r (mem (now (names .entry)) (now (marks .entry)) (now (times .entry)) (now (line .entry))) (mem (now (names .exit)) (now (marks .exit)) (now (times .exit)) (now (line .exit))) (waitingIn r a) ⌝ }
+    ensures { λ a. ⌜ VisitsParents (now (excluded .entry)) settings (now (store .entry)) (now (body .entry)) (now (parents .entry)) n (waitingIn r w) (mem (now (names .entry)) (now (marks .entry)) (now (times .entry)) (now (line .entry))) (mem (now (names .exit)) (now (marks .exit)) (now (times .exit)) (now (line .exit))) (waitingIn r a) ⌝ }
 {
-    let mut at = state::waiting_of(r);
+    let mut at = w;
     let mut k = 0;
     while k < n {
         at = visit_body_parent(
@@ -125,6 +126,7 @@ fn visit_parents(
 // Sets down the parents of a body in the store, the first alone where only that is followed, and then visits them.
 pub fn visit_body(
     r: Record,
+    w: Waiting,
     store: &[u8],
     body: &[u8],
     names: &mut [u8],
@@ -136,12 +138,13 @@ pub fn visit_body(
     excluded: &[u8],
     settings: Settings,
 ) -> BodyVisited
-    ensures { λ a. ⌜ VisitsBody (now (excluded .entry)) settings (now (store .entry)) (header (widthOf (settings .kind)) (now (body .entry))) r (mem (now (names .entry)) (now (marks .entry)) (now (times .entry)) (now (line .entry))) (mem (now (names .exit)) (now (marks .exit)) (now (times .exit)) (now (line .exit))) (now (parents .entry)) (now (parents .exit)) a ⌝ }
+    ensures { λ a. ⌜ VisitsBody (now (excluded .entry)) settings (now (store .entry)) (header (widthOf (settings .kind)) (now (body .entry))) r w (mem (now (names .entry)) (now (marks .entry)) (now (times .entry)) (now (line .entry))) (mem (now (names .exit)) (now (marks .exit)) (now (times .exit)) (now (line .exit))) (now (parents .entry)) (now (parents .exit)) a ⌝ }
 {
     let kind = settings.kind;
     let read = reading::read_body(kind, body, only_first(settings), parents);
     let at = visit_parents(
         r,
+        w,
         store,
         body,
         read.parents,
@@ -156,7 +159,7 @@ pub fn visit_body(
     );
     let ends = read.ends;
     BodyVisited {
-        after: state::with_waiting(r, at),
+        after: at,
         parents: read.parents,
         ends,
     }

@@ -7,8 +7,7 @@ use mathlib.Core.Option.{Option, none, some}
 use mathlib.Core.List.{List, []}
 use lib.ListN.{length, drop, replicate}
 use lib.Dec.{ltb}
-use denote.Ref.{now}
-use Rattle.hash.specs.Bytes.{Id, widthOf, pick}
+use Rattle.hash.specs.Bytes.{Id, pick}
 use Rattle.object.specs.Ids.{idRoom, padded}
 use Rattle.object.specs.Header.{treeSize, parentSize, idLine, treeWord, parentWord, authorLine, Stamped, committerLine}
 use Rattle.object.specs.Read.{stampGiven}
@@ -18,7 +17,6 @@ use Rattle.commititer.specs.declared.Place.{Place}
 use Rattle.commititer.specs.declared.Token.{Token}
 use Rattle.commititer.specs.declared.Token.the-variants.{Tree, Parent, Author, Committer, Bad, End}
 use Rattle.commititer.specs.declared.TokenRead.{TokenRead}
-use Rattle.commititer.specs.declared.CommitRefIter.{CommitRefIter}
 
 -- a place by its offset and the line that may stand there, and the start of a body
 abbrev pub here : ℕ → State → Place
@@ -119,10 +117,6 @@ unfoldable pub parentsPlace : ℕ → ℕ → Place
 parentsPlace w k =
     let i : ℕ = treeSize w + parentSize w * k in
     here (pick (ltb last i) last i) ParentLines
-
--- the iterator at the place after its token
-abbrev pub movedOn : CommitRefIter → CommitRefIter
-movedOn it = record { «data» = it .data; place = afterToken (widthOf (it .kind)) (now (it .data)) (it .place); kind = it .kind }
 
 -- opens every definition of this file, for theorems that compute
 unfoldable pub tokenAll : Unit {0}

@@ -27,7 +27,6 @@ ghost use Rattle.commititer.specs.Token.{
   start,
   last,
   parentsPlace,
-  movedOn,
 };
 ghost use Rattle.commititer.specs.Tokens.{isTree, isParent, isAuthor, parentDown};
 
@@ -213,20 +212,6 @@ fn after_token(data: &[u8], place: Place, kind: Kind) -> Place
     }
 }
 
-// The struct at the start of a commit's body.
-pub fn from_bytes<'a>(kind: Kind, data: &'a [u8]) -> CommitRefIter<'a>
-    ensures { λ r. ⌜ (r .data ≡ «data» .entry) × (r .place ≡ start) × (r .kind ≡ kind) ⌝ }
-{
-    CommitRefIter {
-        data,
-        place: Place {
-            at: 0,
-            state: State::Tree,
-        },
-        kind,
-    }
-}
-
 // The token at the struct's place.
 pub fn next<'a>(it: CommitRefIter<'a>) -> TokenRead
     ensures { λ t. ⌜ t ≡ tokenAt (widthOf (it .entry .kind)) (now (it .entry .data)) (it .entry .place) ⌝ }
@@ -244,15 +229,6 @@ pub fn advanced<'a>(it: CommitRefIter<'a>) -> CommitRefIter<'a>
         place,
         kind: it.kind,
     }
-}
-
-// An iterator's `next`: the struct is lent, the token at its place is answered, and the place moves on.
-pub fn pull<'s, 'a>(it: &'s mut CommitRefIter<'a>) -> TokenRead
-    ensures { λ t. ⌜ (t ≡ tokenAt (widthOf (now (it .entry) .kind)) (now (now (it .entry) .data)) (now (it .entry) .place)) × (now (it .exit) ≡ movedOn (now (it .entry))) ⌝ }
-{
-    let old = *it;
-    *it = advanced(old);
-    next(old)
 }
 
 // The token at a place of a body, read by the struct.

@@ -15,7 +15,10 @@ use Rattle.walk.specs.declared.Outcome.the-variants.{Refused}
 use Rattle.walk.proofs.Outcomes.{outcome-number-own}
 use Rattle.state.specs.declared.Record.{Record}
 use Rattle.traverse.specs.declared.Out.{Out}
+use Rattle.walk.specs.declared.Settings.{Settings}
 use Rattle.traverse.specs.Contract.{Files, Lent, NextSays}
+use Rattle.traverse.specs.Next.{filesLent}
+use Rattle.topology.specs.InPlace.{GoesInPlace}
 use Rattle.wire.specs.Words.{recordWords, recordOf, roomToCall, PutsRecord}
 use Rattle.wire.specs.Numbers.{PutsAnswer}
 use Rattle.linenhatch.specs.Library.{noRoom, Made, LibraryNext}
@@ -67,3 +70,16 @@ pub next-of : {f f′ : Files} {m m′ : Lent} {words words′ id id′ numbers 
     → LibraryNext f m m′ words words′ id id′ numbers numbers′ seconds seconds′ n → LibraryNext f′ m m′ words words′ id id′ numbers numbers′ seconds seconds′ n
 next-of {m = m} {m′ = m′} {words = words} {words′ = words′} {id = id} {id′ = id′} {numbers = numbers} {numbers′ = numbers′} {seconds = seconds} {seconds′ = seconds′} {n = n} =
     subst (λ (y : Files). LibraryNext y m m′ words words′ id id′ numbers numbers′ seconds seconds′ n)
+
+-- a call that was made in place
+pub made-in-place : {store graph hidden excluded : List ℕ} {settings : Settings} {m m′ : Lent} {words words′ id id′ numbers numbers′ : List ℕ} {seconds seconds′ : List ℤ} {a b : Bool}
+    → GoesInPlace graph excluded settings m m′ words words′ id id′ numbers numbers′ seconds seconds′ a → a ≡ true → b ≡ roomToCall (widthOf (settings .kind)) words id numbers seconds → b ≡ true
+    → LibraryNext (filesLent store graph hidden excluded settings) m m′ words words′ id id′ numbers numbers′ seconds seconds′ 0
+made-in-place {store = store} {hidden = hidden} g e q t = let o = g .made e store hidden in made-says refl q t (o .1) (o .2) (o .3)
+
+-- a call in place that was not made altered nothing, so what comes of the same call by the record comes of what was lent
+pub made-after : {f : Files} {r : Record} {m m₁ m′ : Lent} {words words₁ words′ id id₁ id′ numbers numbers₁ numbers′ : List ℕ} {seconds seconds₁ seconds′ : List ℤ} {n : ℕ} {o : Out} {b : Bool}
+    → (m₁ ≡ m) × (words₁ ≡ words) × (id₁ ≡ id) × (numbers₁ ≡ numbers) × (seconds₁ ≡ seconds) → r ≡ recordOf words₁ → b ≡ roomToCall (widthOf (f .settings .kind)) words id numbers seconds → b ≡ true
+    → NextSays f r m₁ o m′ → PutsAnswer (widthOf (f .settings .kind)) (o .answer) id₁ id′ numbers₁ numbers′ seconds₁ seconds′ n → PutsRecord n (o .record) words₁ words′
+    → LibraryNext f m m′ words words′ id id′ numbers numbers′ seconds seconds′ n
+made-after e d q t s a w = made-says (d ∙ ap recordOf (e .1)) q t (rw (e .0) at s) (rw (e .2, e .3, e .4) at a) (rw (e .1) at w)

@@ -167,9 +167,25 @@ pub extern "C" fn linenhatch_next(
     if !wire::can_call(kind, words, id, numbers, seconds) {
         return NO_ROOM;
     }
-    let r = wire::decode(words);
+    if topology::next_by_topology(
+        words,
+        graph,
+        excluded,
+        settings,
+        names,
+        marks,
+        levels,
+        times,
+        line,
+        parents,
+        id,
+        numbers,
+        seconds,
+    ) {
+        return 0;
+    }
     let o = simple::once(
-        r,
+        wire::decode(words),
         store,
         graph,
         hidden,

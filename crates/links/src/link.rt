@@ -15,7 +15,7 @@ ghost use Rattle.reading.specs.Tip.{GivesSeconds};
 ghost use Rattle.state.specs.declared.Record.{Record};
 ghost use Rattle.state.specs.Shapes.{waitingIn};
 ghost use Rattle.state.specs.Steps.{mem};
-ghost use Rattle.links.specs.Link.{Admits, Enters, Visits, VisitsStored};
+ghost use Rattle.links.specs.Link.{Admits, Enters, Visits, VisitsNext, VisitsStored};
 ghost use Rattle.hash.specs.Bytes.{widthOf};
 
 // No place is noted from here on.
@@ -125,6 +125,28 @@ pub fn insert_into_seen_and_queue_cached(
     let s = new_row_seconds(kind, graph, l, parent, q.timed);
     note(levels, seen.slot, parent);
     insert_into_queue(w, seen.slot, times, line, excluded, settings, id, s)
+}
+
+// Visits a parent where commits wait in the order in which they are met, and no link is turned away: its position in the commit-graph file is noted, and
+// no seconds are asked. (The Rust's `insert_into_seen_and_next`, where nothing is excluded.)
+pub fn insert_into_seen_and_next(
+    r: Record,
+    w: Waiting,
+    names: &mut [u8],
+    marks: &mut [u8],
+    levels: &mut [u32],
+    line: &mut [u32],
+    parent: usize,
+    id: &[u8],
+) -> Waiting
+    ensures { λ a. ⌜ VisitsNext r w (now (names .entry)) (now (marks .entry)) (now (names .exit)) (now (marks .exit)) (now (line .entry)) (now (line .exit)) (now (id .entry)) a ⌝ }
+{
+    let seen = state::see(state::with_waiting(r, w), names, marks, id);
+    if !seen.fresh {
+        return w;
+    }
+    note(levels, seen.slot, parent);
+    state::lengthen_ring(w, line, seen.slot)
 }
 
 // The seconds of a new parent in the store, where commits wait by time, and its entry is noted beside its slot; else they are not asked.

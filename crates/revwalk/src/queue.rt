@@ -5,7 +5,7 @@ ghost use mathlib.Core.Path.{_≡_};
 ghost use Rattle.revwalk.specs.Queue.{Pushes, PutsBack, Pops, ReadsSlot};
 
 mod heap;
-mod ring;
+pub mod ring;
 
 pub struct Queue {
     // Whether slots go out by their seconds.

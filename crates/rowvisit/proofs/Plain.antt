@@ -6,7 +6,7 @@ use mathlib.Core.Bool.{cond}
 use mathlib.Core.List.{List}
 use native.Mathlib.Omega.{arith}
 use Rattle.hash.specs.Bytes.{u32At}
-use Rattle.commitgraph.specs.Graph.{levelIn, noGeneration, parentListOf, parentsIn, rowIn, statedLevel, topBit, withParent}
+use Rattle.commitgraph.specs.Graph.{levelIn, noGeneration, noParent, parentListOf, parentsIn, rowIn, statedLevel, topBit, withParent}
 use Rattle.commitgraph.specs.declared.Layout.{Layout}
 use Rattle.commitgraph.specs.declared.parents.ParentList.the-variants.{Good}
 use Rattle.commitgraph.proofs.Edges.{after-none, after-one, parents-some}
@@ -30,6 +30,15 @@ module _ {width : ℕ} {g : List ℕ} {l : Layout} {p a b : ℕ} (h : Numbers wi
       (λ e. ap Good e ∙ sym (ap parentListOf (s ∙ ap (withParent x) (after-none g l y (sym (h .second) ∙ t .one e)))))
       (λ e. ap Good e ∙ sym (ap parentListOf (s ∙ ap (withParent x) (after-one g l y (λ q. t .some-second e (h .second ∙ q)) (omega (arith, h .second, t .no-edge e)) (omega (arith, h .second, t .second-low e))))))
       (one-or-two n (t .few) z)
+
+  -- or the row lists no parents
+  pub plain-or-none : {n : ℕ} → PlainList (l .count) a b n → (n ≡ 0 → (a ≡ noParent) × (b ≡ noParent)) → Good n ≡ parentListOf (parentsIn width g l p)
+  unfolding parentsIn
+  plain-or-none {n} = go n
+    where
+      go : (n : ℕ) → PlainList (l .count) a b n → (n ≡ 0 → (a ≡ noParent) × (b ≡ noParent)) → Good n ≡ parentListOf (parentsIn width g l p)
+      go zero t z = let e = z refl in rw (sym (h .first) ∙ e .0, sym (h .second) ∙ e .1)
+      go (suc n) t z = plain-list t (λ e. absurd (omega (arith, e)))
 
 -- the level by the row's third number
 pub level-told : {v : ℕ} (width : ℕ) (g : List ℕ) (l : Layout) (p c : ℕ) → c ≡ u32At (rowIn width g l p) (width + 8) → v ≡ cond (l .levels) (c / 4) noGeneration → v ≡ levelIn width g l p

@@ -23,6 +23,8 @@ use Rattle.reading.proofs.Bodies.{followed-one, followed-all}
 use Rattle.reading.proofs.Down.{set-down-past}
 use Rattle.reading.proofs.Rows.{parent-there, row-few, row-width}
 use Rattle.state.specs.declared.Record.{Record}
+use Rattle.state.specs.declared.Waiting.{Waiting}
+use Rattle.state.specs.Shapes.{waitingIn}
 use Rattle.state.specs.Reads.{Memory}
 use Rattle.links.specs.Link.{Visits}
 use Rattle.links.specs.Visits.{Past}
@@ -75,10 +77,6 @@ module _ {excluded : List ℕ} {settings : Settings} {g : List ℕ} {l : Layout}
   pub row-start : RowRun excluded settings g l p 0 r m m b b r
   row-start = record { right = λ ok own ps v t e h. run-start; past = past-none }
 
-  -- from a record that is the same
-  pub row-from : {r′ : Record} → r′ ≡ r → RowRun excluded settings g l p 0 r m m b b r′
-  row-from e = subst (λ (z : Record). RowRun excluded settings g l p 0 r m m b b z) (sym e) row-start
-
   pub row-next : {k : ℕ} {r′ r″ : Record} {m′ m″ : Memory} {b′ b″ : List ℕ} → RowRun excluded settings g l p k r m m′ b b′ r′ → VisitsRowParent excluded settings g l p k r′ m′ m″ b′ b″ r″
       → RowRun excluded settings g l p (k + 1) r m m″ b b″ r″
   row-next {k} run one = record {
@@ -94,10 +92,6 @@ module _ {excluded : List ℕ} {settings : Settings} {g : List ℕ} {l : Layout}
   pub row-done : {k n : ℕ} {r′ : Record} {m′ : Memory} {b′ : List ℕ} → RowRun excluded settings g l p k r m m′ b b′ r′ → k ≡ n → VisitsRow excluded settings g l p n r m m′ b b′ r′
   row-done {k} {n} {r′} {m′} {b′} run e =
       subst (λ (j : ℕ). VisitsRow excluded settings g l p j r m m′ b b′ r′) e (record { right = λ ok own ps v t q h. run .right ok own ps v t q h .all; past = run .past })
-
--- to a record that is the same
-pub row-to : {excluded : List ℕ} {settings : Settings} {g : List ℕ} {l : Layout} {p n : ℕ} {r r′ r″ : Record} {m m′ : Memory} {b b′ : List ℕ} → r″ ≡ r′ → VisitsRow excluded settings g l p n r m m′ b b′ r′ → VisitsRow excluded settings g l p n r m m′ b b′ r″
-row-to {excluded} {settings} {g} {l} {p} {n} {r} {r′} {r″} {m} {m′} {b} {b′} e v = subst (λ (z : Record). VisitsRow excluded settings g l p n r m m′ b b′ z) (sym e) v
 
 -- ---- how many parents are followed
 
@@ -121,11 +115,11 @@ follows-all {settings} o = record { right = λ ps e. e ∙ ap length (sym (follo
 
 -- ---- the list is judged
 
-module _ {excluded : List ℕ} {settings : Settings} {g : List ℕ} {l : Layout} {p : ℕ} {r : Record} {m : Memory} {v b : List ℕ} {w : RowRead} (read : w ≡ rowReadOf (levelOf (widthOf (settings .kind)) g l p) (parentsIn (widthOf (settings .kind)) g l p)) where
-  pub judged-good : {m′ : Memory} {v′ b′ : List ℕ} {r′ : Record} {n k : ℕ} {c : Level} → w ≡ RowAt n c → Follows settings n k → VisitsRow excluded settings g l p k r m m′ b b′ r′
-      → VisitsCached excluded settings g l p r m m′ v v′ b b′ (Visited r′ k c)
-  judged-good {m′} {v′} {b′} {r′} {n} {k} {c} e f d =
-      record { judged = subst (λ (z : RowRead). VisitedBy z excluded settings g l p r m m′ v v′ b b′ (Visited r′ k c)) (sym e ∙ read) (k, r′, refl, f, d) }
+module _ {excluded : List ℕ} {settings : Settings} {g : List ℕ} {l : Layout} {p : ℕ} {r : Record} {w : Waiting} {m : Memory} {v b : List ℕ} {z : RowRead} (read : z ≡ rowReadOf (levelOf (widthOf (settings .kind)) g l p) (parentsIn (widthOf (settings .kind)) g l p)) where
+  pub judged-good : {m′ : Memory} {v′ b′ : List ℕ} {w′ : Waiting} {n k : ℕ} {c : Level} → z ≡ RowAt n c → Follows settings n k → VisitsRow excluded settings g l p k (waitingIn r w) m m′ b b′ (waitingIn r w′)
+      → VisitsCached excluded settings g l p r w m m′ v v′ b b′ (Visited w′ k c)
+  judged-good {m′} {v′} {b′} {w′} {n} {k} {c} e f d =
+      record { judged = subst (λ (z : RowRead). VisitedBy z excluded settings g l p r w m m′ v v′ b b′ (Visited w′ k c)) (sym e ∙ read) (k, w′, refl, f, d) }
 
-  pub judged-corrupt : w ≡ Corrupt → VisitsCached excluded settings g l p r m m v v b b RowVisited·Corrupt
-  judged-corrupt e = record { judged = subst (λ (z : RowRead). VisitedBy z excluded settings g l p r m m v v b b RowVisited·Corrupt) (sym e ∙ read) (refl, refl, refl, refl) }
+  pub judged-corrupt : z ≡ Corrupt → VisitsCached excluded settings g l p r w m m v v b b RowVisited·Corrupt
+  judged-corrupt e = record { judged = subst (λ (z : RowRead). VisitedBy z excluded settings g l p r w m m v v b b RowVisited·Corrupt) (sym e ∙ read) (refl, refl, refl, refl) }

@@ -17,6 +17,8 @@ use Rattle.reading.specs.Row.{levelOf, rowReadOf}
 use Rattle.reading.specs.declared.row.RowRead.{RowRead}
 use Rattle.reading.specs.declared.row.RowRead.the-variants.{Corrupt, Row as RowAt}
 use Rattle.state.specs.declared.Record.{Record}
+use Rattle.state.specs.declared.Waiting.{Waiting}
+use Rattle.state.specs.Shapes.{waitingIn}
 use Rattle.state.specs.Reads.{Memory}
 use Rattle.links.specs.Link.{Visits}
 use Rattle.links.specs.Visits.{Past, VisitsAll}
@@ -45,12 +47,12 @@ pub record Follows (settings : Settings) (n k : ℕ) : Type 0 where
   pub few : k ≤ n
 
 -- by what the list is found to be: "Nothing may be set down or admitted before the whole list has been found good", so of a corrupt one every lent
--- byte is as it was; of a good one of n parents, with the level c, those that the mode follows are visited
-abbrev pub VisitedBy : RowRead → List ℕ → Settings → List ℕ → Layout → ℕ → Record → Memory → Memory → List ℕ → List ℕ → List ℕ → List ℕ → RowVisited → Type 0
-VisitedBy Corrupt excluded settings g l p r m m′ v v′ b b′ a = (a ≡ RowVisited·Corrupt) × (m′ ≡ m) × (v′ ≡ v) × (b′ ≡ b)
-VisitedBy (RowAt n c) excluded settings g l p r m m′ v v′ b b′ a =
-    (k : ℕ) × (r′ : Record) × (a ≡ Visited r′ k c) × Follows settings n k × VisitsRow excluded settings g l p k r m m′ b b′ r′
+-- byte is as it was; of a good one of n parents, with the level c, those that the mode follows are visited, from the record r with w that wait
+abbrev pub VisitedBy : RowRead → List ℕ → Settings → List ℕ → Layout → ℕ → Record → Waiting → Memory → Memory → List ℕ → List ℕ → List ℕ → List ℕ → RowVisited → Type 0
+VisitedBy Corrupt excluded settings g l p r w m m′ v v′ b b′ a = (a ≡ RowVisited·Corrupt) × (m′ ≡ m) × (v′ ≡ v) × (b′ ≡ b)
+VisitedBy (RowAt n c) excluded settings g l p r w m m′ v v′ b b′ a =
+    (k : ℕ) × (w′ : Waiting) × (a ≡ Visited w′ k c) × Follows settings n k × VisitsRow excluded settings g l p k (waitingIn r w) m m′ b b′ (waitingIn r w′)
 
 -- the parents of the row at position p, with the levels v before and v′ after
-pub record VisitsCached (excluded : List ℕ) (settings : Settings) (g : List ℕ) (l : Layout) (p : ℕ) (r : Record) (m m′ : Memory) (v v′ b b′ : List ℕ) (a : RowVisited) : Type 0 where
-  pub judged : VisitedBy (rowReadOf (levelOf (widthOf (settings .kind)) g l p) (parentsIn (widthOf (settings .kind)) g l p)) excluded settings g l p r m m′ v v′ b b′ a
+pub record VisitsCached (excluded : List ℕ) (settings : Settings) (g : List ℕ) (l : Layout) (p : ℕ) (r : Record) (w : Waiting) (m m′ : Memory) (v v′ b b′ : List ℕ) (a : RowVisited) : Type 0 where
+  pub judged : VisitedBy (rowReadOf (levelOf (widthOf (settings .kind)) g l p) (parentsIn (widthOf (settings .kind)) g l p)) excluded settings g l p r w m m′ v v′ b b′ a

@@ -114,6 +114,9 @@ pub(crate) fn look_ahead(
     if l.count <= MANY {
         return;
     }
+    if l.count <= wide(first) {
+        return;
+    }
     if FAR < l.rows {
         return;
     }

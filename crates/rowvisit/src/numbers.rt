@@ -6,10 +6,10 @@ use commitgraph::rows;
 use hash::Kind;
 use reading::RowRead;
 ghost use mathlib.Core.Path.{_≡_};
-ghost use mathlib.Core.Bool.{cond};
+ghost use mathlib.Core.Bool.{cond, true};
 ghost use Prim.Native.Nat.{_+_, _*_, _/_, _<_, min};
 ghost use Rattle.hash.specs.Bytes.{u32At, widthOf};
-ghost use Rattle.commitgraph.specs.Graph.{edgeIn, noGeneration, parentIn, parentsIn, rowIn};
+ghost use Rattle.commitgraph.specs.Graph.{edgeIn, noGeneration, noParent, parentIn, parentsIn, rowIn};
 ghost use Rattle.reading.specs.Row.{levelOf, rowReadOf};
 ghost use Rattle.rowvisit.specs.Numbers.{Numbers, PlainList};
 
@@ -69,7 +69,7 @@ pub(crate) fn parent(
 }
 
 // How many parents a row has whose list does not go on in EDGE and is good, one or two; 0 of any other row.
-fn plain_count(count: usize, first: u32, second: u32) -> usize
+pub(crate) fn plain_count(count: usize, first: u32, second: u32) -> usize
     ensures { λ r. ⌜ PlainList count first second r ⌝ }
 {
     if first == NONE {
@@ -90,8 +90,21 @@ fn plain_count(count: usize, first: u32, second: u32) -> usize
     2
 }
 
+// Whether a row's list stands in the row itself, of which plain_count told n parents: it has one or two, or none.
+pub(crate) fn is_plain(n: usize, first: u32, second: u32) -> bool
+    ensures { λ a. ⌜ (a ≡ true → n ≡ 0 → (first ≡ noParent) × (second ≡ noParent)) ⌝ }
+{
+    if n != 0 {
+        return true;
+    }
+    if first != NONE {
+        return false;
+    }
+    second == NONE
+}
+
 // The level of a row by its third number: that of a commit without a row, where the file's levels are not used.
-fn level(l: Layout, third: u32) -> Level
+pub(crate) fn level(l: Layout, third: u32) -> Level
     ensures { λ r. ⌜ r .0 ≡ cond (l .levels) (third / 4) noGeneration ⌝ }
 {
     if l.levels {

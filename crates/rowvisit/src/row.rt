@@ -20,7 +20,7 @@ ghost use Rattle.hash.specs.Bytes.{widthOf};
 // The parents of a row that were visited, how many they are, and the row's level; or its list is corrupt.
 pub enum RowVisited {
     Visited {
-        after: Record,
+        after: Waiting,
         parents: usize,
         level: Level,
     },
@@ -31,7 +31,7 @@ pub enum RowVisited {
 const MOST_PARENTS: usize = 256;
 
 // Sets down the id of parent k in the bytes that are its place; a longer one is not set down.
-fn set_parent(kind: Kind, parents: &mut [u8], k: usize, id: &[u8])
+pub(crate) fn set_parent(kind: Kind, parents: &mut [u8], k: usize, id: &[u8])
     ensures { λ r. ⌜ SetsParent (widthOf kind) k (now (id .entry)) (now (parents .entry)) (now (parents .exit)) ⌝ }
 {
     if k < MOST_PARENTS && id.len() <= hash::width(kind) {
@@ -85,6 +85,7 @@ fn visit_row_parent(
 // Sets down and visits the first n parents of the row at a position, whose list was found good before.
 fn visit_row(
     r: Record,
+    w: Waiting,
     graph: &[u8],
     l: Layout,
     position: usize,
@@ -101,9 +102,9 @@ fn visit_row(
     settings: Settings,
 ) -> Waiting
     requires { ⌜ Numbers (widthOf (settings .kind)) (now graph) l position first second ⌝ }
-    ensures { λ a. ⌜ VisitsRow (now (excluded .entry)) settings (now (graph .entry)) l position n r (mem (now (names .entry)) (now (marks .entry)) (now (times .entry)) (now (line .entry))) (mem (now (names .exit)) (now (marks .exit)) (now (times .exit)) (now (line .exit))) (now (parents .entry)) (now (parents .exit)) (waitingIn r a) ⌝ }
+    ensures { λ a. ⌜ VisitsRow (now (excluded .entry)) settings (now (graph .entry)) l position n (waitingIn r w) (mem (now (names .entry)) (now (marks .entry)) (now (times .entry)) (now (line .entry))) (mem (now (names .exit)) (now (marks .exit)) (now (times .exit)) (now (line .exit))) (now (parents .entry)) (now (parents .exit)) (waitingIn r a) ⌝ }
 {
-    let mut at = state::waiting_of(r);
+    let mut at = w;
     let mut k = 0;
     while k < n {
         at = visit_row_parent(
@@ -130,7 +131,7 @@ fn visit_row(
 }
 
 // How many of n parents are followed.
-fn followed_count(settings: Settings, n: usize) -> usize
+pub(crate) fn followed_count(settings: Settings, n: usize) -> usize
     ensures { λ a. ⌜ Follows settings n a ⌝ }
 {
     if only_first(settings) {
@@ -145,6 +146,7 @@ fn followed_count(settings: Settings, n: usize) -> usize
 // seen or queued.
 pub fn visit_cached(
     r: Record,
+    w: Waiting,
     graph: &[u8],
     l: Layout,
     position: usize,
@@ -157,41 +159,40 @@ pub fn visit_cached(
     excluded: &[u8],
     settings: Settings,
 ) -> RowVisited
-    ensures { λ a. ⌜ VisitsCached (now (excluded .entry)) settings (now (graph .entry)) l position r (mem (now (names .entry)) (now (marks .entry)) (now (times .entry)) (now (line .entry))) (mem (now (names .exit)) (now (marks .exit)) (now (times .exit)) (now (line .exit))) (now (levels .entry)) (now (levels .exit)) (now (parents .entry)) (now (parents .exit)) a ⌝ }
+    ensures { λ a. ⌜ VisitsCached (now (excluded .entry)) settings (now (graph .entry)) l position r w (mem (now (names .entry)) (now (marks .entry)) (now (times .entry)) (now (line .entry))) (mem (now (names .exit)) (now (marks .exit)) (now (times .exit)) (now (line .exit))) (now (levels .entry)) (now (levels .exit)) (now (parents .entry)) (now (parents .exit)) a ⌝ }
 {
     let kind = settings.kind;
     let row = rows::row(kind, graph, l, position);
-    let w = hash::width(kind);
-    let first = hash::be32(row, w);
-    let second = hash::be32(row, w + 4);
-    let third = hash::be32(row, w + 8);
+    let width = hash::width(kind);
+    let first = hash::be32(row, width);
+    let second = hash::be32(row, width + 4);
+    let third = hash::be32(row, width + 8);
     match numbers::collect_parents(kind, graph, l, position, first, second, third) {
         RowRead::Row {
             parents: count,
             level,
         } => {
             let n = followed_count(settings, count);
-            let q = r.queue;
-            ahead::look_ahead(kind, graph, l, first, names, marks, q.cap, levels);
-            let at = visit_row(
-                r,
-                graph,
-                l,
-                position,
-                first,
-                second,
-                n,
-                names,
-                marks,
-                levels,
-                times,
-                line,
-                parents,
-                excluded,
-                settings,
-            );
+            ahead::look_ahead(kind, graph, l, first, names, marks, r.queue.cap, levels);
             RowVisited::Visited {
-                after: state::with_waiting(r, at),
+                after: visit_row(
+                    r,
+                    w,
+                    graph,
+                    l,
+                    position,
+                    first,
+                    second,
+                    n,
+                    names,
+                    marks,
+                    levels,
+                    times,
+                    line,
+                    parents,
+                    excluded,
+                    settings,
+                ),
                 parents: n,
                 level,
             }

@@ -25,7 +25,8 @@ use Rattle.walk.specs.State.{State, withQueue}
 use Rattle.state.specs.declared.Fixed.{Fixed}
 use Rattle.state.specs.declared.Record.{Record}
 use Rattle.state.specs.Reads.{Shape, memoryWidth, entryOf, waiting, Reads}
-use Rattle.state.specs.Shapes.{requeued}
+use Rattle.state.specs.declared.Waiting.{Waiting}
+use Rattle.state.specs.Shapes.{waitingIn}
 use Rattle.state.specs.Steps.{mem, NotWaiting, LineKept, Taken, Pops}
 use Rattle.state.proofs.Entries.{Split, split, none-left}
 use Rattle.state.proofs.States.{not-failed}
@@ -34,6 +35,10 @@ use Rattle.state.proofs.Queueing.{requeue}
 not-found : (b : Bool) → not b ≡ true → b ≡ false
 not-found true e = sym e
 not-found false e = refl
+
+-- what waits in the record after the pop
+abbrev left-in : Record → Popped → Waiting
+left-in r p = record { queue = p .queue; admitted = r .admitted }
 
 pops-line : {r : Record} {times : List ℤ} {line line′ : List ℕ} {p : Popped} → queue.Pops (r .queue) times line line′ p → LineKept r line line′
 pops-line o = record { long = o .long; kept = o .kept }
@@ -70,7 +75,7 @@ module _ {r : Record} {names : List ℕ} {times : List ℤ} {line line′ : List
       failed : r .failed ≡ false
       failed = not-failed g (x, t) l e
 
-      left : Reads (requeued r (p .queue) (r .kept) (r .admitted)) (mem names marks times line′) sh (withQueue l st)
+      left : Reads (waitingIn r (left-in r p)) (mem names marks times line′) sh (withQueue l st)
       unfolding withQueue
       left =
           requeue g (p .queue) line′ (r .kept) (st .kept) (r .admitted) (st .admitted) l (o .same) (o .long) (took .good) (g .kept) (g .admitted) (omega (arith, o .next, g .numbers))
@@ -78,7 +83,7 @@ module _ {r : Record} {names : List ℕ} {times : List ℤ} {line line′ : List
           (λ s h. g .waits-seen s (others-in s (subst (In s) (took .list) h)))
           (λ f. clash f failed)
 
-      slot : NotWaiting (requeued r (p .queue) (r .kept) (r .admitted)) (mem names marks times line′) sh x (p .slot)
+      slot : NotWaiting (waitingIn r (left-in r p)) (mem names marks times line′) sh x (p .slot)
       slot = record {
         low = subst (λ (k : ℕ). p .slot < k) (o .same .cap ∙ g .cap) (pop-low o (g .good) (took .found));
         holds = ap (λ (y : Id × ℤ). y .0) entry;
@@ -87,7 +92,7 @@ module _ {r : Record} {names : List ℕ} {times : List ℤ} {line line′ : List
       }
 
       pub taken : {b : ObjectId} {v : Seconds} → b .bytes ≡ padded (idOf (memoryWidth sh) names (p .slot)) → v .0 ≡ getD times (p .slot) (pos 0)
-          → Taken names marks times line′ sh st x t l (record { found = true; slot = p .slot; id = b; seconds = v; rest = requeued r (p .queue) (r .kept) (r .admitted) })
+          → Taken r names marks times line′ sh st x t l (record { found = true; slot = p .slot; id = b; seconds = v; rest = left-in r p })
       taken c v = record {
         found = refl;
         id = ap (idIn (memoryWidth sh)) c ∙ id-in (memoryWidth sh) (idOf (memoryWidth sh) names (p .slot)) (width-of (p .slot) (g .table .sized) (slot .low)) (width-most (sh .fixed .kind)) ∙ slot .holds;
@@ -99,7 +104,7 @@ module _ {r : Record} {names : List ℕ} {times : List ℤ} {line line′ : List
       }
 
   pub pops-some : {b : ObjectId} {v : Seconds} → not (p .found) ≡ false → b .bytes ≡ padded (idOf (widthOf (r .fixed .kind)) names (p .slot)) → v .0 ≡ getD times (p .slot) (pos 0)
-      → Pops r names times line line′ (record { found = true; slot = p .slot; id = b; seconds = v; rest = requeued r (p .queue) (r .kept) (r .admitted) })
+      → Pops r names times line line′ (record { found = true; slot = p .slot; id = b; seconds = v; rest = left-in r p })
   pops-some f c v = record {
     for-line = pops-line o;
     still = λ e. clash refl e;
@@ -107,10 +112,11 @@ module _ {r : Record} {names : List ℕ} {times : List ℤ} {line line′ : List
     some = λ marks sh st x t l g e. taken g x t l e (c ∙ ap (λ (f : Fixed). padded (idOf (widthOf (f .kind)) names (p .slot))) (g .fixed)) v;
   }
 
-  pub pops-none : {s : ℕ} {b : ObjectId} {v : Seconds} → not (p .found) ≡ true → Pops r names times line line′ (record { found = false; slot = s; id = b; seconds = v; rest = r })
-  pops-none f = record {
+  -- w is what waits in the record
+  pub pops-none : {s : ℕ} {b : ObjectId} {v : Seconds} {w : Waiting} → not (p .found) ≡ true → waitingIn r w ≡ r → Pops r names times line line′ (record { found = false; slot = s; id = b; seconds = v; rest = w })
+  pops-none f same = record {
     for-line = pops-line o;
-    still = λ e. (refl, o .still (not-found (p .found) f) .1);
+    still = λ e. (same, o .still (not-found (p .found) f) .1);
     none = λ marks sh st g e. refl;
     some = λ marks sh st x t l g e. clash f (ap not (found-some g x t l e));
   }

@@ -16,9 +16,10 @@ use Rattle.walk.specs.Next.{dropped}
 use Rattle.state.specs.declared.Fixed.{Fixed}
 use Rattle.state.specs.declared.Record.{Record}
 use Rattle.state.specs.declared.Seen.{Seen}
+use Rattle.state.specs.declared.Waiting.{Waiting}
 use Rattle.state.specs.declared.Next.{Next}
 use Rattle.state.specs.Reads.{Memory, Shape, memoryWidth, entryOf, waiting, Reads, Universe}
-use Rattle.state.specs.Shapes.{beforeOf, joins, backTo, freshRecord}
+use Rattle.state.specs.Shapes.{beforeOf, joins, backTo, freshRecord, waitingIn}
 
 abbrev pub mem : List ℕ → List ℕ → List ℤ → List ℕ → Memory
 mem names marks times line = record { names = names; marks = marks; times = times; line = line }
@@ -62,25 +63,30 @@ pub record Waits (r : Record) (times times′ : List ℤ) (line line′ : List �
   pub joined : (names marks : List ℕ) (sh : Shape) (st : State) (x : Id) → Reads r (mem names marks times line) sh st → r .failed ≡ false → NotWaiting r (mem names marks times line) sh x slot
       → sh .cap ≤ 4294967296 → r .admitted + 2 < 4294967296 → Reads r′ (mem names marks times′ line′) sh (joins (beforeOf sh) st x (cond (sh .timed) s (pos 0)))
 
+-- lengthen_ring, with its answer a: in a queue that is not by time, and is not by time then either, the id in a slot waits, whatever its seconds
+pub record LengthensRing (w : Waiting) (line line′ : List ℕ) (slot : ℕ) (a : Waiting) : Type 0 where
+  pub untimed : w .queue .timed ≡ false → a .queue .timed ≡ false
+  pub waits : w .queue .timed ≡ false → (r : Record) (times : List ℤ) (s : ℤ) → Waits (waitingIn r w) times times line line′ slot s (waitingIn r a)
+
 -- ---- pop
 
--- x, queued with t seconds, has left the queue, which is l now
-pub record Taken (names marks : List ℕ) (times : List ℤ) (line : List ℕ) (sh : Shape) (st : State) (x : Id) (t : ℤ) (l : List (Id × ℤ)) (n : Next) : Type 0 where
+-- x, queued with t seconds, has left the queue of the record r, which is l now
+pub record Taken (r : Record) (names marks : List ℕ) (times : List ℤ) (line : List ℕ) (sh : Shape) (st : State) (x : Id) (t : ℤ) (l : List (Id × ℤ)) (n : Next) : Type 0 where
   pub found : n .found ≡ true
   pub id : idIn (memoryWidth sh) (n .id .bytes) ≡ x
   pub seconds : sh .timed ≡ true → n .seconds .0 ≡ t
-  pub failed : n .rest .failed ≡ false
-  pub reads : Reads (n .rest) (mem names marks times line) sh (withQueue l st)
-  pub slot : NotWaiting (n .rest) (mem names marks times line) sh x (n .slot)
+  pub failed : r .failed ≡ false
+  pub reads : Reads (waitingIn r (n .rest)) (mem names marks times line) sh (withQueue l st)
+  pub slot : NotWaiting (waitingIn r (n .rest)) (mem names marks times line) sh x (n .slot)
   pub entry : entryOf (memoryWidth sh) (sh .timed) names times (n .slot) ≡ (x, t)
 
 -- pop, with its answer n: the first of the queue
 pub record Pops (r : Record) (names : List ℕ) (times : List ℤ) (line line′ : List ℕ) (n : Next) : Type 0 where
   pub for-line : LineKept r line line′
-  pub still : n .found ≡ false → (n .rest ≡ r) × (line′ ≡ line)
+  pub still : n .found ≡ false → (waitingIn r (n .rest) ≡ r) × (line′ ≡ line)
   pub none : (marks : List ℕ) (sh : Shape) (st : State) → Reads r (mem names marks times line) sh st → st .queue ≡ [] → n .found ≡ false
   pub some : (marks : List ℕ) (sh : Shape) (st : State) (x : Id) (t : ℤ) (l : List (Id × ℤ)) → Reads r (mem names marks times line) sh st → st .queue ≡ (x, t) ∷ l
-      → Taken names marks times line′ sh st x t l n
+      → Taken r names marks times line′ sh st x t l n
 
 -- ---- drop_graph
 

@@ -10,13 +10,14 @@ use hashtable::table::Slot;
 use object::ObjectId;
 use revwalk::queue;
 use revwalk::queue::Queue;
+use revwalk::queue::ring;
 ghost use mathlib.Core.Path.{_≡_};
 ghost use mathlib.Core.Bool.{cond};
 ghost use lib.ListN.{getD, set};
 ghost use lib.IntN.{pos};
 ghost use Rattle.state.specs.Shapes.{freshRecord, requeued, waitingIn};
 ghost use Rattle.state.specs.declared.Record.{Record};
-ghost use Rattle.state.specs.Steps.{Sees, Waits, Pops, Drops, Starts};
+ghost use Rattle.state.specs.Steps.{Sees, Waits, LengthensRing, Pops, Drops, Starts};
 
 // What an opening finds in the files and fixes for all calls, so that no call finds it again: where the chunks of the commit-graph file stand;
 // and the kind of the ids that the walk's memory holds. (The order and the number of slots, which it fixes too, are the queue's own.)
@@ -49,13 +50,13 @@ pub struct Seen {
     pub slot: usize,
 }
 
-// The commit that leaves the queue: its slot, its id, the seconds of its slot, and the record that is left.
+// The commit that leaves the queue: its slot, its id, the seconds of its slot, and what waits after it, of a record that is otherwise as it was.
 pub struct Next {
     pub found: bool,
     pub slot: u32,
     pub id: ObjectId,
     pub seconds: Seconds,
-    pub rest: Record,
+    pub rest: Waiting,
 }
 
 // The largest number that a slot or a count may have here.
@@ -186,6 +187,24 @@ pub fn lengthen(w: Waiting, times: &mut [i64], line: &mut [u32], slot: usize, s:
     }
 }
 
+// The same in a queue that is not by time: no seconds are set down.
+pub fn lengthen_ring(w: Waiting, line: &mut [u32], slot: usize) -> Waiting
+    ensures { λ a. ⌜ LengthensRing w (now (line .entry)) (now (line .exit)) slot a ⌝ }
+{
+    let admitted = w.admitted;
+    if MOST < slot {
+        return w;
+    }
+    if MOST < admitted {
+        return w;
+    }
+    let longer = ring::push(w.queue, line, slot as u32);
+    Waiting {
+        queue: longer,
+        admitted: admitted + 1,
+    }
+}
+
 // The same with the record, in which it waits.
 pub fn wait(r: Record, times: &mut [i64], line: &mut [u32], slot: usize, s: Seconds) -> Record
     ensures { λ a. ⌜ Waits r (now (times .entry)) (now (times .exit)) (now (line .entry)) (now (line .exit)) slot (s .0) a ⌝ }
@@ -211,7 +230,7 @@ pub fn pop(r: Record, names: &[u8], times: &[i64], line: &mut [u32]) -> Next
             slot: 0,
             id: ObjectId { bytes: [0u8; 32] },
             seconds: Seconds(0),
-            rest: r,
+            rest: waiting_of(r),
         };
     }
     let slot = wide(p.slot);
@@ -219,7 +238,11 @@ pub fn pop(r: Record, names: &[u8], times: &[i64], line: &mut [u32]) -> Next
     let kind = fixed.kind;
     let id = object::id_of(table::id_of(kind, names, slot));
     let seconds = revwalk::seconds_of(times, p.slot);
-    let rest = with_queue(r, p.queue, r.kept, r.admitted);
+    let queue = p.queue;
+    let rest = Waiting {
+        queue,
+        admitted: r.admitted,
+    };
     Next {
         found: true,
         slot: p.slot,

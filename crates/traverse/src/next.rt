@@ -27,7 +27,7 @@ ghost use Rattle.traverse.specs.Open.{lentOf};
 ghost use Rattle.traverse.specs.Next.{filesLent, Whole, GivesBack, shutWith, Goes};
 
 // Whether the record is open, and every lent buffer has its size for the record's places.
-fn is_whole(
+pub fn is_whole(
     kind: Kind,
     record: Record,
     names: &[u8],

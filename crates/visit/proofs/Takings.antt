@@ -61,7 +61,8 @@ use Rattle.state.specs.declared.Fixed.{Fixed}
 use Rattle.state.specs.declared.Record.{Record}
 use Rattle.state.specs.Reads.{Memory, Shape, Reads}
 use Rattle.state.specs.declared.Next.{Next}
-use Rattle.state.specs.Shapes.{fixedOf, shapeFor, backTo}
+use Rattle.state.specs.declared.Waiting.{Waiting}
+use Rattle.state.specs.Shapes.{fixedOf, shapeFor, backTo, waitingIn}
 use Rattle.state.specs.Steps.{mem, Pops, Drops}
 use Rattle.state.proofs.States.{queue-length}
 use Rattle.state.proofs.Shapes.{back-shape}
@@ -137,7 +138,7 @@ record TakesRow (excluded : List ℕ) (settings : Settings) (g : List ℕ) (l : 
 
 takes-row : {excluded : List ℕ} {settings : Settings} {g : List ℕ} {l : Layout} {p n k : ℕ} {c : Level} {r r′ : Record} {x : Id} {s : Seconds} {m m′ : Memory} {b b′ : List ℕ}
     → Follows settings n k → VisitsRow excluded settings g l p k r m m′ b b′ r′
-    → TakesRow excluded settings g l p n c r x (s .0) m m′ b b′ (gave Commit (padded x) k (levelGiven (levelShown (c .0))) (timeGiven (r .queue .timed) s) NoZone r′)
+    → TakesRow excluded settings g l p n c r x (s .0) m m′ b b′ (gave Commit (padded x) k (levelGiven (levelShown (c .0))) (timeGiven (r′ .queue .timed) s) NoZone r′)
 unfolding fromRow
 takes-row {excluded} {settings} {g} {l} {p} {n} {k} {c} {r} {r′} {x} {s} {m} {m′} {b} {b′} f w = record {
   right = λ ok own ps q e i v sh st u t′ by d j t z.
@@ -153,7 +154,7 @@ takes-row {excluded} {settings} {g} {l} {p} {n} {k} {c} {r} {r′} {x} {s} {m} {
       (λ a y. j (a .0) (followed-sub (v .settings) (a .0) (map (λ (q : Id × ℤ). q .0) ps)
       (rw (followed-map (v .settings) (λ (q : Id × ℤ). q .0) ps) at (mem-map (λ (q : Id × ℤ). q .0) a fs y)))) in
       gives-step (handed x (levelShown (c .0)) (queuedSeconds v t′)) (map (λ a. a .0) fs) (went .ready .reads) refl refl (many ∙ sym (length-map fs (λ (a : Id × ℤ). a .0))) refl
-      (time-right by (d .reads) s t′ t) (all .down z) (went .line-kept);
+      (time-right by (went .ready .reads) s t′ t) (all .down z) (went .line-kept);
   plain = λ h wide. record { shape = (x, wide, refl); few = omega (arith, h, f .few); past = w .past .same };
 }
 
@@ -183,31 +184,32 @@ whole-tree : (s : Settings) (h : Header) → ending s h ≡ none → h .tree ≡
 unfolding ending
 whole-tree s h e = byCases (h .tree) (λ c. c) (λ c. let z : _≡_ {A = ℕ} 0 1 = cc in absurd (omega arith))
 
-pub takes-body : (d : List ℕ) {excluded : List ℕ} {settings : Settings} {store : List ℕ} {r : Record} {x : Id} {s : Seconds} {m m′ : Memory} {b b′ : List ℕ} {seen : BodyVisited} {a : Taken}
-    → VisitsBody excluded settings store (header (widthOf (settings .kind)) d) r m m′ b b′ seen → EndsBody seen (header (widthOf (settings .kind)) d) x (timeGiven (r .queue .timed) s) a → length x ≡ widthOf (settings .kind) → TakesBody excluded settings store (header (widthOf (settings .kind)) d) r x (s .0) m m′ b b′ a
+pub takes-body : (d : List ℕ) {excluded : List ℕ} {settings : Settings} {store : List ℕ} {r : Record} {w₀ : Waiting} {x : Id} {s : Seconds} {m m′ : Memory} {b b′ : List ℕ} {seen : BodyVisited} {a : Taken}
+    → VisitsBody excluded settings store (header (widthOf (settings .kind)) d) r w₀ m m′ b b′ seen → EndsBody r seen (header (widthOf (settings .kind)) d) x (timeGiven (w₀ .queue .timed) s) a → length x ≡ widthOf (settings .kind)
+    → TakesBody excluded settings store (header (widthOf (settings .kind)) d) (waitingIn r w₀) x (s .0) m m′ b b′ a
 unfolding fromBody
-takes-body d {excluded} {settings} {store} {r} {x} {s} {m} {m′} {b} {b′} {seen} {a} w k wide = record {
+takes-body d {excluded} {settings} {store} {r} {w₀} {x} {s} {m} {m′} {b} {b′} {seen} {a} w k wide = record {
   right = λ ok g v sh st u t′ by own there e j t z.
       let h : Header = header (widthOf (settings .kind)) d in
       let fs : List Id = followed (v .settings) (h .ids) in
       let same : followed settings (h .ids) ≡ fs = ap (λ (q : Settings). followed q (h .ids)) (sym (by .same-settings)) in
-      let all = subst (λ (q : List Id). VisitsAll excluded settings r m m′ b b′ (stored (worldOf (widthOf (settings .kind)) store g) q) (seen .after)) same (w .right ok g) in
+      let all = subst (λ (q : List Id). VisitsAll excluded settings (waitingIn r w₀) m m′ b b′ (stored (worldOf (widthOf (settings .kind)) store g) q) (waitingIn r (seen .after))) same (w .right ok g) in
       let ps : List (Id × ℤ) = stored (worldOf (widthOf (settings .kind)) store g) fs in
       let many : length ps ≡ length fs = length-map fs (λ q. (q, secondsFor (worldOf (widthOf (settings .kind)) store g) q)) in
       let short : length ps ≤ 256 = omega (arith, many, followed-take (v .settings) (h .ids) .1, header-few (widthOf (settings .kind)) d) in
       let list : withSeconds v fs ≡ ps = seconds-stored v fs ∙ ap (λ (q : World). stored q fs) own in
       let went = all .went v sh st u (256 - length ps) by (part-ready (length ps) short e)
       (λ q c. j .inside x (q .0) h there (followed-sub (v .settings) (q .0) (h .ids) (with-seconds v fs q (subst (λ (l : List (Id × ℤ)). List·Memᴰ q l) (sym list) c) .0))) in
-      let reads = subst (λ (l : List (Id × ℤ)). Reads (seen .after) m′ sh (visitAll v st l)) (sym list) (went .ready .reads) in
+      let reads = subst (λ (l : List (Id × ℤ)). Reads (waitingIn r (seen .after)) m′ sh (visitAll v st l)) (sym list) (went .ready .reads) in
       let down = all .down z ∙ ap (λ (l : List Id). setDown b 0 (joined l)) (map-stored (worldOf (widthOf (settings .kind)) store g) fs) in
-      subst (λ (q : Taken). Gives sh m m′ b b′ q (zoned (zoneShown (ending (v .settings) h) (h .zone)) (step (kindOf (ending (v .settings) h) (handed x none (queuedSeconds v t′))) fs (visitAll v st (withSeconds v fs))))) (sym (k .is ∙ same-end (seen .ends) x (seen .parents) (timeGiven (r .queue .timed) s) (seen .after) (λ c. k .right (whole-tree settings h (sym (w .ends) ∙ ap refusalOf c)) (omega (arith, w .parents, followed-take settings (h .ids) .1)) c)))
+      subst (λ (q : Taken). Gives sh m m′ b b′ q (zoned (zoneShown (ending (v .settings) h) (h .zone)) (step (kindOf (ending (v .settings) h) (handed x none (queuedSeconds v t′))) fs (visitAll v st (withSeconds v fs))))) (sym (k .is ∙ same-end (seen .ends) x (seen .parents) (timeGiven (w₀ .queue .timed) s) (waitingIn r (seen .after)) (λ c. k .right (whole-tree settings h (sym (w .ends) ∙ ap refusalOf c)) (omega (arith, w .parents, followed-take settings (h .ids) .1)) c)))
       (ends-kind (seen .ends) (ending (v .settings) h) fs x (queuedSeconds v t′) (h .zone) (w .ends ∙ ap (λ (q : Settings). ending q h) (sym (by .same-settings))) reads (w .parents ∙ ap length same)
       (time-right by (e .reads) s t′ t) down (went .line-kept));
   plain =
       let h : Header = header (widthOf (settings .kind)) d in
       let short : seen .parents ≤ most = omega (arith, w .parents, followed-take settings (h .ids) .1, header-few (widthOf (settings .kind)) d) in
       let full : seen .ends ≡ Crowded → seen .parents ≡ most = λ z. w .parents ∙ crowded-followed settings d (sym (w .ends) ∙ ap refusalOf z) in
-      subst (λ (q : Taken). Plain (widthOf (settings .kind)) b b′ (q .answer)) (sym (k .is)) (plain-ends (seen .ends) x (timeGiven (r .queue .timed) s) (k .zone) (seen .after) wide full short (w .past));
+      subst (λ (q : Taken). Plain (widthOf (settings .kind)) b b′ (q .answer)) (sym (k .is)) (plain-ends (seen .ends) x (timeGiven (w₀ .queue .timed) s) (k .zone) (waitingIn r (seen .after)) wide full short (w .past));
 }
 
 -- the store does not have the commit
@@ -222,15 +224,15 @@ plain-absent r = plain-bare r (omega arith, omega arith) counted-lost (omega ari
 -- ---- the first of the queue
 
 popped : {sh : Shape} {r : Record} {names marks : List ℕ} {times : List ℤ} {line line′ : List ℕ} {st : State} {u : List Id} {n : Next} (y : Id × ℤ) (l : List (Id × ℤ))
-    → Rests sh r (mem names marks times line) st u → Pops r names times line line′ n → st .queue ≡ y ∷ l → Popped sh (mem names marks times line′) st u y l n
+    → Rests sh r (mem names marks times line) st u → Pops r names times line line′ n → st .queue ≡ y ∷ l → Popped sh r (mem names marks times line′) st u y l n
 popped {sh} {marks = marks} {st = st} y l d p e = record { taken = p .some marks sh st (y .0) (y .1) l (d .reads) e; inside = d .inside; slots = d .slots; numbers = d .numbers }
 
 -- its id, of the settings' kind
-popped-id : {v : Walk} {sh : Shape} {excluded : List ℕ} {settings : Settings} {m : Memory} {st : State} {u : List Id} {y : Id × ℤ} {l : List (Id × ℤ)} {n : Next} → GoesBy v sh excluded settings → Popped sh m st u y l n
+popped-id : {v : Walk} {sh : Shape} {excluded : List ℕ} {settings : Settings} {r : Record} {m : Memory} {st : State} {u : List Id} {y : Id × ℤ} {l : List (Id × ℤ)} {n : Next} → GoesBy v sh excluded settings → Popped sh r m st u y l n
     → idIn (widthOf (settings .kind)) (n .id .bytes) ≡ y .0
 popped-id {settings = settings} {n = n} by k = ap (λ (q : Kinds.Kind). idIn (widthOf q) (n .id .bytes)) (sym (by .same-kind)) ∙ k .taken .id
 
-popped-ready : {sh : Shape} {m : Memory} {st : State} {u : List Id} {y : Id × ℤ} {l : List (Id × ℤ)} {n : Next} → Popped sh m st u y l n → Ready sh (n .rest) m (withQueue l st) u 256
+popped-ready : {sh : Shape} {r : Record} {m : Memory} {st : State} {u : List Id} {y : Id × ℤ} {l : List (Id × ℤ)} {n : Next} → Popped sh r m st u y l n → Ready sh (waitingIn r (n .rest)) m (withQueue l st) u 256
 unfolding withQueue
 popped-ready k = record {
   reads = k .taken .reads;
@@ -266,7 +268,7 @@ module _ {excluded : List ℕ} {settings : Settings} {store : List ℕ} {r : Rec
   module _ {o : Located} (p : Pops r names times line line′ n) (f : n .found ≡ true) (at : Locates (widthOf (settings .kind)) store (idIn (widthOf (settings .kind)) (n .id .bytes)) o) where
     -- what the store has of the commit that was popped decides
     from-store : {m′ : Memory} {b′ : List ℕ} {a : Taken} → ((g : List ℕ) → storeOk (widthOf (settings .kind)) store ≡ true → (v : Walk) (sh : Shape) (st : State) (u : List Id) (y : Id × ℤ) (l : List (Id × ℤ)) → GoesBy v sh excluded settings
-        → v .world ≡ worldOf (widthOf (settings .kind)) store g → Popped sh (mem names marks times line′) st u y l n → InStore v u → parentsRoom (widthOf (settings .kind)) ≤ length b
+        → v .world ≡ worldOf (widthOf (settings .kind)) store g → Popped sh r (mem names marks times line′) st u y l n → InStore v u → parentsRoom (widthOf (settings .kind)) ≤ length b
         → Gives sh (mem names marks times line′) m′ b b′ a (fromBody v (withQueue l st) (idIn (widthOf (settings .kind)) (n .id .bytes)) (y .1) (v .world .store (idIn (widthOf (settings .kind)) (n .id .bytes)))))
         → Plain (widthOf (settings .kind)) b b′ (a .answer) → TakesStored excluded settings store r (mem names marks times line) m′ b b′ a
     unfolding takeStore
@@ -281,10 +283,10 @@ module _ {excluded : List ℕ} {settings : Settings} {store : List ℕ} {r : Rec
             (subst (λ (x : Id). Gives sh (mem names marks times line′) m′ b b′ a (fromBody v (withQueue l st) x (y .1) (v .world .store x))) (popped-id by k) (w g ok v sh st u y l by own k j z))
 
     pub stored-body : {m′ : Memory} {b′ : List ℕ} {a : Taken} {d : List ℕ} (y e : ℕ) → o ≡ Body y e → d ≡ partOf store o
-        → TakesBody excluded settings store (header (widthOf (settings .kind)) d) (n .rest) (idIn (widthOf (settings .kind)) (n .id .bytes)) (n .seconds .0) (mem names marks times line′) m′ b b′ a
+        → TakesBody excluded settings store (header (widthOf (settings .kind)) d) (waitingIn r (n .rest)) (idIn (widthOf (settings .kind)) (n .id .bytes)) (n .seconds .0) (mem names marks times line′) m′ b b′ a
         → TakesStored excluded settings store r (mem names marks times line) m′ b b′ a
     stored-body {m′} {b′} {a} {d} y e i is whole =
-        let t = subst (λ (c : List ℕ). TakesBody excluded settings store (header (widthOf (settings .kind)) c) (n .rest) (idIn (widthOf (settings .kind)) (n .id .bytes)) (n .seconds .0) (mem names marks times line′) m′ b b′ a)
+        let t = subst (λ (c : List ℕ). TakesBody excluded settings store (header (widthOf (settings .kind)) c) (waitingIn r (n .rest)) (idIn (widthOf (settings .kind)) (n .id .bytes)) (n .seconds .0) (mem names marks times line′) m′ b b′ a)
         (is ∙ ap (partOf store) i) whole in
         from-store
         (λ g ok v sh st u c l by own k j z.
@@ -293,14 +295,14 @@ module _ {excluded : List ℕ} {settings : Settings} {store : List ℕ} {r : Rec
         (t .right ok g v sh (withQueue l st) u (c .1) by own there (popped-ready k) j (k .taken .seconds) z))
         (t .plain)
 
-    pub stored-absent : o ≡ Absent → TakesStored excluded settings store r (mem names marks times line) (mem names marks times line′) b b (gave (Refused CommitNotFound) noId 0 NoGeneration NoTime NoZone (n .rest))
+    pub stored-absent : o ≡ Absent → TakesStored excluded settings store r (mem names marks times line) (mem names marks times line′) b b (gave (Refused CommitNotFound) noId 0 NoGeneration NoTime NoZone (waitingIn r (n .rest)))
     stored-absent i =
         from-store
         (λ g ok v sh st u c l by own k j z.
         let there : v .world .store (idIn (widthOf (settings .kind)) (n .id .bytes)) ≡ none = ap (λ (q : World). q .store (idIn (widthOf (settings .kind)) (n .id .bytes))) own ∙ located-none g at i ok in
-        subst (λ (q : Option Header). Gives sh (mem names marks times line′) (mem names marks times line′) b b (gave (Refused CommitNotFound) noId 0 NoGeneration NoTime NoZone (n .rest)) (fromBody v (withQueue l st) (idIn (widthOf (settings .kind)) (n .id .bytes)) (c .1) q))
+        subst (λ (q : Option Header). Gives sh (mem names marks times line′) (mem names marks times line′) b b (gave (Refused CommitNotFound) noId 0 NoGeneration NoTime NoZone (waitingIn r (n .rest))) (fromBody v (withQueue l st) (idIn (widthOf (settings .kind)) (n .id .bytes)) (c .1) q))
         (sym there) (absent-gives v (idIn (widthOf (settings .kind)) (n .id .bytes)) (c .1) (k .taken .reads)))
-        (plain-absent (n .rest))
+        (plain-absent (waitingIn r (n .rest)))
 
   pub stored-none : Pops r names times line line′ n → n .found ≡ false
       → TakesStored excluded settings store r (mem names marks times line) (mem names marks times line′) b b (gave End noId 0 NoGeneration NoTime NoZone r)
@@ -338,11 +340,11 @@ row-own width v graph store kept x d own k e =
 
 -- ---- from the row
 
-module _ {excluded : List ℕ} {settings : Settings} {graph store : List ℕ} {l : Layout} {p : ℕ} {n : Next} {names marks : List ℕ} {times : List ℤ} {line : List ℕ} {b : List ℕ} {w : RowRead}
+module _ {excluded : List ℕ} {settings : Settings} {graph store : List ℕ} {l : Layout} {p : ℕ} {r : Record} {n : Next} {names marks : List ℕ} {times : List ℤ} {line : List ℕ} {b : List ℕ} {w : RowRead}
     (read : w ≡ rowReadOf (levelOf (widthOf (settings .kind)) graph l p) (parentsIn (widthOf (settings .kind)) graph l p)) where
   cached-row : {m′ : Memory} {b′ : List ℕ} {a : Taken} {many : ℕ} {c : Level} → w ≡ RowAt many c → length (idIn (widthOf (settings .kind)) (n .id .bytes)) ≡ widthOf (settings .kind)
-      → TakesRow excluded settings graph l p many c (n .rest) (idIn (widthOf (settings .kind)) (n .id .bytes)) (n .seconds .0) (mem names marks times line) m′ b b′ a
-      → TakesCached excluded settings graph l p store n (mem names marks times line) m′ b b′ a
+      → TakesRow excluded settings graph l p many c (waitingIn r (n .rest)) (idIn (widthOf (settings .kind)) (n .id .bytes)) (n .seconds .0) (mem names marks times line) m′ b b′ a
+      → TakesCached excluded settings graph l p store r n (mem names marks times line) m′ b b′ a
   unfolding takeRow
   cached-row {m′} {b′} {a} {many} {c} e wide t = record {
     right = λ ok good own v sh st u y ys by world k kept says i j z.
@@ -355,12 +357,12 @@ module _ {excluded : List ℕ} {settings : Settings} {graph store : List ℕ} {l
     plain = t .plain (row-counted (widthOf (settings .kind)) graph l p read e) wide;
   }
 
-  cached-corrupt : {line′ : List ℕ} {m′ : Memory} {b′ : List ℕ} {a : Taken} {r′ : Record} → w ≡ Corrupt → Drops (n .rest) times line line′ (n .slot) r′
-      → TakesStored excluded settings store r′ (mem names marks times line′) m′ b b′ a → TakesCached excluded settings graph l p store n (mem names marks times line) m′ b b′ a
+  cached-corrupt : {line′ : List ℕ} {m′ : Memory} {b′ : List ℕ} {a : Taken} {r′ : Record} → w ≡ Corrupt → Drops (waitingIn r (n .rest)) times line line′ (n .slot) r′
+      → TakesStored excluded settings store r′ (mem names marks times line′) m′ b b′ a → TakesCached excluded settings graph l p store r n (mem names marks times line) m′ b b′ a
   unfolding takeRow dropped withQueue
   cached-corrupt {line′} {m′} {b′} {a} {r′} e x t = record {
     right = λ ok good own v sh st u y ys by world k kept says i j z.
-        let held : n .rest .kept ≡ true = sym (k .taken .reads .kept) ∙ kept in
+        let held : r .kept ≡ true = sym (k .taken .reads .kept) ∙ kept in
         let small : n .rest .admitted + 2 < 4294967296 = omega (arith, k .numbers, k .taken .reads .admitted) in
         let g = x .reads names marks sh (withQueue ys st) (y .0) (y .1) (k .taken .reads) (k .taken .failed) held (k .taken .slot) (k .taken .entry) small in
         let shape : sh ≡ shapeFor (v .settings) (sh .cap) (sh .fixed) = by .shape ∙ ap (λ (s : Settings). shapeFor s (sh .cap) (sh .fixed)) (sym (by .same-settings)) in
@@ -375,40 +377,40 @@ module _ {excluded : List ℕ} {settings : Settings} {graph store : List ℕ} {l
   }
 
 -- the row's parents were visited
-visited-in : {r r′ : Record} {k k′ : ℕ} {c c′ : Level} → Visited r k c ≡ Visited r′ k′ c′ → (r ≡ r′) × (k ≡ k′) × (c ≡ c′)
+visited-in : {w w′ : Waiting} {k k′ : ℕ} {c c′ : Level} → Visited w k c ≡ Visited w′ k′ c′ → (w ≡ w′) × (k ≡ k′) × (c ≡ c′)
 visited-in e = (cc, cc, cc)
 
-module _ {excluded : List ℕ} {settings : Settings} {graph store : List ℕ} {l : Layout} {p : ℕ} {n : Next} {names marks : List ℕ} {times : List ℤ} {line : List ℕ} {names₁ marks₁ : List ℕ} {times₁ : List ℤ}
+module _ {excluded : List ℕ} {settings : Settings} {graph store : List ℕ} {l : Layout} {p : ℕ} {r : Record} {n : Next} {names marks : List ℕ} {times : List ℤ} {line : List ℕ} {names₁ marks₁ : List ℕ} {times₁ : List ℤ}
     {line₁ v v₁ b b₁ : List ℕ} {x : RowVisited}
-    (seen : VisitsCached excluded settings graph l p (n .rest) (mem names marks times line) (mem names₁ marks₁ times₁ line₁) v v₁ b b₁ x) where
-  pub cached-visited : {a : Taken} {r′ : Record} {k : ℕ} {c : Level} → length (idIn (widthOf (settings .kind)) (n .id .bytes)) ≡ widthOf (settings .kind) → x ≡ Visited r′ k c
-      → a ≡ gave Commit (padded (idIn (widthOf (settings .kind)) (n .id .bytes))) k (levelGiven (levelShown (c .0))) (timeGiven (n .rest .queue .timed) (n .seconds)) NoZone r′
-      → TakesCached excluded settings graph l p store n (mem names marks times line) (mem names₁ marks₁ times₁ line₁) b b₁ a
-  cached-visited {a} {r′} {k} {c} wide e i = go (rowReadOf (levelOf (widthOf (settings .kind)) graph l p) (parentsIn (widthOf (settings .kind)) graph l p)) refl (seen .judged)
+    (seen : VisitsCached excluded settings graph l p r (n .rest) (mem names marks times line) (mem names₁ marks₁ times₁ line₁) v v₁ b b₁ x) where
+  pub cached-visited : {a : Taken} {w′ : Waiting} {k : ℕ} {c : Level} → length (idIn (widthOf (settings .kind)) (n .id .bytes)) ≡ widthOf (settings .kind) → x ≡ Visited w′ k c
+      → a ≡ gave Commit (padded (idIn (widthOf (settings .kind)) (n .id .bytes))) k (levelGiven (levelShown (c .0))) (timeGiven (w′ .queue .timed) (n .seconds)) NoZone (waitingIn r w′)
+      → TakesCached excluded settings graph l p store r n (mem names marks times line) (mem names₁ marks₁ times₁ line₁) b b₁ a
+  cached-visited {a} {w′} {k} {c} wide e i = go (rowReadOf (levelOf (widthOf (settings .kind)) graph l p) (parentsIn (widthOf (settings .kind)) graph l p)) refl (seen .judged)
     where
       go : (w : RowRead) → w ≡ rowReadOf (levelOf (widthOf (settings .kind)) graph l p) (parentsIn (widthOf (settings .kind)) graph l p)
-          → VisitedBy w excluded settings graph l p (n .rest) (mem names marks times line) (mem names₁ marks₁ times₁ line₁) v v₁ b b₁ x
-          → TakesCached excluded settings graph l p store n (mem names marks times line) (mem names₁ marks₁ times₁ line₁) b b₁ a
-      go Corrupt read d = let y : RowVisited·Corrupt ≡ Visited r′ k c = sym (d .0) ∙ e in let z : _≡_ {A = ℕ} 0 1 = cc in absurd (omega arith)
+          → VisitedBy w excluded settings graph l p r (n .rest) (mem names marks times line) (mem names₁ marks₁ times₁ line₁) v v₁ b b₁ x
+          → TakesCached excluded settings graph l p store r n (mem names marks times line) (mem names₁ marks₁ times₁ line₁) b b₁ a
+      go Corrupt read d = let y : RowVisited·Corrupt ≡ Visited w′ k c = sym (d .0) ∙ e in let z : _≡_ {A = ℕ} 0 1 = cc in absurd (omega arith)
       go (RowAt many c₀) read d =
           let s = visited-in (sym (d .2) ∙ e) in
-          let w : VisitsRow excluded settings graph l p k (n .rest) (mem names marks times line) (mem names₁ marks₁ times₁ line₁) b b₁ r′ =
-          subst (λ (z : Record). VisitsRow excluded settings graph l p k (n .rest) (mem names marks times line) (mem names₁ marks₁ times₁ line₁) b b₁ z) (s .0)
-          (subst (λ (z : ℕ). VisitsRow excluded settings graph l p z (n .rest) (mem names marks times line) (mem names₁ marks₁ times₁ line₁) b b₁ (d .1)) (s .1) (d .4)) in
-          subst (λ (q : Taken). TakesCached excluded settings graph l p store n (mem names marks times line) (mem names₁ marks₁ times₁ line₁) b b₁ q) (sym i)
+          let w : VisitsRow excluded settings graph l p k (waitingIn r (n .rest)) (mem names marks times line) (mem names₁ marks₁ times₁ line₁) b b₁ (waitingIn r w′) =
+          subst (λ (z : Waiting). VisitsRow excluded settings graph l p k (waitingIn r (n .rest)) (mem names marks times line) (mem names₁ marks₁ times₁ line₁) b b₁ (waitingIn r z)) (s .0)
+          (subst (λ (z : ℕ). VisitsRow excluded settings graph l p z (waitingIn r (n .rest)) (mem names marks times line) (mem names₁ marks₁ times₁ line₁) b b₁ (waitingIn r (d .1))) (s .1) (d .4)) in
+          subst (λ (q : Taken). TakesCached excluded settings graph l p store r n (mem names marks times line) (mem names₁ marks₁ times₁ line₁) b b₁ q) (sym i)
           (cached-row read (ap (RowAt many) (s .2)) wide (takes-row (subst (λ (z : ℕ). Follows settings many z) (s .1) (d .3)) w))
 
   -- its list is corrupt: nothing was changed, and the call goes on from the store
-  pub cached-torn : {line′ : List ℕ} {m″ : Memory} {b″ : List ℕ} {a : Taken} {r′ : Record} → x ≡ RowVisited·Corrupt → Drops (n .rest) times₁ line₁ line′ (n .slot) r′
-      → TakesStored excluded settings store r′ (mem names₁ marks₁ times₁ line′) m″ b₁ b″ a → TakesCached excluded settings graph l p store n (mem names marks times line) m″ b b″ a
+  pub cached-torn : {line′ : List ℕ} {m″ : Memory} {b″ : List ℕ} {a : Taken} {r′ : Record} → x ≡ RowVisited·Corrupt → Drops (waitingIn r (n .rest)) times₁ line₁ line′ (n .slot) r′
+      → TakesStored excluded settings store r′ (mem names₁ marks₁ times₁ line′) m″ b₁ b″ a → TakesCached excluded settings graph l p store r n (mem names marks times line) m″ b b″ a
   cached-torn {line′} {m″} {b″} {a} {r′} e y t = go (rowReadOf (levelOf (widthOf (settings .kind)) graph l p) (parentsIn (widthOf (settings .kind)) graph l p)) refl (seen .judged)
     where
       go : (w : RowRead) → w ≡ rowReadOf (levelOf (widthOf (settings .kind)) graph l p) (parentsIn (widthOf (settings .kind)) graph l p)
-          → VisitedBy w excluded settings graph l p (n .rest) (mem names marks times line) (mem names₁ marks₁ times₁ line₁) v v₁ b b₁ x
-          → TakesCached excluded settings graph l p store n (mem names marks times line) m″ b b″ a
+          → VisitedBy w excluded settings graph l p r (n .rest) (mem names marks times line) (mem names₁ marks₁ times₁ line₁) v v₁ b b₁ x
+          → TakesCached excluded settings graph l p store r n (mem names marks times line) m″ b b″ a
       go Corrupt read d =
-          subst (λ (c : List ℕ). TakesCached excluded settings graph l p store n (mem names marks times line) m″ c b″ a) (d .3)
-          (subst (λ (c : Memory). TakesCached excluded settings graph l p store n c m″ b₁ b″ a) (d .1) (cached-corrupt read refl y t))
+          subst (λ (c : List ℕ). TakesCached excluded settings graph l p store r n (mem names marks times line) m″ c b″ a) (d .3)
+          (subst (λ (c : Memory). TakesCached excluded settings graph l p store r n c m″ b₁ b″ a) (d .1) (cached-corrupt read refl y t))
       go (RowAt many c₀) read d = let o : Visited (d .1) (d .0) c₀ ≡ RowVisited·Corrupt = sym (d .2) ∙ e in let z : _≡_ {A = ℕ} 0 1 = cc in absurd (omega arith)
 
 -- ---- from what `find` found
@@ -424,7 +426,7 @@ module _ {excluded : List ℕ} {settings : Settings} {graph store : List ℕ} {r
   -- the popped commit, whose row in use is d, is taken as the walk takes it
   found-next : {m′ : Memory} {b′ : List ℕ} {a : Taken} → ((v : Walk) (sh : Shape) (st : State) (u : List Id) (y : Id × ℤ) (l : List (Id × ℤ)) → storeOk (widthOf (settings .kind)) store ≡ true → GoodCache (widthOf (settings .kind)) (cacheOf (widthOf (settings .kind)) graph (r .kept)) graph
       → r .fixed .layout ≡ layoutOf (widthOf (settings .kind)) graph → e ≡ foundIn (widthOf (settings .kind)) (cacheOf (widthOf (settings .kind)) graph (r .kept)) graph store (idIn (widthOf (settings .kind)) (n .id .bytes)) → GoesBy v sh excluded settings → v .world ≡ worldOf (widthOf (settings .kind)) store graph → st .kept ≡ r .kept
-      → Popped sh (mem names marks times line′) st u y l n → InRows v u → InStore v u → parentsRoom (widthOf (settings .kind)) ≤ length b
+      → Popped sh r (mem names marks times line′) st u y l n → InRows v u → InStore v u → parentsRoom (widthOf (settings .kind)) ≤ length b
       → (d : Row) × (worldUnder (widthOf (settings .kind)) (cacheOf (widthOf (settings .kind)) graph (r .kept)) graph store .graph (idIn (widthOf (settings .kind)) (n .id .bytes)) ≡ d) × Gives sh (mem names marks times line′) m′ b b′ a (takeRow v st y l d))
       → TakesNext excluded settings graph store r (mem names marks times line) m′ b b′ a
   found-next {m′} {b′} {a} w = record { right = λ ok good v sh st u by fixed own d i j z. go ok good v sh st u by fixed own d i j z (st .queue) refl }
@@ -444,7 +446,7 @@ module _ {excluded : List ℕ} {settings : Settings} {graph store : List ℕ} {r
           subst (Gives sh (mem names marks times line) m′ b b′ a) (sym (row-step (widthOf (settings .kind)) v graph store y l (s .0) (d .reads) own o (popped-id by k) (s .1)))
           (gives-on (pop-kept (d .reads) p) (s .2))
 
-  pub next-cached : {m′ : Memory} {b′ : List ℕ} {a : Taken} (at s z : ℕ) → e ≡ CachedCommit at s z → TakesCached excluded settings graph (r .fixed .layout) at store n (mem names marks times line′) m′ b b′ a
+  pub next-cached : {m′ : Memory} {b′ : List ℕ} {a : Taken} (at s z : ℕ) → e ≡ CachedCommit at s z → TakesCached excluded settings graph (r .fixed .layout) at store r n (mem names marks times line′) m′ b b′ a
       → TakesNext excluded settings graph store r (mem names marks times line) m′ b b′ a
   next-cached at s z q t = found-next (λ v sh st u y l ok good lay told by own same k i j h.
       let file = found-row (widthOf (settings .kind)) (cacheOf (widthOf (settings .kind)) graph (r .kept)) graph store (idIn (widthOf (settings .kind)) (n .id .bytes)) at s z good (sym told ∙ q) in
@@ -454,13 +456,13 @@ module _ {excluded : List ℕ} {settings : Settings} {graph store : List ℕ} {r
       ap (v .world .graph) (sym (popped-id by k)) ∙ row-own (widthOf (settings .kind)) v graph store (r .kept) (idIn (widthOf (settings .kind)) (n .id .bytes)) (rowAt (widthOf (settings .kind)) graph at) own kept (file .says) in
       (rowAt (widthOf (settings .kind)) graph at, file .says, t .right ok (file .file) lay v sh st u y l by own k (same ∙ kept) says i j h))
 
-  pub next-body : {m′ : Memory} {b′ : List ℕ} {a : Taken} {d : List ℕ} (s z : ℕ) → e ≡ CommitRefIter s z → d ≡ partInStore e store
-      → TakesBody excluded settings store (header (widthOf (settings .kind)) d) (n .rest) (idIn (widthOf (settings .kind)) (n .id .bytes)) (n .seconds .0) (mem names marks times line′) m′ b b′ a
+  pub next-body : {m′ : Memory} {b′ : List ℕ} {a : Taken} {d : List ℕ} (s z : ℕ) → e ≡ CommitRefIter s z → d ≡ partInStore (CommitRefIter s z) store
+      → TakesBody excluded settings store (header (widthOf (settings .kind)) d) (waitingIn r (n .rest)) (idIn (widthOf (settings .kind)) (n .id .bytes)) (n .seconds .0) (mem names marks times line′) m′ b b′ a
       → TakesNext excluded settings graph store r (mem names marks times line) m′ b b′ a
   unfolding takeRow takeStore
   next-body {m′} {b′} {a} {d} s z q is whole =
-      let t = subst (λ (c : List ℕ). TakesBody excluded settings store (header (widthOf (settings .kind)) c) (n .rest) (idIn (widthOf (settings .kind)) (n .id .bytes)) (n .seconds .0) (mem names marks times line′) m′ b b′ a)
-      (is ∙ ap (λ (h : Either). partInStore h store) q ∙ found-slice found s z q) whole in
+      let t = subst (λ (c : List ℕ). TakesBody excluded settings store (header (widthOf (settings .kind)) c) (waitingIn r (n .rest)) (idIn (widthOf (settings .kind)) (n .id .bytes)) (n .seconds .0) (mem names marks times line′) m′ b b′ a)
+      (is ∙ found-slice found s z q) whole in
       found-next (λ v sh st u y l ok good lay told by own same k i j h.
       let x : Id = idIn (widthOf (settings .kind)) (n .id .bytes) in
       let c = found-body (widthOf (settings .kind)) (cacheOf (widthOf (settings .kind)) graph (r .kept)) graph store x s z ok (sym told ∙ q) in
@@ -473,11 +475,11 @@ module _ {excluded : List ℕ} {settings : Settings} {graph store : List ℕ} {r
       ))
 
   pub next-absent : e ≡ Either·Absent
-      → TakesNext excluded settings graph store r (mem names marks times line) (mem names marks times line′) b b (gave (Refused CommitNotFound) noId 0 NoGeneration NoTime NoZone (n .rest))
+      → TakesNext excluded settings graph store r (mem names marks times line) (mem names marks times line′) b b (gave (Refused CommitNotFound) noId 0 NoGeneration NoTime NoZone (waitingIn r (n .rest)))
   unfolding takeRow takeStore
   next-absent q = found-next (λ v sh st u y l ok good lay told by own same k i j h.
       let x : Id = idIn (widthOf (settings .kind)) (n .id .bytes) in
-      let a : Taken = gave (Refused CommitNotFound) noId 0 NoGeneration NoTime NoZone (n .rest) in
+      let a : Taken = gave (Refused CommitNotFound) noId 0 NoGeneration NoTime NoZone (waitingIn r (n .rest)) in
       let c = found-absent (widthOf (settings .kind)) (cacheOf (widthOf (settings .kind)) graph (r .kept)) graph store x (sym told ∙ q) in
       let there : v .world .store x ≡ none = ap (λ (w : World). w .store x) own ∙ sym (same-store (widthOf (settings .kind)) (cacheOf (widthOf (settings .kind)) graph (r .kept)) graph store x) ∙ c .1 in (
         no-row,

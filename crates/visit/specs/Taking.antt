@@ -35,7 +35,7 @@ use Rattle.reading.specs.declared.body.BodyEnd.the-variants.{Whole, Unreadable,
 use Rattle.state.specs.declared.Record.{Record}
 use Rattle.state.specs.declared.Next.{Next}
 use Rattle.state.specs.Reads.{Memory, Shape, Reads, Universe}
-use Rattle.state.specs.Shapes.{fixedOf}
+use Rattle.state.specs.Shapes.{fixedOf, waitingIn}
 use Rattle.state.specs.Steps.{Taken as OutOfQueue}
 use Rattle.bodyvisit.specs.declared.body.BodyVisited.{BodyVisited}
 use Rattle.visit.specs.declared.next.Taken.{Taken}
@@ -63,11 +63,12 @@ endGiven Whole x n t z r = gave Commit (padded x) n NoGeneration t z r
 endGiven Unreadable x n t z r = gave (Refused CommitUnreadable) noId n NoGeneration NoTime NoZone r
 endGiven Crowded x n t z r = gave (Refused TooManyParents) noId n NoGeneration NoTime NoZone r
 
--- the answer after the parents of a body with the header h, some of whose parents are seen: the zone of a commit that is handed out is the header's
-pub record EndsBody (seen : BodyVisited) (h : Header) (x : Id) (t : MaybeSeconds) (a : Taken) : Type 0 where
+-- the answer after the parents of a body with the header h, some of whose parents are seen, with the record r but for those that wait then: the zone
+-- of a commit that is handed out is the header's
+pub record EndsBody (r : Record) (seen : BodyVisited) (h : Header) (x : Id) (t : MaybeSeconds) (a : Taken) : Type 0 where
   pub zone : Zone
   pub right : h .tree ≡ true → seen .parents ≤ length (h .ids) → seen .ends ≡ Whole → zone ≡ zoneGiven (h .zone)
-  pub is : a ≡ endGiven (seen .ends) x (seen .parents) t zone (seen .after)
+  pub is : a ≡ endGiven (seen .ends) x (seen .parents) t zone (waitingIn r (seen .after))
 
 -- the record r and the memory m read as the state st, whose ids lie in u; 256 commits more may be admitted
 pub record Rests (sh : Shape) (r : Record) (m : Memory) (st : State) (u : List Id) : Type 0 where
@@ -102,17 +103,17 @@ pub record TakesStored (excluded : List ℕ) (settings : Settings) (store : List
       → Rests sh r m st u → InStore v u → parentsRoom (widthOf (settings .kind)) ≤ length b → Gives sh m m′ b b′ a (takeStore v st (st .queue))
   pub plain : Plain (widthOf (settings .kind)) b b′ (a .answer)
 
--- n was popped: the first of the state's queue, which was y ∷ l; m is the memory since
-pub record Popped (sh : Shape) (m : Memory) (st : State) (u : List Id) (y : Id × ℤ) (l : List (Id × ℤ)) (n : Next) : Type 0 where
-  pub taken : OutOfQueue (m .names) (m .marks) (m .times) (m .line) sh st (y .0) (y .1) l n
+-- n was popped from the record r: the first of the state's queue, which was y ∷ l; m is the memory since
+pub record Popped (sh : Shape) (r : Record) (m : Memory) (st : State) (u : List Id) (y : Id × ℤ) (l : List (Id × ℤ)) (n : Next) : Type 0 where
+  pub taken : OutOfQueue r (m .names) (m .marks) (m .times) (m .line) sh st (y .0) (y .1) l n
   pub inside : Universe sh st u
   pub slots : sh .cap ≤ 4294967296
   pub numbers : st .admitted + 256 + 2 < 4294967296
 
 -- the popped commit from its row at position p, or, where that is corrupt, the first of the queue from the store alone
-pub record TakesCached (excluded : List ℕ) (settings : Settings) (graph : List ℕ) (l : Layout) (p : ℕ) (store : List ℕ) (n : Next) (m m′ : Memory) (b b′ : List ℕ) (a : Taken) : Type 0 where
+pub record TakesCached (excluded : List ℕ) (settings : Settings) (graph : List ℕ) (l : Layout) (p : ℕ) (store : List ℕ) (r : Record) (n : Next) (m m′ : Memory) (b b′ : List ℕ) (a : Taken) : Type 0 where
   pub right : storeOk (widthOf (settings .kind)) store ≡ true → graphOk (widthOf (settings .kind)) graph ≡ true → l ≡ layoutOf (widthOf (settings .kind)) graph → (v : Walk) (sh : Shape) (st : State) (u : List Id) (y : Id × ℤ) (ys : List (Id × ℤ))
-      → GoesBy v sh excluded settings → v .world ≡ worldOf (widthOf (settings .kind)) store graph → Popped sh m st u y ys n → st .kept ≡ true → v .world .graph (y .0) ≡ rowAt (widthOf (settings .kind)) graph p → InRows v u → InStore v u → parentsRoom (widthOf (settings .kind)) ≤ length b
+      → GoesBy v sh excluded settings → v .world ≡ worldOf (widthOf (settings .kind)) store graph → Popped sh r m st u y ys n → st .kept ≡ true → v .world .graph (y .0) ≡ rowAt (widthOf (settings .kind)) graph p → InRows v u → InStore v u → parentsRoom (widthOf (settings .kind)) ≤ length b
       → Gives sh m m′ b b′ a (takeRow v st y ys (rowAt (widthOf (settings .kind)) graph p))
   pub plain : Plain (widthOf (settings .kind)) b b′ (a .answer)
 

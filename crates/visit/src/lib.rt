@@ -4,3 +4,4 @@ mod next;
 
 pub use next::Taken;
 pub use next::next_by_topology_or_commit_date;
+pub use next::noted;

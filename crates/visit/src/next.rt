@@ -13,6 +13,7 @@ use reading::BodyEnd;
 use rowvisit::RowVisited;
 use state::Next;
 use state::Record;
+use state::Waiting;
 use walk::Answer;
 use walk::Info;
 use walk::MaybeLevel;
@@ -32,6 +33,9 @@ ghost use Rattle.hash.specs.Bytes.{widthOf};
 ghost use Rattle.object.specs.Header.{header};
 ghost use Rattle.object.specs.Ids.{padded, idIn};
 ghost use Rattle.date.specs.declared.Zone.the-variants.{NoZone};
+ghost use Rattle.commit.specs.Find.{FindsCommit};
+ghost use Rattle.reading.specs.Files.{cacheWith};
+ghost use Rattle.state.specs.Shapes.{waitingIn};
 ghost use Rattle.state.specs.Steps.{mem};
 ghost use Rattle.visit.specs.Taking.{gave, timeGiven, EndsBody, TakesBody, TakesStored, TakesCached, TakesNext};
 ghost use Rattle.visit.specs.Plain.{Plain};
@@ -49,7 +53,8 @@ fn id_given(kind: Kind, id: ObjectId) -> ObjectId
     object::id_of(object::id_slice(kind, &id.bytes))
 }
 
-// An answer with the running numbers of a record.
+// An answer with the running numbers of a record with these that wait, and that record after it: up to here they go beside each other, as a record that
+// goes by value to a function that is not compiled into its caller is copied.
 fn give(
     outcome: Outcome,
     id: ObjectId,
@@ -58,10 +63,11 @@ fn give(
     time: MaybeSeconds,
     zone: Zone,
     r: Record,
+    w: Waiting,
 ) -> Taken
-    ensures { λ a. ⌜ a ≡ gave outcome (id .bytes) parents generation time zone r ⌝ }
+    ensures { λ a. ⌜ a ≡ gave outcome (id .bytes) parents generation time zone (waitingIn r w) ⌝ }
 {
-    let q = r.queue;
+    let q = w.queue;
     let bytes = id.bytes;
     let info = Info {
         id: bytes,
@@ -73,16 +79,19 @@ fn give(
     let answer = Answer {
         outcome,
         info,
-        admitted: r.admitted,
+        admitted: w.admitted,
         struck: r.struck,
         waiting: q.count,
     };
-    Taken { answer, after: r }
+    Taken {
+        answer,
+        after: state::with_waiting(r, w),
+    }
 }
 
 // A refusal, with the number of parents set down before it.
-fn refuse(why: Refusal, parents: usize, r: Record) -> Taken
-    ensures { λ a. ⌜ a ≡ gave (Refused why) noId parents NoGeneration NoTime NoZone r ⌝ }
+fn refuse(why: Refusal, parents: usize, r: Record, w: Waiting) -> Taken
+    ensures { λ a. ⌜ a ≡ gave (Refused why) noId parents NoGeneration NoTime NoZone (waitingIn r w) ⌝ }
 {
     give(
         Outcome::Refused(why),
@@ -92,6 +101,7 @@ fn refuse(why: Refusal, parents: usize, r: Record) -> Taken
         MaybeSeconds::NoTime,
         Zone::NoZone,
         r,
+        w,
     )
 }
 
@@ -113,11 +123,11 @@ fn give_row(
     s: Seconds,
     n: usize,
     level: Level,
-    after: Record,
+    after: Waiting,
 ) -> Taken
-    ensures { λ a. ⌜ a ≡ gave Outcome.Commit (padded (idIn (widthOf kind) (id .bytes))) n (levelGiven (levelShown (level .0))) (timeGiven (r .queue .timed) s) NoZone after ⌝ }
+    ensures { λ a. ⌜ a ≡ gave Outcome.Commit (padded (idIn (widthOf kind) (id .bytes))) n (levelGiven (levelShown (level .0))) (timeGiven (after .queue .timed) s) NoZone (waitingIn r after) ⌝ }
 {
-    let q = r.queue;
+    let q = after.queue;
     give(
         Outcome::Commit,
         id_given(kind, id),
@@ -125,13 +135,21 @@ fn give_row(
         reading::level_shown(level),
         time_given(q.timed, s),
         Zone::NoZone,
+        r,
         after,
     )
 }
 
 // The answer after the parents of a body, with the zone of its committer line, which is read past all parents.
-fn end_body(kind: Kind, seen: BodyVisited, id: ObjectId, time: MaybeSeconds, body: &[u8]) -> Taken
-    ensures { λ a. ⌜ EndsBody seen (header (widthOf kind) (now (body .entry))) (idIn (widthOf kind) (id .bytes)) time a ⌝ }
+fn end_body(
+    kind: Kind,
+    r: Record,
+    seen: BodyVisited,
+    id: ObjectId,
+    time: MaybeSeconds,
+    body: &[u8],
+) -> Taken
+    ensures { λ a. ⌜ EndsBody r seen (header (widthOf kind) (now (body .entry))) (idIn (widthOf kind) (id .bytes)) time a ⌝ }
 {
     let ends = seen.ends;
     match ends {
@@ -142,18 +160,18 @@ fn end_body(kind: Kind, seen: BodyVisited, id: ObjectId, time: MaybeSeconds, bod
             MaybeLevel::NoGeneration,
             time,
             reading::zone_past(kind, body, seen.parents),
+            r,
             seen.after,
         ),
-        BodyEnd::Unreadable => refuse(Refusal::CommitUnreadable, seen.parents, seen.after),
-        BodyEnd::Crowded => refuse(Refusal::TooManyParents, seen.parents, seen.after),
+        BodyEnd::Unreadable => refuse(Refusal::CommitUnreadable, seen.parents, r, seen.after),
+        BodyEnd::Crowded => refuse(Refusal::TooManyParents, seen.parents, r, seen.after),
     }
 }
 
-// The commit from its body, a part of the store.
+// The first commit, which has left the queue, from its body, a part of the store.
 fn take_body(
     r: Record,
-    id: ObjectId,
-    s: Seconds,
+    first: Next,
     store: &[u8],
     body: &[u8],
     names: &mut [u8],
@@ -165,12 +183,14 @@ fn take_body(
     excluded: &[u8],
     settings: Settings,
 ) -> Taken
-    ensures { λ a. ⌜ TakesBody (now (excluded .entry)) settings (now (store .entry)) (header (widthOf (settings .kind)) (now (body .entry))) r (idIn (widthOf (settings .kind)) (id .bytes)) (s .0) (mem (now (names .entry)) (now (marks .entry)) (now (times .entry)) (now (line .entry))) (mem (now (names .exit)) (now (marks .exit)) (now (times .exit)) (now (line .exit))) (now (parents .entry)) (now (parents .exit)) a ⌝ }
+    ensures { λ a. ⌜ TakesBody (now (excluded .entry)) settings (now (store .entry)) (header (widthOf (settings .kind)) (now (body .entry))) (waitingIn r (first .rest)) (idIn (widthOf (settings .kind)) (first .id .bytes)) (first .seconds .0) (mem (now (names .entry)) (now (marks .entry)) (now (times .entry)) (now (line .entry))) (mem (now (names .exit)) (now (marks .exit)) (now (times .exit)) (now (line .exit))) (now (parents .entry)) (now (parents .exit)) a ⌝ }
 {
     let kind = settings.kind;
-    let q = r.queue;
+    let rest = first.rest;
+    let q = rest.queue;
     let seen = visit_body(
         r,
+        rest,
         store,
         body,
         names,
@@ -182,7 +202,14 @@ fn take_body(
         excluded,
         settings,
     );
-    end_body(kind, seen, id, time_given(q.timed, s), body)
+    end_body(
+        kind,
+        r,
+        seen,
+        first.id,
+        time_given(q.timed, first.seconds),
+        body,
+    )
 }
 
 // The end of the walk.
@@ -197,6 +224,7 @@ fn end_walk(r: Record) -> Taken
         MaybeSeconds::NoTime,
         Zone::NoZone,
         r,
+        state::waiting_of(r),
     )
 }
 
@@ -214,7 +242,7 @@ fn place_noted(n: u32) -> usize
 }
 
 // Where the commit in a slot may stand, as is noted beside the slot; nothing is noted past the end.
-fn noted(levels: &[u32], slot: u32) -> usize
+pub fn noted(levels: &[u32], slot: u32) -> usize
     ensures { λ r. ⌜ r ≡ (getD (now (levels .entry)) slot 0 + 4294967295) % 4294967296 ⌝ }
 {
     let i = wide(slot);
@@ -250,9 +278,8 @@ fn take_stored(
     let at = odb::locate_near(kind, store, object::id_slice(kind, &id.bytes), near);
     match at {
         Located::Body { .. } => take_body(
-            first.rest,
-            id,
-            first.seconds,
+            r,
+            first,
             store,
             odb::body(store, at),
             names,
@@ -264,13 +291,14 @@ fn take_stored(
             excluded,
             settings,
         ),
-        Located::Absent => refuse(Refusal::CommitNotFound, 0, first.rest),
+        Located::Absent => refuse(Refusal::CommitNotFound, 0, r, first.rest),
     }
 }
 
 // The first commit, which has left the queue, from its row at a position. A corrupt parent list drops the commit-graph file for good, and the
 // call goes on from the store.
 fn take_cached(
+    r: Record,
     first: Next,
     graph: &[u8],
     l: Layout,
@@ -285,10 +313,11 @@ fn take_cached(
     excluded: &[u8],
     settings: Settings,
 ) -> Taken
-    ensures { λ a. ⌜ TakesCached (now (excluded .entry)) settings (now (graph .entry)) l position (now (store .entry)) first (mem (now (names .entry)) (now (marks .entry)) (now (times .entry)) (now (line .entry))) (mem (now (names .exit)) (now (marks .exit)) (now (times .exit)) (now (line .exit))) (now (parents .entry)) (now (parents .exit)) a ⌝ }
+    ensures { λ a. ⌜ TakesCached (now (excluded .entry)) settings (now (graph .entry)) l position (now (store .entry)) r first (mem (now (names .entry)) (now (marks .entry)) (now (times .entry)) (now (line .entry))) (mem (now (names .exit)) (now (marks .exit)) (now (times .exit)) (now (line .exit))) (now (parents .entry)) (now (parents .exit)) a ⌝ }
 {
     let kind = settings.kind;
     match rowvisit::visit_cached(
+        r,
         first.rest,
         graph,
         l,
@@ -306,9 +335,10 @@ fn take_cached(
             after,
             parents: n,
             level,
-        } => give_row(kind, first.rest, first.id, first.seconds, n, level, after),
+        } => give_row(kind, r, first.id, first.seconds, n, level, after),
         RowVisited::Corrupt => {
-            let back = state::drop_graph(first.rest, times, line, first.slot);
+            let rest = state::with_waiting(r, first.rest);
+            let back = state::drop_graph(rest, times, line, first.slot);
             take_stored(
                 back,
                 store,
@@ -325,8 +355,35 @@ fn take_cached(
     }
 }
 
-// The next commit of the queue, looked up by `find`: its parents are visited, and it is handed out. (One queue serves both orders, so this is the
-// Rust's `next_by_topology` and its `next_by_commit_date`.)
+// Where a commit that has left the queue stands, looked up by `find` in the commit-graph file, while that is kept, and in the store; what is noted
+// beside its slot is tried first.
+fn look_up(
+    l: Layout,
+    kept: bool,
+    id: ObjectId,
+    slot: u32,
+    graph: &[u8],
+    store: &[u8],
+    levels: &[u32],
+    settings: Settings,
+) -> Either
+    ensures { λ a. ⌜ FindsCommit (widthOf (settings .kind)) (cacheWith (now (graph .entry)) l kept) (now (graph .entry)) (now (store .entry)) (idIn (widthOf (settings .kind)) (id .bytes)) a ⌝ }
+{
+    let kind = settings.kind;
+    let cache = reading::cache_of(graph, l, kept);
+    let near = noted(levels, slot);
+    commit::find(
+        kind,
+        cache,
+        graph,
+        store,
+        object::id_slice(kind, &id.bytes),
+        near,
+    )
+}
+
+// The next commit of the queue: its parents are visited, and it is handed out. (One queue serves both orders, so this is the Rust's
+// `next_by_topology` and its `next_by_commit_date`.)
 pub fn next_by_topology_or_commit_date(
     r: Record,
     graph: &[u8],
@@ -342,27 +399,15 @@ pub fn next_by_topology_or_commit_date(
 ) -> Taken
     ensures { λ a. ⌜ TakesNext (now (excluded .entry)) settings (now (graph .entry)) (now (store .entry)) r (mem (now (names .entry)) (now (marks .entry)) (now (times .entry)) (now (line .entry))) (mem (now (names .exit)) (now (marks .exit)) (now (times .exit)) (now (line .exit))) (now (parents .entry)) (now (parents .exit)) a × Plain (widthOf (settings .kind)) (now (parents .entry)) (now (parents .exit)) (a .answer) ⌝ }
 {
-    let kind = settings.kind;
-    let first = state::pop(r, names, times, line);
-    if !first.found {
+    let top = state::pop(r, names, times, line);
+    if !top.found {
         return end_walk(r);
     }
-    let fixed = r.fixed;
-    let l = fixed.layout;
-    let cache = reading::cache_of(graph, l, r.kept);
-    let id = first.id;
-    let near = noted(levels, first.slot);
-    let at = commit::find(
-        kind,
-        cache,
-        graph,
-        store,
-        object::id_slice(kind, &id.bytes),
-        near,
-    );
-    match at {
+    let l = r.fixed.layout;
+    match look_up(l, r.kept, top.id, top.slot, graph, store, levels, settings) {
         Either::CachedCommit { position, .. } => take_cached(
-            first,
+            r,
+            top,
             graph,
             l,
             position,
@@ -376,12 +421,11 @@ pub fn next_by_topology_or_commit_date(
             excluded,
             settings,
         ),
-        Either::CommitRefIter { .. } => take_body(
-            first.rest,
-            id,
-            first.seconds,
+        Either::CommitRefIter { start, end } => take_body(
+            r,
+            top,
             store,
-            commit::part_of_store(at, store),
+            commit::part_of_store(Either::CommitRefIter { start, end }, store),
             names,
             marks,
             levels,
@@ -391,6 +435,6 @@ pub fn next_by_topology_or_commit_date(
             excluded,
             settings,
         ),
-        Either::Absent => refuse(Refusal::CommitNotFound, 0, first.rest),
+        Either::Absent => refuse(Refusal::CommitNotFound, 0, r, top.rest),
     }
 }

@@ -11,6 +11,7 @@ use Rattle.hash.specs.Bytes.{setDown}
 use Rattle.hash.specs.declared.Kind.{Kind}
 use Rattle.hash.specs.declared.Kind.the-variants.{Sha1, Sha256}
 use Rattle.hash.proofs.Bytes.{setDown-fits}
+use Rattle.revwalk.specs.declared.queue.Queue.{Queue}
 use Rattle.state.specs.declared.Record.{Record}
 use Rattle.wire.specs.Words.{kindOf, widthWord, bitOf, recordWords, wordsOf, queueOf, fixedIn, recordOf}
 
@@ -23,11 +24,26 @@ unfolding kindOf
 kind-back Sha1 = refl
 kind-back Sha256 = refl
 
+-- the queue that is read from a queue's words
+abbrev pub queueAgain : Queue → Queue
+queueAgain q = record {
+  timed = eqb (bitOf (q .timed)) 1;
+  newest = eqb (bitOf (q .newest)) 1;
+  cap = q .cap;
+  head = q .head;
+  count = q .count;
+  next = q .next % 4294967296;
+}
+
+pub queue-back : (q : Queue) → q .next < 4294967296 → queueAgain q ≡ q
+queue-back q h =
+    let low : q .next % 4294967296 ≡ q .next = omega arith in
+    λ k. record { timed = bit-back (q .timed) k; newest = bit-back (q .newest) k; cap = q .cap; head = q .head; count = q .count; next = low k }
+
 -- whatever words stand after them
 pub words-back : (r : Record) (rest : List ℕ) → r .queue .next < 4294967296 → recordOf (wordsOf r ++ rest) ≡ r
 unfolding wordsOf queueOf fixedIn recordOf
 words-back r rest h =
-    let low : r .queue .next % 4294967296 ≡ r .queue .next = omega arith in
     λ k. record {
       live = bit-back (r .live) k;
       painted = bit-back (r .painted) k;
@@ -45,14 +61,7 @@ words-back r rest h =
         };
         kind = kind-back (r .fixed .kind) k;
       };
-      queue = record {
-        timed = bit-back (r .queue .timed) k;
-        newest = bit-back (r .queue .newest) k;
-        cap = r .queue .cap;
-        head = r .queue .head;
-        count = r .queue .count;
-        next = low k;
-      };
+      queue = queue-back (r .queue) h k;
       admitted = r .admitted;
       struck = r .struck;
     }

@@ -6,7 +6,8 @@ use mathlib.Core.List.{List}
 use lib.ListN.{set}
 use lib.Dec.{eqb}
 use lib.IntN.{ℤ}
-use Rattle.hash.specs.Bytes.{setDown}
+use Rattle.hash.specs.Bytes.{Id, setDown}
+use Rattle.date.specs.declared.Zone.the-variants.{NoZone}
 use Rattle.walk.specs.declared.Settings.{Settings}
 use Rattle.walk.specs.declared.Sorting.{Sorting}
 use Rattle.walk.specs.declared.Sorting.the-variants.{BreadthFirst, ByCommitTime, ByCommitTimeCutoff}
@@ -15,8 +16,11 @@ use Rattle.walk.specs.declared.CommitTimeOrder.the-variants.{NewestFirst, Oldes
 use Rattle.walk.specs.declared.Parents.{Parents}
 use Rattle.walk.specs.declared.Parents.the-variants.{All, First}
 use Rattle.walk.specs.declared.OpenAnswer.{OpenAnswer}
+use Rattle.walk.specs.declared.MaybeLevel.{MaybeLevel}
+use Rattle.walk.specs.declared.MaybeSeconds.the-variants.{NoTime}
+use Rattle.walk.specs.declared.Outcome.the-variants.{Commit}
 use Rattle.walk.specs.Given.{Given, outcomeNumber, openNumber, secondsValue, zoneValue}
-use Rattle.object.specs.Ids.{idIn}
+use Rattle.object.specs.Ids.{idIn, padded}
 use Rattle.wire.specs.Words.{kindOf, openWords, answerWords}
 
 -- ---- settings
@@ -50,3 +54,13 @@ pub record PutsAnswer (w : ℕ) (a : Given) (id id′ numbers numbers′ : List 
   pub id-is : id′ ≡ setDown id 0 (idIn w (a .info .id))
   pub numbers-are : numbers′ ≡ setDown numbers 0 (answerWords a)
   pub seconds-are : seconds′ ≡ set (set seconds 0 (secondsValue (a .info .time))) 1 (zoneValue (a .info .zone))
+
+-- the answer of a commit x from its row, in an order that is not by time: no seconds and no zone are read
+abbrev pub rowGiven : Id → ℕ → MaybeLevel → ℕ → ℕ → ℕ → Given
+rowGiven x parents g admitted struck waiting = record {
+  outcome = Commit;
+  info = record { id = padded x; parents = parents; generation = g; time = NoTime; zone = NoZone };
+  admitted = admitted;
+  struck = struck;
+  waiting = waiting;
+}

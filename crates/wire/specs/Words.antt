@@ -22,7 +22,9 @@ use Rattle.walk.specs.Refusals.{numberOf}
 use Rattle.walk.specs.Given.{Given, levelValue}
 use Rattle.state.specs.declared.Fixed.{Fixed}
 use Rattle.state.specs.declared.Record.{Record}
+use Rattle.state.specs.declared.Waiting.{Waiting}
 use Rattle.state.specs.Reads.{closedRecord}
+use Rattle.state.specs.Shapes.{waitingIn}
 
 abbrev pub bitOf : Bool → ℕ
 bitOf true = 1
@@ -107,6 +109,12 @@ wordsAfter n r words = cond (eqb n (numberOf Closed)) words (setDown words 0 (wo
 pub record PutsRecord (n : ℕ) (r : Record) (words words′ : List ℕ) : Type 0 where
   pub is : words′ ≡ wordsAfter n r words
   pub back : eqb n (numberOf Closed) ≡ false → recordWords ≤ length words → recordOf words′ ≡ r
+
+-- put_waiting: what waits in the record is w, and nothing else is another. Words that are those of their record are then those of the new one; and any words,
+-- where there is room, read as it
+pub record PutsWaiting (w : Waiting) (words words′ : List ℕ) : Type 0 where
+  pub is : setDown words 0 (wordsOf (recordOf words)) ≡ words → words′ ≡ setDown words 0 (wordsOf (waitingIn (recordOf words) w))
+  pub back : recordWords ≤ length words → recordOf words′ ≡ waitingIn (recordOf words) w
 
 -- ---- answers
 

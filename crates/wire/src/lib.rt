@@ -7,6 +7,7 @@ use hash::Kind;
 use revwalk::queue::Queue;
 use state::Fixed;
 use state::Record;
+use state::Waiting;
 use walk::Answer;
 use walk::CommitTimeOrder;
 use walk::MaybeLevel;
@@ -18,13 +19,14 @@ use walk::Parents;
 use walk::Settings;
 use walk::Sorting;
 ghost use mathlib.Core.Path.{_≡_};
-ghost use Prim.Native.Nat.{_%_};
-ghost use lib.ListN.{getD, set};
+ghost use Prim.Native.Nat.{_%_, _≤_};
+ghost use mathlib.Core.Bool.{true};
+ghost use lib.ListN.{getD, set, length};
 ghost use lib.Dec.{eqb};
 ghost use Rattle.hash.specs.Bytes.{widthOf, setDown};
 ghost use Rattle.walk.specs.Given.{outcomeNumber, openNumber, levelValue, secondsValue, zoneValue};
-ghost use Rattle.wire.specs.Words.{kindOf, widthWord, bitOf, wordsOf, recordOf, queueOf, fixedIn, Encodes, PutsRecord, answerWords, hasLevel, hasSeconds, hasZone, roomToOpen, roomToCall};
-ghost use Rattle.wire.specs.Numbers.{timeOrder, sortingOf, parentsOf, settingsOf, PutsOpenAnswer, PutsAnswer};
+ghost use Rattle.wire.specs.Words.{kindOf, widthWord, bitOf, wordsOf, recordOf, recordWords, queueOf, fixedIn, Encodes, PutsRecord, PutsWaiting, answerWords, hasLevel, hasSeconds, hasZone, roomToOpen, roomToCall};
+ghost use Rattle.wire.specs.Numbers.{timeOrder, sortingOf, parentsOf, settingsOf, PutsOpenAnswer, PutsAnswer, rowGiven};
 
 // How many words a record has.
 const RECORD_WORDS: usize = 20;
@@ -109,13 +111,13 @@ fn word(words: &[u64], k: usize) -> u64
 }
 
 // Whether the word at a place is 1.
-fn flag(words: &[u64], k: usize) -> bool
+pub fn flag(words: &[u64], k: usize) -> bool
     ensures { λ r. ⌜ r ≡ eqb (getD (now (words .entry)) k 0) 1 ⌝ }
 {
     word(words, k) == 1
 }
 
-fn count(words: &[u64], k: usize) -> usize
+pub fn count(words: &[u64], k: usize) -> usize
     ensures { λ r. ⌜ r ≡ getD (now (words .entry)) k 0 ⌝ }
 {
     size(word(words, k))
@@ -201,7 +203,7 @@ pub fn put_record(n: u32, r: Record, words: &mut [u64])
     }
 }
 
-fn queue_of(words: &[u64]) -> Queue
+pub fn queue_of(words: &[u64]) -> Queue
     ensures { λ q. ⌜ q ≡ queueOf (now (words .entry)) ⌝ }
 {
     Queue {
@@ -214,7 +216,7 @@ fn queue_of(words: &[u64]) -> Queue
     }
 }
 
-fn fixed_in(words: &[u64]) -> Fixed
+pub fn fixed_in(words: &[u64]) -> Fixed
     ensures { λ f. ⌜ f ≡ fixedIn (now (words .entry)) ⌝ }
 {
     Fixed {
@@ -245,6 +247,58 @@ pub fn decode(words: &[u64]) -> Record
         admitted: count(words, 10),
         struck: count(words, 11),
     }
+}
+
+// The bits of either word: no smaller than each, so that a test of the one number tests both.
+fn either(x: u64, y: u64) -> u64
+    ensures { λ r. ⌜ (x ≤ r) × (y ≤ r) ⌝ }
+{
+    x | y
+}
+
+// 1 where a word is over the most that it may be, else 0.
+fn over(x: u64, most: u64) -> u64
+    ensures { λ r. ⌜ (r ≤ 1) × (r ≡ 0 → x ≤ most) ⌝ }
+{
+    if most < x { 1 } else { 0 }
+}
+
+// 1 where a word is no kind's, else 0: of what reads as SHA-1, 0 alone is its word.
+fn no_kind(x: u64) -> u64
+    ensures { λ r. ⌜ (r ≤ 1) × (r ≡ 0 → widthWord (kindOf (x % 4294967296)) ≡ x) ⌝ }
+{
+    if x == 32 { 0 } else { over(x, 0) }
+}
+
+// Whether words are those that their record has: a yes or no is 0 or 1, and what counts only in part is no larger than its part. The tests
+// are put together, so that they cost one branch.
+pub fn is_plain(words: &[u64]) -> bool
+    ensures { λ a. ⌜ (a ≡ true → (recordWords ≤ length (now (words .entry))) × (setDown (now (words .entry)) 0 (wordsOf (recordOf (now (words .entry)))) ≡ now (words .entry))) ⌝ }
+{
+    if words.len() < RECORD_WORDS {
+        return false;
+    }
+    let state = either(either(words[0], words[1]), either(words[2], words[3]));
+    let bits = either(state, either(either(words[4], words[5]), words[18]));
+    let numbers = either(over(words[9], 4294967295), no_kind(words[19]));
+    either(over(bits, 1), numbers) == 0
+}
+
+// What waits, set down in the words of its record where they stand: the words beside it are not written again.
+pub fn put_waiting(words: &mut [u64], w: Waiting)
+    ensures { λ r. ⌜ PutsWaiting w (now (words .entry)) (now (words .exit)) ⌝ }
+{
+    if words.len() < RECORD_WORDS {
+        return;
+    }
+    let q = w.queue;
+    words[4] = bit(q.timed);
+    words[5] = bit(q.newest);
+    words[6] = long(q.cap);
+    words[7] = long(q.head);
+    words[8] = long(q.count);
+    words[9] = long32(q.next);
+    words[10] = long(w.admitted);
 }
 
 // A time order, with a cutoff or without.
@@ -447,4 +501,36 @@ pub fn put_answer(
     put_zone(zone_value(z), seconds);
     let o = a.outcome;
     call_number(o)
+}
+
+// The answer of a commit from its graph file's row, in an order that is not by time: it has no seconds and no zone, and no value of an
+// answer is made for it.
+pub fn put_row(
+    kind: Kind,
+    x: &[u8],
+    parents: usize,
+    g: MaybeLevel,
+    admitted: usize,
+    struck: usize,
+    waiting: usize,
+    id: &mut [u8],
+    numbers: &mut [u64],
+    seconds: &mut [i64],
+)
+    ensures { λ r. ⌜ (length (now (x .entry)) ≡ widthOf kind → PutsAnswer (widthOf kind) (rowGiven (now (x .entry)) parents g admitted struck waiting) (now (id .entry)) (now (id .exit)) (now (numbers .entry)) (now (numbers .exit)) (now (seconds .entry)) (now (seconds .exit)) 0) ⌝ }
+{
+    let w = [
+        long(admitted),
+        long(struck),
+        long(waiting),
+        long(parents),
+        has_level(g),
+        level_value(g),
+        0,
+        0,
+    ];
+    put(numbers, &w);
+    hash::set_down(id, 0, x);
+    put_seconds(0, seconds);
+    put_zone(0, seconds);
 }

@@ -18,10 +18,9 @@ fn place(cap: usize, head: usize, i: usize) -> usize
     if i < rest { head + i } else { i - rest }
 }
 
-// Queues a slot at the end.
-pub(super) fn push(q: Queue, line: &mut [u32], slot: u32) -> Queue
-    requires { ⌜ q .timed ≡ false ⌝ }
-    ensures { λ r. ⌜ ((times : List ℤ) → Pushes q times slot (now (line .entry)) (now (line .exit)) r) ⌝ }
+// Queues a slot at the end, in a queue that is not by time.
+pub fn push(q: Queue, line: &mut [u32], slot: u32) -> Queue
+    ensures { λ r. ⌜ (q .timed ≡ false → (times : List ℤ) → Pushes q times slot (now (line .entry)) (now (line .exit)) r) ⌝ }
 {
     let cap = q.cap;
     let head = q.head;
@@ -68,10 +67,9 @@ pub(super) fn put_front(q: Queue, line: &mut [u32], slot: u32) -> Queue
     grown
 }
 
-// Hands out the slot at head.
-pub(super) fn pop(q: Queue, line: &[u32]) -> Popped
-    requires { ⌜ q .timed ≡ false ⌝ }
-    ensures { λ r. ⌜ ((times : List ℤ) → Pops q times (now (line .entry)) (now (line .entry)) r) ⌝ }
+// Hands out the slot at head, in a queue that is not by time.
+pub fn pop(q: Queue, line: &[u32]) -> Popped
+    ensures { λ r. ⌜ (q .timed ≡ false → (times : List ℤ) → Pops q times (now (line .entry)) (now (line .entry)) r) ⌝ }
 {
     let cap = q.cap;
     let head = q.head;

@@ -14,8 +14,11 @@ pop-requires c κs = search needs
 same-length : tie.Need-same-length
 same-length c = search needs
 
+waiting-of-requires : tie.Need-waiting-of-requires
+waiting-of-requires c κs = search needs
+
 returns : tie.Need-returns
-returns c = pops-none (c .before .before .before .before .pop .ensures) (c .if1 .taken)
+returns c = pops-none (c .before .before .before .before .before .pop .ensures) (c .before .if1 .taken) (c .waiting-of .ensures)
 
 wide-requires : tie.Need-wide-requires
 wide-requires c κs = search needs
@@ -29,9 +32,6 @@ id-of-requires-2 c κs = search needs
 seconds-of-requires : tie.Need-seconds-of-requires
 seconds-of-requires c κs = search needs
 
-with-queue-requires : tie.Need-with-queue-requires
-with-queue-requires c κs = search needs
-
 same-length-2 : tie.Need-same-length-2
 same-length-2 c = search needs
 
@@ -41,22 +41,21 @@ returns-2 c =
     let w = i .before .before in
     let p = w .before .before .before .before .before in
     let x = p .before .before .before .before .args in
-    rw (c .with-queue .ensures)
-    (pops-some (p .pop .ensures) (w .before .if1 .left)
+    pops-some (p .pop .ensures) (w .before .if1 .left)
     (c .before .before .id-of2 .ensures ∙ ap padded (i .id-of .ensures ∙ ap (idOf (widthOf (x .r .fixed .kind)) (x .names .now)) (w .wide .ensures)))
-    (c .before .seconds-of .ensures))
+    (c .before .seconds-of .ensures)
 
 pub pop-spec : {M : Type 1} → statement M
 pop-spec =
     tie.close
     (tie.spec
     pop-requires
+    waiting-of-requires
     same-length
     returns
     wide-requires
     id-of-requires
     id-of-requires-2
     seconds-of-requires
-    with-queue-requires
     same-length-2
     returns-2)

@@ -1,6 +1,6 @@
 -- `bodyvisit::body::visit_body` meets its contract: the parents whose ids were set down are visited. Assumes nothing.
 use mathlib.Core.Path.{sym}
-use Rattle.bodyvisit.proofs.Bodies.{body-visited, body-to}
+use Rattle.bodyvisit.proofs.Bodies.{body-visited}
 use borrow.Author.Needs.{needs}
 use Rattle.bodyvisit.proofs.body.visit_body.Statement.{statement}
 use Rattle.bodyvisit.proofs.body.visit_body.Tie as tie
@@ -13,9 +13,6 @@ read-body-requires c κs = search needs
 
 visit-parents-requires : tie.Need-visit-parents-requires
 visit-parents-requires c κs = search needs
-
-with-waiting-requires : tie.Need-with-waiting-requires
-with-waiting-requires c κs = search needs
 
 same-length : tie.Need-same-length
 same-length c = search needs
@@ -33,10 +30,10 @@ same-length-5 : tie.Need-same-length-5
 same-length-5 c = search needs
 
 same-length-6 : tie.Need-same-length-6
-same-length-6 c = c .before .before .before .before .before .before .before .before .before .before .before .before .before .before .before .before .before .before .before .read-body .kept .1 .1 .1 .0
+same-length-6 c = c .before .before .before .before .before .before .before .before .before .before .before .before .before .before .before .before .before .before .read-body .kept .1 .1 .1 .0
 
 returns : tie.Need-returns
-returns c = body-visited (sym (c .before .before .before .before .before .before .before .before .before .before .before .before .before .before .before .before .before .before .before .before .before .only-first .ensures)) (c .before .before .before .before .before .before .before .before .before .before .before .before .before .before .before .before .before .before .before .read-body .kept .1 .1 .1 .0) (c .before .before .before .before .before .before .before .before .before .before .before .before .before .before .before .before .before .before .before .read-body .ensures) (body-to (c .with-waiting .ensures) (c .before .before .before .before .before .before .before .before .before .before .visit-parents .ensures))
+returns c = body-visited (sym (c .before .before .before .before .before .before .before .before .before .before .before .before .before .before .before .before .before .before .before .before .only-first .ensures)) (c .before .before .before .before .before .before .before .before .before .before .before .before .before .before .before .before .before .before .read-body .kept .1 .1 .1 .0) (c .before .before .before .before .before .before .before .before .before .before .before .before .before .before .before .before .before .before .read-body .ensures) (c .before .before .before .before .before .before .before .before .before .visit-parents .ensures)
 
 pub visit-body-spec : {M : Type 1} → statement M
 visit-body-spec =
@@ -45,7 +42,6 @@ visit-body-spec =
     only-first-requires
     read-body-requires
     visit-parents-requires
-    with-waiting-requires
     same-length
     same-length-2
     same-length-3

@@ -7,27 +7,24 @@ use native.Mathlib.Omega.{arith}
 use Rattle.state.specs.Shapes.{waitingIn}
 use Rattle.state.specs.Steps.{mem}
 use Rattle.links.proofs.Visits.{Sizes}
-use Rattle.bodyvisit.proofs.Bodies.{BodyRun, body-from, body-next, body-done}
+use Rattle.bodyvisit.proofs.Bodies.{BodyRun, body-start, body-next, body-done}
 use Rattle.bodyvisit.proofs.body.visit_parents.Statement.{statement}
 use Rattle.bodyvisit.proofs.body.visit_parents.Tie as tie
 
 abbrev Inv-loop : tie.InvT-loop
-Inv-loop r store body n names₀ marks₀ levels₀ times₀ line₀ parents excluded settings at₀ k₀ names marks levels times line at k = Sizes (mem names₀ marks₀ times₀ line₀) (mem names marks times line) × (length levels ≡ length levels₀) × BodyRun excluded settings store body parents n k r (mem names₀ marks₀ times₀ line₀) (mem names marks times line) (waitingIn r at)
+Inv-loop r store body n names₀ marks₀ levels₀ times₀ line₀ parents excluded settings at₀ k₀ names marks levels times line at k = Sizes (mem names₀ marks₀ times₀ line₀) (mem names marks times line) × (length levels ≡ length levels₀) × BodyRun excluded settings store body parents n k (waitingIn r at₀) (mem names₀ marks₀ times₀ line₀) (mem names marks times line) (waitingIn r at)
 
 abbrev μ-loop : tie.MeasureT-loop
 μ-loop r store body n names₀ marks₀ levels₀ times₀ line₀ parents excluded settings at₀ k₀ names marks levels times line at k = n - k
 
 loop-holds : tie.Need-loop-holds Inv-loop μ-loop
-loop-holds c = (record { for-names = refl; for-marks = refl; for-times = refl; for-line = refl }, refl, body-from (c .waiting-of .ensures))
-
-waiting-of-requires : tie.Need-waiting-of-requires Inv-loop μ-loop
-waiting-of-requires c κs = search needs
+loop-holds c = (record { for-names = refl; for-marks = refl; for-times = refl; for-line = refl }, refl, body-start)
 
 visit-body-parent-requires : tie.Need-visit-body-parent-requires Inv-loop μ-loop
 visit-body-parent-requires c κs = search needs
 
 add-k : tie.Need-add-k Inv-loop μ-loop
-add-k c = omega (arith, c .before .before .before .before .before .before .before .before .before .before .before .before .before .before .before .loop-test .taken, c .before .before .before .before .before .before .before .before .before .before .before .before .before .before .before .before .before .before .before .before .before .before .before .before .before .before .fits .n)
+add-k c = omega (arith, c .before .before .before .before .before .before .before .before .before .before .before .before .before .before .before .loop-test .taken, c .before .before .before .before .before .before .before .before .before .before .before .before .before .before .before .before .before .before .before .before .before .before .before .before .before .fits .n)
 
 loop-less : tie.Need-loop-less Inv-loop μ-loop
 loop-less c = omega (arith, c .before .before .before .before .before .before .before .before .before .before .before .before .before .before .before .loop-test .taken)
@@ -59,7 +56,6 @@ visit-parents-spec =
     (tie.spec
     Inv-loop
     μ-loop
-    waiting-of-requires
     loop-holds
     visit-body-parent-requires
     add-k

@@ -19,7 +19,7 @@ same-length-2 : tie.Need-same-length-2
 same-length-2 c = search needs
 
 returns-2 : tie.Need-returns-2
-returns-2 c = c .pop2 .ensures (c .before .before .before .before .args .times .now)
+returns-2 c = c .pop2 .ensures (c .before .before .if1 .left) (c .before .before .before .before .args .times .now)
 
 pub pop-spec : {M : Type 1} → statement M
 pop-spec =

@@ -3,7 +3,7 @@
 use mathlib.Core.Path.{_∙_}
 use borrow.Author.Needs.{needs}
 use Rattle.rowvisit.proofs.Plain.{numbers-read, third-read}
-use Rattle.rowvisit.proofs.Rows.{judged-good, judged-corrupt, row-to}
+use Rattle.rowvisit.proofs.Rows.{judged-good, judged-corrupt}
 use Rattle.rowvisit.proofs.row.visit_cached.Statement.{statement}
 use Rattle.rowvisit.proofs.row.visit_cached.Tie as tie
 
@@ -41,10 +41,7 @@ look-ahead-requires : tie.Need-look-ahead-requires
 look-ahead-requires c κs = search needs
 
 visit-row-requires : tie.Need-visit-row-requires
-visit-row-requires c κs = numbers-read (c .before .before .before .before .before .before .before .before .before .before .before .before .before .before .before .before .before .before .before .before .before .width .ensures .0) (c .before .before .before .before .before .before .before .before .before .before .before .before .before .before .before .before .before .before .before .before .before .before .row .ensures) (c .before .before .before .before .before .before .before .before .before .before .before .before .before .before .before .before .before .before .before .before .be32 .ensures) (c .before .before .before .before .before .before .before .before .before .before .before .before .before .before .before .before .before .before .before .be322 .ensures)
-
-with-waiting-requires : tie.Need-with-waiting-requires
-with-waiting-requires c κs = search needs
+visit-row-requires c κs = numbers-read (c .before .before .before .before .before .before .before .before .before .before .before .before .before .before .before .before .before .before .before .before .width .ensures .0) (c .before .before .before .before .before .before .before .before .before .before .before .before .before .before .before .before .before .before .before .before .before .row .ensures) (c .before .before .before .before .before .before .before .before .before .before .before .before .before .before .before .before .before .before .before .be32 .ensures) (c .before .before .before .before .before .before .before .before .before .before .before .before .before .before .before .before .before .before .be322 .ensures)
 
 enum-told : tie.Need-enum-told
 enum-told c = search needs
@@ -56,7 +53,7 @@ same-length-2 : tie.Need-same-length-2
 same-length-2 c = search needs
 
 same-length-3 : tie.Need-same-length-3
-same-length-3 c = c .before .before .before .before .before .before .before .before .before .before .before .before .visit-row .kept .1 .1 .1 .1 .1 .1 .1 .1 .1 .0 ∙ c .before .before .before .before .before .before .before .before .before .before .before .before .before .before .before .before .before .before .before .before .before .look-ahead .kept .1 .1 .1 .1 .1 .1 .1 .0
+same-length-3 c = c .before .before .before .before .before .before .before .before .before .before .before .visit-row .kept .1 .1 .1 .1 .1 .1 .1 .1 .1 .1 .0 ∙ c .before .before .before .before .before .before .before .before .before .before .before .before .before .before .before .before .before .before .before .before .look-ahead .kept .1 .1 .1 .1 .1 .1 .1 .0
 
 same-length-4 : tie.Need-same-length-4
 same-length-4 c = search needs
@@ -68,7 +65,7 @@ same-length-6 : tie.Need-same-length-6
 same-length-6 c = search needs
 
 returns : tie.Need-returns
-returns c = judged-good (c .before .before .before .before .before .before .before .before .before .before .before .before .before .before .before .before .before .before .before .before .before .before .before .before .before .before .before .before .before .before .collect-parents .ensures) (c .before .before .before .before .before .before .before .before .before .before .before .before .before .before .before .before .before .before .before .before .before .before .before .before .before .before .before .before .count .given .1) (c .before .before .before .before .before .before .before .before .before .before .before .before .before .before .before .before .before .before .before .before .before .before .before .before .before .before .followed-count .ensures) (row-to (c .with-waiting .ensures) (c .before .before .before .before .before .before .before .before .before .before .before .before .visit-row .ensures))
+returns c = judged-good (c .before .before .before .before .before .before .before .before .before .before .before .before .before .before .before .before .before .before .before .before .before .before .before .before .before .before .before .before .collect-parents .ensures) (c .before .before .before .before .before .before .before .before .before .before .before .before .before .before .before .before .before .before .before .before .before .before .before .before .before .before .count .given .1) (c .before .before .before .before .before .before .before .before .before .before .before .before .before .before .before .before .before .before .before .before .before .before .before .before .followed-count .ensures) (c .before .before .before .before .before .before .before .before .before .before .before .visit-row .ensures)
 
 -- nothing is set down or admitted before the list is found good: where it is corrupt, every lent byte is as it was
 returns-2 : tie.Need-returns-2
@@ -90,7 +87,6 @@ visit-cached-spec =
     followed-count-requires
     look-ahead-requires
     visit-row-requires
-    with-waiting-requires
     enum-told
     same-length
     same-length-2

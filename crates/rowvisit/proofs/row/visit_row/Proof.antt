@@ -1,7 +1,7 @@
 -- `rowvisit::row::visit_row` meets its contract: the invariant is its own contract for the parents so far. Assumes nothing.
 use borrow.Author.Needs.{needs}
 use Rattle.links.proofs.Visits.{Lengths}
-use Rattle.rowvisit.proofs.Rows.{RowRun, row-from, row-next, row-done}
+use Rattle.rowvisit.proofs.Rows.{RowRun, row-start, row-next, row-done}
 use mathlib.Core.Path.{_≡_, refl, _∙_}
 use Prim.Native.Nat.{_-_, _≤_}
 use native.Mathlib.Omega.{arith}
@@ -12,22 +12,19 @@ use Rattle.rowvisit.proofs.row.visit_row.Statement.{statement}
 use Rattle.rowvisit.proofs.row.visit_row.Tie as tie
 
 abbrev Inv-loop : tie.InvT-loop
-Inv-loop r graph l position first second n names₀ marks₀ levels₀ times₀ line₀ parents₀ excluded settings at₀ k₀ names marks levels times line parents at k = (k ≤ n) × (length levels ≡ length levels₀) × Lengths names₀ marks₀ times₀ line₀ parents₀ names marks times line parents × RowRun excluded settings graph l position k r (mem names₀ marks₀ times₀ line₀) (mem names marks times line) parents₀ parents (waitingIn r at)
+Inv-loop r graph l position first second n names₀ marks₀ levels₀ times₀ line₀ parents₀ excluded settings at₀ k₀ names marks levels times line parents at k = (k ≤ n) × (length levels ≡ length levels₀) × Lengths names₀ marks₀ times₀ line₀ parents₀ names marks times line parents × RowRun excluded settings graph l position k (waitingIn r at₀) (mem names₀ marks₀ times₀ line₀) (mem names marks times line) parents₀ parents (waitingIn r at)
 
 abbrev μ-loop : tie.MeasureT-loop
 μ-loop r graph l position first second n names₀ marks₀ levels₀ times₀ line₀ parents₀ excluded settings at₀ k₀ names marks levels times line parents at k = n - k
 
 loop-holds : tie.Need-loop-holds Inv-loop μ-loop
-loop-holds c = (search needs, refl, record { for-names = refl; for-marks = refl; for-times = refl; for-line = refl; for-parents = refl }, row-from (c .waiting-of .ensures))
-
-waiting-of-requires : tie.Need-waiting-of-requires Inv-loop μ-loop
-waiting-of-requires c κs = search needs
+loop-holds c = (search needs, refl, record { for-names = refl; for-marks = refl; for-times = refl; for-line = refl; for-parents = refl }, row-start)
 
 visit-row-parent-requires : tie.Need-visit-row-parent-requires Inv-loop μ-loop
 visit-row-parent-requires c κs = search needs
 
 add-k : tie.Need-add-k Inv-loop μ-loop
-add-k c = omega (arith, c .before .before .before .before .before .before .before .before .before .before .before .before .before .before .before .before .before .before .loop-test .taken, c .before .before .before .before .before .before .before .before .before .before .before .before .before .before .before .before .before .before .before .before .before .before .before .before .before .before .before .before .fits .n)
+add-k c = omega (arith, c .before .before .before .before .before .before .before .before .before .before .before .before .before .before .before .before .before .before .loop-test .taken, c .before .before .before .before .before .before .before .before .before .before .before .before .before .before .before .before .before .before .before .before .before .before .before .before .before .before .before .fits .n)
 
 loop-less : tie.Need-loop-less Inv-loop μ-loop
 loop-less c = omega (arith, c .before .before .before .before .before .before .before .before .before .before .before .before .before .before .before .before .before .before .loop-test .taken)
@@ -70,7 +67,6 @@ visit-row-spec =
     (tie.spec
     Inv-loop
     μ-loop
-    waiting-of-requires
     loop-holds
     visit-row-parent-requires
     add-k

@@ -7,6 +7,7 @@ use Rattle.walk.specs.declared.Outcome.the-variants.{Commit}
 use Rattle.walk.specs.declared.MaybeLevel.the-variants.{NoGeneration}
 use Rattle.visit.specs.Taking.{gave, endGiven}
 use Rattle.object.specs.Ids.{idIn}
+use Rattle.state.specs.Shapes.{waitingIn}
 use Rattle.date.specs.declared.Zone.the-variants.{NoZone}
 use Rattle.visit.proofs.Past.{unreadable-not-whole, crowded-not-whole}
 use borrow.Author.Needs.{needs}
@@ -46,8 +47,8 @@ returns c =
       zone = z;
       right = λ g h e. c .before .zone-past .ensures g h;
       is = c .give .ensures
-          ∙ ap (λ (y : List ℕ). gave Commit y (a .seen .parents) NoGeneration (a .time) z (a .seen .after)) (c .before .before .id-given .ensures)
-          ∙ ap (λ (e : BodyEnd). endGiven e (idIn (widthOf (a .kind)) (a .id .bytes)) (a .seen .parents) (a .time) z (a .seen .after)) (sym (c .before .before .before .enum-told .given .1));
+          ∙ ap (λ (y : List ℕ). gave Commit y (a .seen .parents) NoGeneration (a .time) z (waitingIn (a .r) (a .seen .after))) (c .before .before .id-given .ensures)
+          ∙ ap (λ (e : BodyEnd). endGiven e (idIn (widthOf (a .kind)) (a .id .bytes)) (a .seen .parents) (a .time) z (waitingIn (a .r) (a .seen .after))) (sym (c .before .before .before .enum-told .given .1));
     }
 
 returns-2 : tie.Need-returns-2
@@ -57,7 +58,7 @@ returns-2 c =
     record {
       zone = NoZone;
       right = λ g h k. absurd (unreadable-not-whole (sym e ∙ k));
-      is = c .refuse .ensures ∙ ap (λ (e : BodyEnd). endGiven e (idIn (widthOf (a .kind)) (a .id .bytes)) (a .seen .parents) (a .time) NoZone (a .seen .after)) (sym e);
+      is = c .refuse .ensures ∙ ap (λ (e : BodyEnd). endGiven e (idIn (widthOf (a .kind)) (a .id .bytes)) (a .seen .parents) (a .time) NoZone (waitingIn (a .r) (a .seen .after))) (sym e);
     }
 
 returns-3 : tie.Need-returns-3
@@ -67,7 +68,7 @@ returns-3 c =
     record {
       zone = NoZone;
       right = λ g h k. absurd (crowded-not-whole (sym e ∙ k));
-      is = c .refuse2 .ensures ∙ ap (λ (e : BodyEnd). endGiven e (idIn (widthOf (a .kind)) (a .id .bytes)) (a .seen .parents) (a .time) NoZone (a .seen .after)) (sym e);
+      is = c .refuse2 .ensures ∙ ap (λ (e : BodyEnd). endGiven e (idIn (widthOf (a .kind)) (a .id .bytes)) (a .seen .parents) (a .time) NoZone (waitingIn (a .r) (a .seen .after))) (sym e);
     }
 
 pub end-body-spec : {M : Type 1} → statement M

@@ -3,6 +3,7 @@ use mathlib.Core.Path.{_∙_}
 use Rattle.links.proofs.Links.{not-true, not-false}
 use Rattle.visit.proofs.Past.{plain-end}
 use Rattle.visit.proofs.Takings.{next-none, next-cached, next-body, next-absent, plain-absent}
+use Rattle.state.specs.Shapes.{waitingIn}
 use borrow.Author.Needs.{needs}
 use Rattle.visit.proofs.next.next_by_topology_or_commit_date.Statement.{statement}
 use Rattle.visit.proofs.next.next_by_topology_or_commit_date.Tie as tie
@@ -25,26 +26,17 @@ same-length-3 c = search needs
 returns : tie.Need-returns
 returns c = rw (c .end-walk .ensures) (next-none (c .before .before .before .before .before .pop .ensures) (not-true (c .before .before .before .before .before .pop .result .found) (c .before .if1 .taken)), plain-end (c .before .before .before .before .before .before .before .before .before .before .before .before .before .before .before .before .before .args .r))
 
-cache-of-requires : tie.Need-cache-of-requires
-cache-of-requires c κs = search needs
+look-up-requires : tie.Need-look-up-requires
+look-up-requires c κs = search needs
 
-noted-requires : tie.Need-noted-requires
-noted-requires c κs = search needs
-
-id-slice-requires : tie.Need-id-slice-requires
-id-slice-requires c κs = search needs
-
-find-requires : tie.Need-find-requires
-find-requires c κs = search needs
-
-enum-known-at : tie.Need-enum-known-at
-enum-known-at c = search needs
+enum-known-position : tie.Need-enum-known-position
+enum-known-position c = search needs
 
 take-cached-requires : tie.Need-take-cached-requires
 take-cached-requires c κs = search needs
 
-enum-told : tie.Need-enum-told
-enum-told c = search needs
+enum-known-start : tie.Need-enum-known-start
+enum-known-start c = search needs
 
 part-of-store-requires : tie.Need-part-of-store-requires
 part-of-store-requires c κs = search needs
@@ -52,8 +44,8 @@ part-of-store-requires c κs = search needs
 take-body-requires : tie.Need-take-body-requires
 take-body-requires c κs = search needs
 
-enum-told-2 : tie.Need-enum-told-2
-enum-told-2 c = search needs
+enum-told : tie.Need-enum-told
+enum-told c = search needs
 
 refuse-requires : tie.Need-refuse-requires
 refuse-requires c κs = search needs
@@ -71,13 +63,13 @@ same-length-7 : tie.Need-same-length-7
 same-length-7 c = search needs
 
 same-length-8 : tie.Need-same-length-8
-same-length-8 c = c .before .before .before .before .before .before .before .before .before .before .before .take-cached .kept .1 .1 .1 .1 .1 .1 .1 .1 .1 .0 ∙ c .before .before .before .before .before .before .before .before .before .before .before .before .before .before .before .before .before .before .before .before .before .before .before .before .before .before .before .before .before .before .before .before .before .before .before .pop .kept .1 .1 .1 .0
+same-length-8 c = c .before .before .before .before .before .before .before .before .before .before .before .take-cached .kept .1 .1 .1 .1 .1 .1 .1 .1 .1 .1 .0 ∙ c .before .before .before .before .before .before .before .before .before .before .before .before .before .before .before .before .before .before .before .before .before .before .before .before .before .before .before .before .pop .kept .1 .1 .1 .0
 
 same-length-9 : tie.Need-same-length-9
 same-length-9 c = search needs
 
 returns-2 : tie.Need-returns-2
-returns-2 c = let k = c .before .before .before .before .before .before .before .before .before .before .before .before .before .before .before .before .before .before .before .at .given in (next-cached (c .before .before .before .before .before .before .before .before .before .before .before .before .before .before .before .before .before .before .before .before .before .before .before .before .before .before .before .before .before .before .before .before .before .before .before .pop .ensures) (not-false (c .before .before .before .before .before .before .before .before .before .before .before .before .before .before .before .before .before .before .before .before .before .before .before .before .before .before .before .before .before .before .before .before .before .before .before .pop .result .found) (c .before .before .before .before .before .before .before .before .before .before .before .before .before .before .before .before .before .before .before .before .before .before .before .before .before .before .before .before .before .before .before .if1 .left)) (rw (c .before .before .before .before .before .before .before .before .before .before .before .before .before .before .before .before .before .before .before .before .before .before .before .before .before .before .before .before .cache-of .ensures) at (rw (c .before .before .before .before .before .before .before .before .before .before .before .before .before .before .before .before .before .before .before .before .before .before .id-slice .ensures) at (c .before .before .before .before .before .before .before .before .before .before .before .before .before .before .before .before .before .before .before .before .before .find .ensures))) (k .0 .0) (k .0 .1 .0) (k .0 .1 .1 .0) (k .1) (c .before .before .before .before .before .before .before .before .before .before .before .take-cached .ensures), c .before .before .before .before .before .before .before .before .before .before .before .take-cached .ensures .plain)
+returns-2 c = let k = c .before .before .before .before .before .before .before .before .before .before .before .before .before .before .before .before .before .before .before .position .given in (next-cached (c .before .before .before .before .before .before .before .before .before .before .before .before .before .before .before .before .before .before .before .before .before .before .before .before .before .before .before .before .pop .ensures) (not-false (c .before .before .before .before .before .before .before .before .before .before .before .before .before .before .before .before .before .before .before .before .before .before .before .before .before .before .before .before .pop .result .found) (c .before .before .before .before .before .before .before .before .before .before .before .before .before .before .before .before .before .before .before .before .before .before .before .before .if1 .left)) (c .before .before .before .before .before .before .before .before .before .before .before .before .before .before .before .before .before .before .before .before .before .look-up .ensures) (k .0 .0) (k .0 .1 .0) (k .0 .1 .1 .0) (k .1) (c .before .before .before .before .before .before .before .before .before .before .before .take-cached .ensures), c .before .before .before .before .before .before .before .before .before .before .before .take-cached .ensures .plain)
 
 same-length-10 : tie.Need-same-length-10
 same-length-10 c = search needs
@@ -92,13 +84,13 @@ same-length-13 : tie.Need-same-length-13
 same-length-13 c = search needs
 
 same-length-14 : tie.Need-same-length-14
-same-length-14 c = c .before .before .before .before .before .before .before .before .before .before .before .take-body .kept .1 .1 .1 .1 .1 .1 .1 .1 .1 .0 ∙ c .before .before .before .before .before .before .before .before .before .before .before .before .before .before .before .before .before .before .before .before .before .before .before .before .before .before .before .before .before .before .before .before .before .before .before .pop .kept .1 .1 .1 .0
+same-length-14 c = c .before .before .before .before .before .before .before .before .before .before .before .take-body .kept .1 .1 .1 .1 .1 .1 .1 .1 .0 ∙ c .before .before .before .before .before .before .before .before .before .before .before .before .before .before .before .before .before .before .before .before .before .before .before .before .before .before .before .before .before .pop .kept .1 .1 .1 .0
 
 same-length-15 : tie.Need-same-length-15
 same-length-15 c = search needs
 
 returns-3 : tie.Need-returns-3
-returns-3 c = let k = c .before .before .before .before .before .before .before .before .before .before .before .before .before .before .before .before .before .before .before .enum-told .given in (next-body (c .before .before .before .before .before .before .before .before .before .before .before .before .before .before .before .before .before .before .before .before .before .before .before .before .before .before .before .before .before .before .before .before .before .before .before .pop .ensures) (not-false (c .before .before .before .before .before .before .before .before .before .before .before .before .before .before .before .before .before .before .before .before .before .before .before .before .before .before .before .before .before .before .before .before .before .before .before .pop .result .found) (c .before .before .before .before .before .before .before .before .before .before .before .before .before .before .before .before .before .before .before .before .before .before .before .before .before .before .before .before .before .before .before .if1 .left)) (rw (c .before .before .before .before .before .before .before .before .before .before .before .before .before .before .before .before .before .before .before .before .before .before .before .before .before .before .before .before .cache-of .ensures) at (rw (c .before .before .before .before .before .before .before .before .before .before .before .before .before .before .before .before .before .before .before .before .before .before .id-slice .ensures) at (c .before .before .before .before .before .before .before .before .before .before .before .before .before .before .before .before .before .before .before .before .before .find .ensures))) (k .0 .0) (k .0 .1 .0) (k .1) (c .before .before .before .before .before .before .before .before .before .before .before .before .before .before .before .before .before .before .part-of-store .ensures) (c .before .before .before .before .before .before .before .before .before .before .before .take-body .ensures), c .before .before .before .before .before .before .before .before .before .before .before .take-body .ensures .plain)
+returns-3 c = let k = c .before .before .before .before .before .before .before .before .before .before .before .before .before .before .before .before .before .before .before .before .start .given in (next-body (c .before .before .before .before .before .before .before .before .before .before .before .before .before .before .before .before .before .before .before .before .before .before .before .before .before .before .before .before .before .pop .ensures) (not-false (c .before .before .before .before .before .before .before .before .before .before .before .before .before .before .before .before .before .before .before .before .before .before .before .before .before .before .before .before .before .pop .result .found) (c .before .before .before .before .before .before .before .before .before .before .before .before .before .before .before .before .before .before .before .before .before .before .before .before .before .if1 .left)) (c .before .before .before .before .before .before .before .before .before .before .before .before .before .before .before .before .before .before .before .before .before .before .look-up .ensures) (k .0 .0) (k .0 .1 .0) (k .1) (c .before .before .before .before .before .before .before .before .before .before .before .before .before .before .before .before .before .before .part-of-store .ensures) (c .before .before .before .before .before .before .before .before .before .before .before .take-body .ensures), c .before .before .before .before .before .before .before .before .before .before .before .take-body .ensures .plain)
 
 same-length-16 : tie.Need-same-length-16
 same-length-16 c = search needs
@@ -110,10 +102,10 @@ same-length-18 : tie.Need-same-length-18
 same-length-18 c = search needs
 
 same-length-19 : tie.Need-same-length-19
-same-length-19 c = c .before .before .before .before .before .before .before .before .before .before .before .before .before .before .before .before .before .pop .kept .1 .1 .1 .0
+same-length-19 c = c .before .before .before .before .before .before .before .before .before .before .pop .kept .1 .1 .1 .0
 
 returns-4 : tie.Need-returns-4
-returns-4 c = rw (c .refuse .ensures) (next-absent (c .before .before .before .before .before .before .before .before .before .before .before .before .before .before .before .before .before .pop .ensures) (not-false (c .before .before .before .before .before .before .before .before .before .before .before .before .before .before .before .before .before .pop .result .found) (c .before .before .before .before .before .before .before .before .before .before .before .before .before .if1 .left)) (rw (c .before .before .before .before .before .before .before .before .before .before .cache-of .ensures) at (rw (c .before .before .before .before .id-slice .ensures) at (c .before .before .before .find .ensures))) (c .before .enum-told2 .given .1), plain-absent (c .before .before .before .before .before .before .before .before .before .before .before .before .before .before .before .before .before .pop .result .rest))
+returns-4 c = rw (c .refuse .ensures) (next-absent (c .before .before .before .before .before .before .before .before .before .before .pop .ensures) (not-false (c .before .before .before .before .before .before .before .before .before .before .pop .result .found) (c .before .before .before .before .before .before .if1 .left)) (c .before .before .before .look-up .ensures) (c .before .enum-told .given .1), plain-absent (waitingIn (c .before .before .before .before .before .before .before .before .before .before .before .before .before .before .before .before .before .before .before .before .before .before .args .r) (c .before .before .before .before .before .before .before .before .before .before .pop .result .rest)))
 
 pub next-by-topology-or-commit-date-spec : {M : Type 1} → statement M
 next-by-topology-or-commit-date-spec =
@@ -125,16 +117,13 @@ next-by-topology-or-commit-date-spec =
     same-length-2
     same-length-3
     returns
-    cache-of-requires
-    noted-requires
-    id-slice-requires
-    find-requires
-    enum-known-at
+    look-up-requires
+    enum-known-position
     take-cached-requires
-    enum-told
+    enum-known-start
     part-of-store-requires
     take-body-requires
-    enum-told-2
+    enum-told
     refuse-requires
     same-length-4
     same-length-5

@@ -36,11 +36,11 @@ same-length-6 : tie.Need-same-length-6
 same-length-6 c = search needs
 
 -- an id by value has 32 bytes
-room : (c : tie.Start) → length (c .args .id .bytes) ≡ idRoom
+room : (c : tie.Start) → length (c .args .first .id .bytes) ≡ idRoom
 room c = search needs
 
 returns : tie.Need-returns
-returns c = let x = c .before .before .before .before .before .before .before .before .before .before .before .before .before .before .before .before .before .before .before .before .before .before .before .before .before .before .before .before .before .args in takes-body _ (c .before .before .before .before .before .before .before .before .before .before .before .before .before .visit-body .ensures) (rw (c .before .time-given .ensures) at (c .end-body .ensures)) (id-in-kind (x .settings .kind) (x .id .bytes) (room (c .before .before .before .before .before .before .before .before .before .before .before .before .before .before .before .before .before .before .before .before .before .before .before .before .before .before .before .before .before)))
+returns c = let x = c .before .before .before .before .before .before .before .before .before .before .before .before .before .before .before .before .before .before .before .before .before .before .before .before .before .before .before .before .before .before .args in takes-body _ (c .before .before .before .before .before .before .before .before .before .before .before .before .before .visit-body .ensures) (rw (c .before .time-given .ensures) at (c .end-body .ensures)) (id-in-kind (x .settings .kind) (x .first .id .bytes) (room (c .before .before .before .before .before .before .before .before .before .before .before .before .before .before .before .before .before .before .before .before .before .before .before .before .before .before .before .before .before .before)))
 
 pub take-body-spec : {M : Type 1} → statement M
 take-body-spec =

@@ -7,13 +7,13 @@ use Rattle.revwalk.proofs.queue.ring.pop.Statement.{statement}
 use Rattle.revwalk.proofs.queue.ring.pop.Tie as tie
 
 returns : tie.Need-returns
-returns c = λ times. pops-none (λ g. absurd (omega (arith, good-room g)))
+returns c = λ f times. pops-none (λ g. absurd (omega (arith, good-room g)))
 
 returns-2 : tie.Need-returns-2
-returns-2 c = λ times. pops-none (λ g. c .if2 .taken)
+returns-2 c = λ f times. pops-none (λ g. c .if2 .taken)
 
 returns-3 : tie.Need-returns-3
-returns-3 c = λ times. pops-none (λ g. let n = good-size g in let d = c .before .if2 .left in absurd (omega (arith, g .ring (c .before .before .before .before .pre) .start (omega arith))))
+returns-3 c = λ f times. pops-none (λ g. let n = good-size g in let d = c .before .if2 .left in absurd (omega (arith, g .ring f .start (omega arith))))
 
 place-requires : tie.Need-place-requires
 place-requires c κs = search needs
@@ -28,7 +28,7 @@ sub-rest : tie.Need-sub-rest
 sub-rest c = search needs
 
 returns-4 : tie.Need-returns-4
-returns-4 c = let s = c .before .before .before .before .before .before in λ times. pops (s .args .q) times (s .args .line .now) (s .pre) _ (c .before .before .before .if2 .left) (c .before .before .if3 .left) (c .before .place .ensures .0) (c .before .place .ensures .1)
+returns-4 c = let s = c .before .before .before .before .before .before in λ f times. pops (s .args .q) times (s .args .line .now) f _ (c .before .before .before .if2 .left) (c .before .before .if3 .left) (c .before .place .ensures .0) (c .before .place .ensures .1)
 
 pub pop-spec : {M : Type 1} → statement M
 pop-spec =
