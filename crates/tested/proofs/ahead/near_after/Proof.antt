@@ -22,10 +22,10 @@ add-slot-after : tie.Need-add-slot-after
 add-slot-after c = search needs
 
 slot-after-requires : tie.Need-slot-after-requires
-slot-after-requires c κs = search needs
+slot-after-requires c κs = tt
 
 hint-of-requires : tie.Need-hint-of-requires
-hint-of-requires c κs = search needs
+hint-of-requires c κs = tt
 
 returns-3 : tie.Need-returns-3
 returns-3 c = let x = c .before .before .before .before .before .args in c .hint-of .ensures ∙ ap (λ (s : ℕ). getD (x .line .now) (2 * s + 1) 0) (c .before .slot-after .ensures) ∙ ap (λ (t : Bool). cond t (getD (x .line .now) (2 * getD (x .line .now) (x .from + (x .k + x .d)) 0 + 1) 0) (x .other)) (sym (lt-ltb (x .k + x .d) (x .n) (omega arith)))

@@ -24,10 +24,10 @@ add-slot-after : tie.Need-add-slot-after
 add-slot-after c = search needs
 
 slot-after-requires : tie.Need-slot-after-requires
-slot-after-requires c κs = search needs
+slot-after-requires c κs = tt
 
 slot-words-requires : tie.Need-slot-words-requires
-slot-words-requires c κs = search needs
+slot-words-requires c κs = tt
 
 returns-3 : tie.Need-returns-3
 returns-3 c = let x = c .before .before .before .before .before .before .args in c .slot-words .ensures ∙ ap (λ (s : ℕ). slotWords (widthOf (x .kind)) (x .names .now) (x .line .now) s) (c .before .slot-after .ensures) ∙ ap (λ (t : Bool). cond t (slotWords (widthOf (x .kind)) (x .names .now) (x .line .now) (getD (x .line .now) (x .from + (x .k + x .d)) 0)) 0) (sym (lt-ltb (x .k + x .d) (x .n) (omega arith)))

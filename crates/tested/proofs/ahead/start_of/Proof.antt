@@ -13,10 +13,10 @@ returns : tie.Need-returns
 returns c = let x = c .before .before .args in sym (ap (λ (t : Bool). cond t 0 (homeOf (x .id .now) (x .cap))) (eq-eqb (x .cap) 0 (c .if1 .taken)))
 
 be32-requires : tie.Need-be32-requires
-be32-requires c κs = search needs
+be32-requires c κs = tt
 
 wide-requires : tie.Need-wide-requires
-wide-requires c κs = search needs
+wide-requires c κs = tt
 
 rem-result : tie.Need-rem-result
 rem-result c = search needs

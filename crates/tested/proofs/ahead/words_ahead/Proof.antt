@@ -3,25 +3,24 @@ use mathlib.Core.Path.{_≡_, refl, sym, ap, subst, _∙_}
 use Prim.Native.Nat.{ℕ, _+_}
 use Rattle.commit.specs.declared.Cache.{Cache}
 use Rattle.tested.specs.Ahead.{nearAt, wordsAt, wordsAhead}
-use borrow.Author.Needs.{needs}
 use Rattle.tested.proofs.ahead.words_ahead.Statement.{statement}
 use Rattle.tested.proofs.ahead.words_ahead.Tie as tie
 use Rattle.hash.specs.Bytes.{widthOf}
 
 enum-known-cache : tie.Need-enum-known-cache
-enum-known-cache c = search needs
+enum-known-cache c = c .match .keys1
 
 parent-requires : tie.Need-parent-requires
-parent-requires c κs = search needs
+parent-requires c κs = tt
 
 near-after-requires : tie.Need-near-after-requires
-near-after-requires c κs = search needs
+near-after-requires c κs = tt
 
 words-at-requires : tie.Need-words-at-requires
-words-at-requires c κs = search needs
+words-at-requires c κs = tt
 
 enum-told : tie.Need-enum-told
-enum-told c = search needs
+enum-told c = c .match .keys2
 
 returns : tie.Need-returns
 returns c =

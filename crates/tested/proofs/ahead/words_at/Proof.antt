@@ -6,39 +6,38 @@ use lib.Bits.{bitXor}
 use Rattle.hash.specs.Bytes.{Id, u32At, widthOf}
 use Rattle.commitgraph.specs.Graph.{idIn}
 use Rattle.tested.specs.Ahead.{nearAt, startOf, homeWords, rowWords}
-use borrow.Author.Needs.{needs}
 use Rattle.tested.proofs.ahead.words_at.Statement.{statement}
 use Rattle.tested.proofs.ahead.words_at.Tie as tie
 
 parent-requires : tie.Need-parent-requires
-parent-requires c κs = search needs
+parent-requires c κs = tt
 
 near-after-requires : tie.Need-near-after-requires
-near-after-requires c κs = search needs
+near-after-requires c κs = tt
 
 id-at-requires : tie.Need-id-at-requires
-id-at-requires c κs = search needs
+id-at-requires c κs = tt
 
 start-of-requires : tie.Need-start-of-requires
-start-of-requires c κs = search needs
+start-of-requires c κs = tt
 
 home-words-requires : tie.Need-home-words-requires
-home-words-requires c κs = search needs
+home-words-requires c κs = tt
 
 place-words-requires : tie.Need-place-words-requires
-place-words-requires c κs = search needs
+place-words-requires c κs = tt
 
 body-words-requires : tie.Need-body-words-requires
-body-words-requires c κs = search needs
+body-words-requires c κs = tt
 
 row-words-requires : tie.Need-row-words-requires
-row-words-requires c κs = search needs
+row-words-requires c κs = tt
 
 id-at-requires-2 : tie.Need-id-at-requires-2
-id-at-requires-2 c κs = search needs
+id-at-requires-2 c κs = tt
 
 be32-requires : tie.Need-be32-requires
-be32-requires c κs = search needs
+be32-requires c κs = tt
 
 returns : tie.Need-returns
 returns c =

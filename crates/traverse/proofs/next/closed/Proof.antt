@@ -1,12 +1,11 @@
 -- `next::closed` meets its contract: the fields are those of refusal 12. Assumes nothing.
 use mathlib.Core.Path.{refl}
 use Rattle.walk.specs.Given.{given}
-use borrow.Author.Needs.{needs}
 use Rattle.traverse.proofs.next.closed.Statement.{statement}
 use Rattle.traverse.proofs.next.closed.Tie as tie
 
 no-commit-requires : tie.Need-no-commit-requires
-no-commit-requires c κs = search needs
+no-commit-requires c κs = tt
 
 returns : tie.Need-returns
 unfolding given

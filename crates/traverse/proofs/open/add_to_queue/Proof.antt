@@ -1,7 +1,6 @@
 -- `open::add_to_queue` meets its contract: only a new tip that no cutoff turns away waits. Assumes nothing.
 use borrow.Author.Tests.{not-true, not-false}
 use Rattle.traverse.proofs.OpenTips.{admit-again, admit-turned, admit-waits}
-use borrow.Author.Needs.{needs}
 use Rattle.traverse.proofs.open.add_to_queue.Statement.{statement}
 use Rattle.traverse.proofs.open.add_to_queue.Tie as tie
 
@@ -9,19 +8,19 @@ returns : tie.Need-returns
 returns c = let x = c .before .before .before .args in admit-again (x .r) (x .times .now) (x .line .now) (x .seen) (x .how) (not-true (x .seen .fresh) (c .if1 .taken))
 
 enum-known-how : tie.Need-enum-known-how
-enum-known-how c = search needs
+enum-known-how c = c .match .keys1
 
 wait-requires : tie.Need-wait-requires
-wait-requires c κs = search needs
+wait-requires c κs = tt
 
 enum-told : tie.Need-enum-told
-enum-told c = search needs
+enum-told c = c .match .keys2
 
 same-length : tie.Need-same-length
-same-length c = search needs
+same-length c = c .before .before .before .wait .kept .1 .0
 
 same-length-2 : tie.Need-same-length-2
-same-length-2 c = search needs
+same-length-2 c = c .before .before .before .wait .kept .1 .1 .0
 
 returns-2 : tie.Need-returns-2
 returns-2 c =

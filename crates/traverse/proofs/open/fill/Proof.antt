@@ -6,36 +6,35 @@ use Rattle.opening.specs.Checks.{inputOf}
 use Rattle.state.specs.declared.Fixed.{Fixed}
 use Rattle.state.specs.Shapes.{freshRecord}
 use Rattle.traverse.proofs.OpenSaid.{fills}
-use borrow.Author.Needs.{needs}
 use Rattle.traverse.proofs.open.fill.Statement.{statement}
 use Rattle.traverse.proofs.open.fill.Tie as tie
 
 capacity-requires : tie.Need-capacity-requires
-capacity-requires c κs = search needs
+capacity-requires c κs = tt
 
 start-requires : tie.Need-start-requires
-start-requires c κs = search needs
+start-requires c κs = tt
 
 fixed-for-requires : tie.Need-fixed-for-requires
-fixed-for-requires c κs = search needs
+fixed-for-requires c κs = tt
 
 first-record-requires : tie.Need-first-record-requires
-first-record-requires c κs = search needs
+first-record-requires c κs = tt
 
 filtered-requires : tie.Need-filtered-requires
-filtered-requires c κs = search needs
+filtered-requires c κs = tt
 
 same-length : tie.Need-same-length
-same-length c = search needs
+same-length c = c .before .before .before .before .before .before .before .filtered .kept .1 .1 .0
 
 same-length-2 : tie.Need-same-length-2
-same-length-2 c = search needs
+same-length-2 c = c .before .before .before .before .before .before .before .filtered .kept .1 .1 .1 .0 ∙ c .before .before .before .before .before .before .before .before .before .before .before .before .before .before .before .before .start .kept .0
 
 same-length-3 : tie.Need-same-length-3
-same-length-3 c = search needs
+same-length-3 c = c .before .before .before .before .before .before .before .filtered .kept .1 .1 .1 .1 .0
 
 same-length-4 : tie.Need-same-length-4
-same-length-4 c = search needs
+same-length-4 c = c .before .before .before .before .before .before .before .filtered .kept .1 .1 .1 .1 .1 .0
 
 returns : tie.Need-returns
 returns c = let x = c .before .before .before .before .before .before .before .before .before .before .before .before .before .before .before .before .before .before .before .before .before .before .before .before .before .before .before .args in

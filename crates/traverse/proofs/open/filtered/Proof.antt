@@ -16,16 +16,16 @@ abbrev μ-loop : tie.MeasureT-loop
 μ-loop kind names₀ marks₀ times₀ line₀ store tips excluded sorting n r₀ k₀ names marks times line r k = n - k
 
 ids-in-requires : tie.Need-ids-in-requires Inv-loop μ-loop
-ids-in-requires c κs = search needs
+ids-in-requires c κs = tt
 
 loop-holds : tie.Need-loop-holds Inv-loop μ-loop
 loop-holds c = rw (c .ids-in .ensures) turns-start
 
 nth-requires : tie.Need-nth-requires Inv-loop μ-loop
-nth-requires c κs = search needs
+nth-requires c κs = tt
 
 take-tip-requires : tie.Need-take-tip-requires Inv-loop μ-loop
-take-tip-requires c κs = search needs
+take-tip-requires c κs = tt
 
 -- a place of the list is a small number
 low : (c : tie.In-loop Inv-loop μ-loop) → c .before .loop .k + 1 < 18446744073709551616

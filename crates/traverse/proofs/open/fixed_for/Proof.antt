@@ -2,12 +2,11 @@
 use mathlib.Core.Path.{ap}
 use Rattle.commitgraph.specs.declared.Layout.{Layout}
 use Rattle.state.specs.declared.Fixed.{Fixed}
-use borrow.Author.Needs.{needs}
 use Rattle.traverse.proofs.open.fixed_for.Statement.{statement}
 use Rattle.traverse.proofs.open.fixed_for.Tie as tie
 
 parse-requires : tie.Need-parse-requires
-parse-requires c κs = search needs
+parse-requires c κs = tt
 
 returns : tie.Need-returns
 returns c = let x = c .before .before .args in ap {B = Fixed} (λ (l : Layout). record { layout = l; kind = x .kind }) (c .parse .ensures)

@@ -2,18 +2,17 @@
 use mathlib.Core.Path.{sym, _∙_}
 use Rattle.walk.specs.Settings.{timed, onlyFirst, byTime}
 use Rattle.traverse.proofs.OpenSaid.{and-true, and-false}
-use borrow.Author.Needs.{needs}
 use Rattle.traverse.proofs.open.is_by_time.Statement.{statement}
 use Rattle.traverse.proofs.open.is_by_time.Tie as tie
 
 enum-told : tie.Need-enum-told
-enum-told c = search needs
+enum-told c = c .match .keys1
 
 is-timed-requires : tie.Need-is-timed-requires
-is-timed-requires c κs = search needs
+is-timed-requires c κs = tt
 
 enum-told-2 : tie.Need-enum-told-2
-enum-told-2 c = search needs
+enum-told-2 c = c .match .keys2
 
 returns : tie.Need-returns
 unfolding byTime onlyFirst

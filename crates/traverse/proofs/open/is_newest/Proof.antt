@@ -1,14 +1,13 @@
 -- `open::is_newest` meets its contract: it goes by the same cases. Assumes nothing.
 use Rattle.walk.specs.Settings.{isNewest}
-use borrow.Author.Needs.{needs}
 use Rattle.traverse.proofs.open.is_newest.Statement.{statement}
 use Rattle.traverse.proofs.open.is_newest.Tie as tie
 
 enum-told : tie.Need-enum-told
-enum-told c = search needs
+enum-told c = c .match .keys1
 
 enum-told-2 : tie.Need-enum-told-2
-enum-told-2 c = search needs
+enum-told-2 c = c .match .keys2
 
 returns : tie.Need-returns
 unfolding isNewest

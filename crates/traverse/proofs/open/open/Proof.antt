@@ -4,30 +4,29 @@ use Rattle.opening.specs.Checks.{inputOf}
 use Rattle.traverse.specs.Contract.{lengthsOf}
 use Rattle.traverse.specs.Open.{lentOf}
 use Rattle.traverse.proofs.OpenSaid.{refused-says, accepted-says}
-use borrow.Author.Needs.{needs}
 use Rattle.traverse.proofs.open.open.Statement.{statement}
 use Rattle.traverse.proofs.open.open.Tie as tie
 
 check-requires : tie.Need-check-requires
-check-requires c κs = search needs
+check-requires c κs = tt
 
 enum-known-r : tie.Need-enum-known-r
-enum-known-r c = search needs
+enum-known-r c = c .match .keys1
 
 refused-open-requires : tie.Need-refused-open-requires
-refused-open-requires c κs = search needs
+refused-open-requires c κs = tt
 
 enum-told : tie.Need-enum-told
-enum-told c = search needs
+enum-told c = c .match .keys2
 
 clear-notes-requires : tie.Need-clear-notes-requires
-clear-notes-requires c κs = search needs
+clear-notes-requires c κs = tt
 
 fill-requires : tie.Need-fill-requires
-fill-requires c κs = search needs
+fill-requires c κs = tt
 
 accepted-open-requires : tie.Need-accepted-open-requires
-accepted-open-requires c κs = search needs
+accepted-open-requires c κs = tt
 
 returns : tie.Need-returns
 unfolding lengthsOf
@@ -37,19 +36,19 @@ returns c =
     (sym (c .before .before .r .given .1) ∙ c .before .before .before .before .check .ensures) (c .refused-open .ensures)
 
 same-length : tie.Need-same-length
-same-length c = search needs
+same-length c = c .before .before .before .before .before .before .before .before .fill .kept .1 .1 .1 .1 .1 .1 .0
 
 same-length-2 : tie.Need-same-length-2
-same-length-2 c = search needs
+same-length-2 c = c .before .before .before .before .before .before .before .before .fill .kept .1 .1 .1 .1 .1 .1 .1 .0
 
 same-length-3 : tie.Need-same-length-3
-same-length-3 c = search needs
+same-length-3 c = c .before .before .before .before .before .before .before .before .before .before .before .before .before .before .before .clear-notes .kept .0
 
 same-length-4 : tie.Need-same-length-4
-same-length-4 c = search needs
+same-length-4 c = c .before .before .before .before .before .before .before .before .fill .kept .1 .1 .1 .1 .1 .1 .1 .1 .0
 
 same-length-5 : tie.Need-same-length-5
-same-length-5 c = search needs
+same-length-5 c = c .before .before .before .before .before .before .before .before .fill .kept .1 .1 .1 .1 .1 .1 .1 .1 .1 .0
 
 returns-2 : tie.Need-returns-2
 unfolding lengthsOf

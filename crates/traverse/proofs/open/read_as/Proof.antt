@@ -5,16 +5,16 @@ use Rattle.traverse.proofs.open.read_as.Statement.{statement}
 use Rattle.traverse.proofs.open.read_as.Tie as tie
 
 enum-known-read : tie.Need-enum-known-read
-enum-known-read c = search needs
+enum-known-read c = c .match .keys1
 
 within-cutoff-time-requires : tie.Need-within-cutoff-time-requires
-within-cutoff-time-requires c κs = search needs
+within-cutoff-time-requires c κs = tt
 
 enum-told : tie.Need-enum-told
-enum-told c = search needs
+enum-told c = c .match .keys2
 
 enum-told-2 : tie.Need-enum-told-2
-enum-told-2 c = search needs
+enum-told-2 c = c .match .keys3
 
 returns : tie.Need-returns
 returns c = rw (c .before .before .before .read .given .1, sym (c .before .within-cutoff-time .ensures) ∙ c .if1 .taken)

@@ -1,12 +1,11 @@
 -- `open::refused_open` meets its contract: zeros beside the refusal, and the closed record. Assumes nothing.
 use mathlib.Core.Path.{refl}
 use Rattle.walk.specs.Given.{openGiven}
-use borrow.Author.Needs.{needs}
 use Rattle.traverse.proofs.open.refused_open.Statement.{statement}
 use Rattle.traverse.proofs.open.refused_open.Tie as tie
 
 closed-record-requires : tie.Need-closed-record-requires
-closed-record-requires c κs = search needs
+closed-record-requires c κs = tt
 
 returns : tie.Need-returns
 unfolding openGiven

@@ -2,37 +2,36 @@
 use mathlib.Core.Path.{sym, _∙_}
 use Rattle.state.specs.Steps.{mem}
 use Rattle.traverse.proofs.OpenTips.{tip-skipped, tip-taken}
-use borrow.Author.Needs.{needs}
 use Rattle.traverse.proofs.open.take_tip.Statement.{statement}
 use Rattle.traverse.proofs.open.take_tip.Tie as tie
 use Rattle.hash.specs.Bytes.{widthOf}
 
 is-among-requires : tie.Need-is-among-requires
-is-among-requires c κs = search needs
+is-among-requires c κs = tt
 
 returns : tie.Need-returns
 returns c = let x = c .before .before .before .before .before .before .before .before .args in tip-skipped (mem (x .names .now) (x .marks .now) (x .times .now) (x .line .now)) (x .id .now) (x .r) (sym (c .before .is-among .ensures) ∙ c .if1 .taken)
 
 see-requires : tie.Need-see-requires
-see-requires c κs = search needs
+see-requires c κs = tt
 
 tip-admission-requires : tie.Need-tip-admission-requires
-tip-admission-requires c κs = search needs
+tip-admission-requires c κs = tt
 
 add-to-queue-requires : tie.Need-add-to-queue-requires
-add-to-queue-requires c κs = search needs
+add-to-queue-requires c κs = tt
 
 same-length : tie.Need-same-length
-same-length c = search needs
+same-length c = c .before .before .before .before .before .before .before .before .before .before .before .see .kept .1 .0
 
 same-length-2 : tie.Need-same-length-2
-same-length-2 c = search needs
+same-length-2 c = c .before .before .before .before .before .before .before .before .before .before .before .see .kept .1 .1 .0
 
 same-length-3 : tie.Need-same-length-3
-same-length-3 c = search needs
+same-length-3 c = c .before .before .before .add-to-queue .kept .1 .0
 
 same-length-4 : tie.Need-same-length-4
-same-length-4 c = search needs
+same-length-4 c = c .before .before .before .add-to-queue .kept .1 .1 .0
 
 returns-2 : tie.Need-returns-2
 returns-2 c =

@@ -1,23 +1,22 @@
 -- `open::takes_newest` meets its contract: it goes by the same cases. Assumes nothing.
 use Rattle.walk.specs.Settings.{newestFirst}
-use borrow.Author.Needs.{needs}
 use Rattle.traverse.proofs.open.takes_newest.Statement.{statement}
 use Rattle.traverse.proofs.open.takes_newest.Tie as tie
 
 enum-told : tie.Need-enum-told
-enum-told c = search needs
+enum-told c = c .match .keys1
 
 enum-known-sorting : tie.Need-enum-known-sorting
-enum-known-sorting c = search needs
+enum-known-sorting c = c .match .keys2
 
 is-newest-requires : tie.Need-is-newest-requires
-is-newest-requires c κs = search needs
+is-newest-requires c κs = tt
 
 enum-known-sorting-2 : tie.Need-enum-known-sorting-2
-enum-known-sorting-2 c = search needs
+enum-known-sorting-2 c = c .match .keys3
 
 is-newest-requires-2 : tie.Need-is-newest-requires-2
-is-newest-requires-2 c κs = search needs
+is-newest-requires-2 c κs = tt
 
 returns : tie.Need-returns
 unfolding newestFirst

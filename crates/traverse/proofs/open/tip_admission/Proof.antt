@@ -3,22 +3,21 @@ use mathlib.Core.Path.{refl, sym, _∙_, ap}
 use borrow.Author.Tests.{not-true, not-false}
 use Rattle.traverse.specs.Open.{readAs, admissionOf}
 use Rattle.reading.proofs.Tips.{tip-right}
-use borrow.Author.Needs.{needs}
 use Rattle.traverse.proofs.open.tip_admission.Statement.{statement}
 use Rattle.traverse.proofs.open.tip_admission.Tie as tie
 
 is-timed-requires : tie.Need-is-timed-requires
-is-timed-requires c κs = search needs
+is-timed-requires c κs = tt
 
 returns : tie.Need-returns
 unfolding admissionOf
 returns c = λ ok graph. rw (sym (c .before .is-timed .ensures) ∙ not-true (c .before .is-timed .result) (c .if1 .taken)) refl
 
 read-tip-requires : tie.Need-read-tip-requires
-read-tip-requires c κs = search needs
+read-tip-requires c κs = tt
 
 read-as-requires : tie.Need-read-as-requires
-read-as-requires c κs = search needs
+read-as-requires c κs = tt
 
 returns-2 : tie.Need-returns-2
 unfolding admissionOf
