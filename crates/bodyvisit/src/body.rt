@@ -25,7 +25,7 @@ pub struct BodyVisited {
 const MOST_PARENTS: usize = 256;
 
 // The bytes of as many ids as a commit may have parents.
-fn parents_room(kind: Kind) -> usize
+pub(crate) fn parents_room(kind: Kind) -> usize
     ensures { λ r. ⌜ r ≡ parentsRoom (widthOf kind) ⌝ }
 {
     MOST_PARENTS * hash::width(kind)

@@ -18,7 +18,7 @@ use Rattle.traverse.specs.declared.Out.{Out}
 use Rattle.walk.specs.declared.Settings.{Settings}
 use Rattle.traverse.specs.Contract.{Files, Lent, NextSays}
 use Rattle.traverse.specs.Next.{filesLent}
-use Rattle.topology.specs.InPlace.{GoesInPlace}
+use Rattle.inplace.specs.InPlace.{notMade, GoesInPlace}
 use Rattle.wire.specs.Words.{recordWords, recordOf, roomToCall, PutsRecord}
 use Rattle.wire.specs.Numbers.{PutsAnswer}
 use Rattle.linenhatch.specs.Library.{noRoom, Made, LibraryNext}
@@ -72,10 +72,10 @@ next-of {m = m} {m′ = m′} {words = words} {words′ = words′} {id = id} {i
     subst (λ (y : Files). LibraryNext y m m′ words words′ id id′ numbers numbers′ seconds seconds′ n)
 
 -- a call that was made in place
-pub made-in-place : {store graph hidden excluded : List ℕ} {settings : Settings} {m m′ : Lent} {words words′ id id′ numbers numbers′ : List ℕ} {seconds seconds′ : List ℤ} {a b : Bool}
-    → GoesInPlace graph excluded settings m m′ words words′ id id′ numbers numbers′ seconds seconds′ a → a ≡ true → b ≡ roomToCall (widthOf (settings .kind)) words id numbers seconds → b ≡ true
-    → LibraryNext (filesLent store graph hidden excluded settings) m m′ words words′ id id′ numbers numbers′ seconds seconds′ 0
-made-in-place {store = store} {hidden = hidden} g e q t = let o = g .made e store hidden in made-says refl q t (o .1) (o .2) (o .3)
+pub made-in-place : {store graph hidden excluded : List ℕ} {settings : Settings} {m m′ : Lent} {words words′ id id′ numbers numbers′ : List ℕ} {seconds seconds′ : List ℤ} {n : ℕ} {b : Bool}
+    → GoesInPlace store graph excluded settings m m′ words words′ id id′ numbers numbers′ seconds seconds′ n → (n ≡ notMade → ⊥) → b ≡ roomToCall (widthOf (settings .kind)) words id numbers seconds → b ≡ true
+    → LibraryNext (filesLent store graph hidden excluded settings) m m′ words words′ id id′ numbers numbers′ seconds seconds′ n
+made-in-place {hidden = hidden} g e q t = let o = g .made e hidden in made-says refl q t (o .1) (o .2) (o .3)
 
 -- a call in place that was not made altered nothing, so what comes of the same call by the record comes of what was lent
 pub made-after : {f : Files} {r : Record} {m m₁ m′ : Lent} {words words₁ words′ id id₁ id′ numbers numbers₁ numbers′ : List ℕ} {seconds seconds₁ seconds′ : List ℤ} {n : ℕ} {o : Out} {b : Bool}

@@ -1,6 +1,7 @@
 // The walk for callers in C and Rust: every parameter is a number or a slice (a pointer and a length), and the walk's record stands as
 // words in lent memory. bindings/c/linenhatch.h declares the functions for C. Each is total on any bytes, numbers and lengths. width is that of ids: 32
 // is SHA-256, any other number SHA-1.
+use inplace::NOT_MADE;
 ghost use Prim.Native.Nat.{ℕ};
 ghost use mathlib.Core.Path.{_≡_};
 ghost use mathlib.Core.List.{List};
@@ -167,8 +168,9 @@ pub extern "C" fn linenhatch_next(
     if !wire::can_call(kind, words, id, numbers, seconds) {
         return NO_ROOM;
     }
-    if topology::next_by_topology(
+    let made = inplace::next_by_topology_or_commit_date(
         words,
+        store,
         graph,
         excluded,
         settings,
@@ -181,8 +183,9 @@ pub extern "C" fn linenhatch_next(
         id,
         numbers,
         seconds,
-    ) {
-        return 0;
+    );
+    if made != NOT_MADE {
+        return made;
     }
     let o = simple::once(
         wire::decode(words),

@@ -4,13 +4,11 @@ use mathlib.Core.Path.{_≡_, refl, sym, ap, _∙_, subst}
 use mathlib.Core.Logic.{⊎-elim}
 use Prim.Native.Nat.{ℕ, suc}
 use mathlib.Core.Bool.{Bool, true, false, cond, not, _&&_, _||_}
-use mathlib.Core.List.{List, [], List·Memᴰ}
+use mathlib.Core.List.{List, List·Memᴰ}
 use native.Mathlib.Omega.{arith}
 use lib.ListN.{length, getD}
 use lib.IntN.{ℤ, pos}
-use Rattle.hash.specs.Bytes.{Id, among, idsOf, widthOf}
-use Rattle.hash.specs.declared.Kind.{Kind}
-use Rattle.hash.specs.declared.Kind.the-variants.{Sha1, Sha256}
+use Rattle.hash.specs.Bytes.{Id, among, widthOf}
 use Rattle.hash.proofs.Tests.{byCases, clash}
 use Rattle.walk.specs.declared.Settings.{Settings}
 use Rattle.walk.specs.declared.Sorting.{Sorting}
@@ -86,27 +84,6 @@ module _ {excluded : List ℕ} {settings : Settings} {x : Id} {t : ℤ} where
   pub timed-admitted : {b c d : Bool} → b ≡ among x (listIds (widthOf (settings .kind)) excluded) → b ≡ false → c ≡ onlyFirst settings → c ≡ false → d ≡ notBefore (cutoffOf (settings .sorting)) t
       → Admits excluded settings x t d
   timed-admitted e k f l m = record { right = λ v p q. m ∙ (rw (sym e ∙ k, sym f ∙ l) at (at-settings excluded settings x t v p q)) }
-
--- ---- nothing is excluded, and breadth order has no cutoff: every link is admitted
-
-none-listed : (k : Kind) → listIds (widthOf k) [] ≡ []
-unfolding listIds idsOf
-none-listed Sha1 = refl
-none-listed Sha256 = refl
-
-none-among : (k : Kind) (x : Id) → false ≡ among x (listIds (widthOf k) [])
-unfolding among
-none-among k x = ap (among x) (sym (none-listed k))
-
-no-cutoff : (o : Sorting) (t : ℤ) → o ≡ BreadthFirst → true ≡ notBefore (cutoffOf o) t
-unfolding cutoffOf notBefore
-no-cutoff o t e = ap (λ (q : Sorting). notBefore (cutoffOf q) t) (sym e)
-
-pub all-admitted : {settings : Settings} {x : Id} {t : ℤ} → settings .sorting ≡ BreadthFirst → Admits [] settings x t true
-all-admitted {settings} {x} {t} e =
-    byCases (onlyFirst settings)
-    (λ f. first-admitted (none-among (settings .kind) x) refl (sym f) refl)
-    (λ f. timed-admitted (none-among (settings .kind) x) refl (sym f) refl (no-cutoff (settings .sorting) t e))
 
 -- ---- where commits do not wait by time, the seconds of a parent do not count
 

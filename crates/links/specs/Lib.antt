@@ -1,2 +1,3 @@
 pub mod Link
 pub mod Visits
+pub mod Leaving

@@ -2,22 +2,20 @@
 use Prim.Native.Nat.{ℕ, suc, _+_, _≤_, _<_}
 use mathlib.Core.Path.{_≡_}
 use mathlib.Core.Bool.{Bool, true, false}
-use mathlib.Core.List.{List, [], List·Memᴰ}
+use mathlib.Core.List.{List, List·Memᴰ}
 use lib.ListN.{length, getD}
 use lib.IntN.{ℤ}
 use Rattle.hash.specs.Bytes.{Id, widthOf}
 use Rattle.odb.specs.Store.{storeOk}
 use Rattle.walk.specs.declared.Settings.{Settings}
-use Rattle.walk.specs.declared.Sorting.the-variants.{BreadthFirst}
 use Rattle.walk.specs.Lookup.{worldOf, secondsFor}
 use Rattle.walk.specs.State.{Walk, State}
 use Rattle.walk.specs.Opening.{listIds}
 use Rattle.walk.specs.Next.{admits, visit}
 use Rattle.state.specs.declared.Record.{Record}
-use Rattle.state.specs.declared.Waiting.{Waiting}
 use Rattle.state.specs.Reads.{Memory, Shape, Reads, Universe}
-use Rattle.state.specs.Shapes.{shapeFor, waitingIn}
-use Rattle.state.specs.Steps.{mem, Waits}
+use Rattle.state.specs.Shapes.{shapeFor}
+use Rattle.state.specs.Steps.{Waits}
 
 -- the walk v goes by the settings and the excluded ids that a call is given, and sh is its shape, with ids of the settings' kind
 pub record GoesBy (v : Walk) (sh : Shape) (excluded : List ℕ) (settings : Settings) : Type 0 where
@@ -53,12 +51,6 @@ pub record Enters (excluded : List ℕ) (settings : Settings) (r : Record) (time
 pub record Visits (excluded : List ℕ) (settings : Settings) (r : Record) (m m′ : Memory) (x : Id) (t : ℤ) (r′ : Record) : Type 0 where
   pub right : (v : Walk) (sh : Shape) (st : State) (u : List Id) (n : ℕ) → GoesBy v sh excluded settings → Ready sh r m st u (suc n) → length x ≡ widthOf (settings .kind) → List·Memᴰ x u
       → Went sh m r′ m′ (visit v st x t) u n
-
--- insert_into_seen_and_next, with its answer a: in a queue that is not by time, and is not by time then either, the parent x is visited, where nothing is
--- excluded and the order is breadth first, whatever its seconds
-pub record VisitsNext (r : Record) (w : Waiting) (names marks names′ marks′ line line′ : List ℕ) (x : Id) (a : Waiting) : Type 0 where
-  pub untimed : w .queue .timed ≡ false → a .queue .timed ≡ false
-  pub right : w .queue .timed ≡ false → (settings : Settings) → settings .sorting ≡ BreadthFirst → (times : List ℤ) (s : ℤ) → Visits [] settings (waitingIn r w) (mem names marks times line) (mem names′ marks′ times line′) x s (waitingIn r a)
 
 -- "from the book, else they are 0": the parent x of a commit from the store is visited
 pub record VisitsStored (excluded : List ℕ) (settings : Settings) (store : List ℕ) (r : Record) (m m′ : Memory) (x : Id) (r′ : Record) : Type 0 where

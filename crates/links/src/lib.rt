@@ -3,7 +3,8 @@
 mod link;
 
 pub use link::admits;
-pub use link::insert_into_seen_and_next;
+pub use link::insert_into_seen_and_next_or_queue;
+pub use link::insert_into_seen_and_next_or_queue_stored;
 pub use link::insert_into_seen_and_queue_cached;
 pub use link::insert_into_seen_and_queue_stored;
 pub use link::only_first;

@@ -8,14 +8,15 @@ use state::Waiting;
 use walk::Parents;
 use walk::Settings;
 ghost use mathlib.Core.Path.{_≡_};
-ghost use mathlib.Core.Bool.{true};
+ghost use mathlib.Core.Bool.{true, false};
+ghost use lib.IntN.{pos};
 ghost use Rattle.commitgraph.specs.Graph.{secondsIn};
 ghost use Rattle.walk.specs.Settings.{onlyFirst};
 ghost use Rattle.reading.specs.Tip.{GivesSeconds};
 ghost use Rattle.state.specs.declared.Record.{Record};
 ghost use Rattle.state.specs.Shapes.{waitingIn};
 ghost use Rattle.state.specs.Steps.{mem};
-ghost use Rattle.links.specs.Link.{Admits, Enters, Visits, VisitsNext, VisitsStored};
+ghost use Rattle.links.specs.Link.{Admits, Enters, Visits, VisitsStored};
 ghost use Rattle.hash.specs.Bytes.{widthOf};
 
 // No place is noted from here on.
@@ -127,26 +128,76 @@ pub fn insert_into_seen_and_queue_cached(
     insert_into_queue(w, seen.slot, times, line, excluded, settings, id, s)
 }
 
-// Visits a parent where commits wait in the order in which they are met, and no link is turned away: its position in the commit-graph file is noted, and
-// no seconds are asked. (The Rust's `insert_into_seen_and_next`, where nothing is excluded.)
-pub fn insert_into_seen_and_next(
+// A new parent waits in its slot, if its link is admitted, in a queue by time.
+fn insert_into_heap(
+    w: Waiting,
+    slot: usize,
+    times: &mut [i64],
+    line: &mut [u32],
+    excluded: &[u8],
+    settings: Settings,
+    id: &[u8],
+    s: Seconds,
+) -> Waiting
+    requires { ⌜ w .queue .timed ≡ true ⌝ }
+    ensures { λ a. ⌜ ((r : Record) → Enters (now (excluded .entry)) settings (waitingIn r w) (now (times .entry)) (now (times .exit)) (now (line .entry)) (now (line .exit)) (now (id .entry)) (s .0) slot (waitingIn r a)) ⌝ }
+{
+    if admits(excluded, settings, id, s) {
+        return state::lengthen_heap(w, times, line, slot, s);
+    }
+    w
+}
+
+// The same in a queue that is not by time, where no seconds are asked.
+fn insert_into_ring(
+    w: Waiting,
+    slot: usize,
+    times: &[i64],
+    line: &mut [u32],
+    excluded: &[u8],
+    settings: Settings,
+    id: &[u8],
+) -> Waiting
+    requires { ⌜ w .queue .timed ≡ false ⌝ }
+    ensures { λ a. ⌜ ((r : Record) → Enters (now (excluded .entry)) settings (waitingIn r w) (now (times .entry)) (now (times .entry)) (now (line .entry)) (now (line .exit)) (now (id .entry)) (pos 0) slot (waitingIn r a)) ⌝ }
+{
+    if admits(excluded, settings, id, Seconds(0)) {
+        return state::lengthen_ring(w, times, line, slot);
+    }
+    w
+}
+
+// What `insert_into_seen_and_queue_cached` does, for the call in place: that one is compiled once for all who call it, and what goes to it by value stands in
+// memory; this one has one caller, and is compiled into it, with the heap and the ring apart.
+pub fn insert_into_seen_and_next_or_queue(
     r: Record,
     w: Waiting,
     names: &mut [u8],
     marks: &mut [u8],
     levels: &mut [u32],
+    times: &mut [i64],
     line: &mut [u32],
+    excluded: &[u8],
+    settings: Settings,
+    graph: &[u8],
+    l: Layout,
     parent: usize,
     id: &[u8],
 ) -> Waiting
-    ensures { λ a. ⌜ VisitsNext r w (now (names .entry)) (now (marks .entry)) (now (names .exit)) (now (marks .exit)) (now (line .entry)) (now (line .exit)) (now (id .entry)) a ⌝ }
+    ensures { λ a. ⌜ Visits (now (excluded .entry)) settings (waitingIn r w) (mem (now (names .entry)) (now (marks .entry)) (now (times .entry)) (now (line .entry))) (mem (now (names .exit)) (now (marks .exit)) (now (times .exit)) (now (line .exit))) (now (id .entry)) (secondsIn (widthOf (settings .kind)) (now (graph .entry)) l parent) (waitingIn r a) ⌝ }
 {
+    let kind = settings.kind;
     let seen = state::see(state::with_waiting(r, w), names, marks, id);
     if !seen.fresh {
         return w;
     }
     note(levels, seen.slot, parent);
-    state::lengthen_ring(w, line, seen.slot)
+    let q = w.queue;
+    if q.timed {
+        let s = new_row_seconds(kind, graph, l, parent, true);
+        return insert_into_heap(w, seen.slot, times, line, excluded, settings, id, s);
+    }
+    insert_into_ring(w, seen.slot, times, line, excluded, settings, id)
 }
 
 // The seconds of a new parent in the store, where commits wait by time, and its entry is noted beside its slot; else they are not asked.
@@ -193,4 +244,39 @@ pub fn insert_into_seen_and_queue_stored(
     let q = w.queue;
     let s = new_seconds(kind, store, id, q.timed, levels, seen.slot);
     insert_into_queue(w, seen.slot, times, line, excluded, settings, id, s)
+}
+
+// What `insert_into_seen_and_queue_stored` does, for the call in place (see `insert_into_seen_and_next_or_queue`).
+pub fn insert_into_seen_and_next_or_queue_stored(
+    r: Record,
+    w: Waiting,
+    names: &mut [u8],
+    marks: &mut [u8],
+    levels: &mut [u32],
+    times: &mut [i64],
+    line: &mut [u32],
+    excluded: &[u8],
+    settings: Settings,
+    store: &[u8],
+    id: &[u8],
+) -> Waiting
+    ensures { λ a. ⌜ VisitsStored (now (excluded .entry)) settings (now (store .entry)) (waitingIn r w) (mem (now (names .entry)) (now (marks .entry)) (now (times .entry)) (now (line .entry))) (mem (now (names .exit)) (now (marks .exit)) (now (times .exit)) (now (line .exit))) (now (id .entry)) (waitingIn r a) ⌝ }
+{
+    let kind = settings.kind;
+    let seen = state::see(state::with_waiting(r, w), names, marks, id);
+    if !seen.fresh {
+        return w;
+    }
+    let q = w.queue;
+    if q.timed {
+        let s = new_seconds(kind, store, id, true, levels, seen.slot);
+        if admits(excluded, settings, id, s) {
+            return state::lengthen_heap(w, times, line, seen.slot, s);
+        }
+        return w;
+    }
+    if admits(excluded, settings, id, Seconds(0)) {
+        return state::lengthen_ring(w, times, line, seen.slot);
+    }
+    w
 }

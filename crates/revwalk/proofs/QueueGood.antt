@@ -3,7 +3,7 @@
 use mathlib.Core.Path.{_≡_, refl, sym, ap, _∙_, subst}
 use mathlib.Core.Logic.{_⊎_, inl, inr, ⊎-elim}
 use mathlib.Core.List.{List, _∷_}
-use mathlib.Core.Bool.{Bool, true, false}
+use mathlib.Core.Bool.{Bool, true, false, not}
 use Prim.Native.Nat.{ℕ, suc, _+_, _≤_, _<_}
 use native.Mathlib.Omega.{arith}
 use lib.ListN.{length}
@@ -11,7 +11,7 @@ use lib.IntN.{ℤ}
 use Rattle.revwalk.specs.declared.queue.Queue.{Queue}
 use Rattle.revwalk.specs.declared.queue.Popped.{Popped}
 use Rattle.revwalk.specs.Order.{at, seqOf, ahead, never, sortAt, In}
-use Rattle.revwalk.specs.Queue.{Heap, Slots, Ring, GoodQueue, Alike, Joins, Pops, ReadsSlot, queued, ringAt, before, placeOf, turnOf, slotsOf}
+use Rattle.revwalk.specs.Queue.{Heap, Slots, Ring, GoodQueue, Alike, Joins, Pops, PopsOf, ReadsSlot, nothing, queued, ringAt, before, placeOf, turnOf, slotsOf}
 use Rattle.revwalk.proofs.QueueSorts.{no-both, Place, in-sort, sort-in, length-sort}
 use Rattle.revwalk.proofs.QueueRoom.{room-left}
 
@@ -91,6 +91,10 @@ module _ {q : Queue} {times : List ℤ} {line : List ℕ} (g : GoodQueue q times
   pub good-left : (slot : ℕ) → slot < q .cap → (In slot (slotsOf q times line) → ⊥) → q .count < q .cap
   good-left slot hs fresh = room-left (placeOf q line) good-slots hs (λ k h e. fresh (slots-in q times line slot k h e))
 
+no-own : (b : Bool) → b ≡ not b → ⊥
+no-own true e = no-both refl e
+no-own false e = no-both e refl
+
 -- ---- a call that changes nothing
 alike : (q : Queue) → Alike q q
 alike q = record { timed = refl; newest = refl; cap = refl }
@@ -114,11 +118,23 @@ pops-none {q} {times} {line} empty =
       same = alike q;
       next = refl;
       still = λ e. (refl, refl);
+      first = λ e. no-both e refl;
       none = λ g e. refl;
       some = λ g s l e.
           let a : length (slotsOf q times line) ≡ suc (length l) = ap length e in
           absurd (omega (arith, slots-length q times line, empty g));
     }
+
+-- ---- pop of a heap alone, or of a ring
+module _ {b : Bool} {q : Queue} {times : List ℤ} {line : List ℕ} {p : Popped} (e : p ≡ nothing q) where
+  pub other-none : q .timed ≡ not b → PopsOf b q times line line p
+  other-none n = record { own = λ o. absurd (no-own b (sym o ∙ n)); other = λ o. (e, refl) }
+
+  pub own-none : (q .timed ≡ b → GoodQueue q times line → q .count ≡ 0) → q .timed ≡ b → PopsOf b q times line line p
+  own-none empty n = record { own = λ o. subst (Pops q times line line) (sym e) (pops-none (empty o)); other = λ o. absurd (no-own b (sym n ∙ o)) }
+
+pub own-pops : {b : Bool} {q : Queue} {times : List ℤ} {line out : List ℕ} {p : Popped} → q .timed ≡ b → Pops q times line out p → PopsOf b q times line out p
+own-pops {b} n o = record { own = λ k. o; other = λ k. absurd (no-own b (sym n ∙ k)) }
 
 -- ---- the first of the list is handed out
 pub record First (q : Queue) (times : List ℤ) (line out : List ℕ) (r : Popped) : Type 0 where
@@ -132,14 +148,15 @@ heads e = cc
 tails : {a b : ℕ} {l m : List ℕ} → a ∷ l ≡ b ∷ m → l ≡ m
 tails e = cc
 
-pub pops-first : {q : Queue} {times : List ℤ} {line out : List ℕ} {r : Popped} → length out ≡ length line → ((k : ℕ) → q .cap + q .cap ≤ k → at out k ≡ at line k) → Alike q (r .queue) → r .queue .next ≡ q .next → r .found ≡ true → (GoodQueue q times line → First q times line out r) → Pops q times line out r
-pops-first {q} {times} {line} {out} {r} long kept same next found first =
+pub pops-first : {q : Queue} {times : List ℤ} {line out : List ℕ} {r : Popped} → length out ≡ length line → ((k : ℕ) → q .cap + q .cap ≤ k → at out k ≡ at line k) → Alike q (r .queue) → r .queue .next ≡ q .next → r .found ≡ true → r .slot ≡ placeOf q line 0 → (GoodQueue q times line → First q times line out r) → Pops q times line out r
+pops-first {q} {times} {line} {out} {r} long kept same next found place first =
     record {
       long = long;
       kept = kept;
       same = same;
       next = next;
       still = λ e. no-both found e;
+      first = λ e. place;
       none = λ g e.
           let a : length (slotsOf q times line) ≡ 0 = ap length e in
           let b : length (slotsOf q times line) ≡ suc (length (slotsOf (r .queue) times out)) = ap length (first g .list) in

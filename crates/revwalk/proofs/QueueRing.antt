@@ -13,7 +13,7 @@ use Rattle.revwalk.specs.declared.queue.Queue.{Queue}
 use Rattle.revwalk.specs.Order.{at, never, insertBy, sortAt, In}
 use Rattle.hashtable.specs.Table.{wrap}
 use Rattle.hashtable.proofs.TableProbe as TableProbe
-use Rattle.revwalk.specs.Queue.{Joins, Pushes, PutsBack, Pops, ringAt, slotsOf}
+use Rattle.revwalk.specs.Queue.{Joins, Pushes, PutsBack, Pops, placeOf, ringAt, slotsOf}
 use Rattle.revwalk.proofs.QueueSorts.{sort-agree}
 use Rattle.revwalk.proofs.QueueMoves.{set-at, set-off}
 use Rattle.revwalk.proofs.QueueRoom.{slots-end, slots-front, slots-tail}
@@ -182,6 +182,7 @@ module _ (q : Queue) (times : List ℤ) (line : List ℕ) (e : q .timed ≡ fals
   pub pops : (p : ℕ) → (q .count ≡ 0 → ⊥) → q .head < q .cap → p ≡ wrap (q .cap) (q .head + 1) → p < q .cap → Pops q times line line (record { found = true; slot = at line (q .head); queue = record { timed = q .timed; newest = q .newest; cap = q .cap; head = p; count = q .count - 1; next = q .next } })
   pops p some hh is hp =
       pops-first refl (λ k h. refl) (record { timed = refl; newest = refl; cap = refl }) refl refl
+      (sym (ap (λ (f : ℕ → ℕ). f 0) (place-ring q line e) ∙ ap (at line) (wrap-self (q .cap) (q .head) hh)))
       (λ g.
       let size = g .ring e .size in
       let old : (k : ℕ) → k < q .count - 1 → f′ k ≡ f (suc k) = λ k h. ap (at line) (wrap-next (q .cap) (q .head) p k hh (omega arith) (sym is)) in
@@ -212,6 +213,14 @@ module _ (q : Queue) (times : List ℤ) (line : List ℕ) (e : q .timed ≡ fals
 
       more : q .count - 1 + 1 ≡ q .count
       more = omega arith
+
+-- ---- the first place of a ring
+module _ (q : Queue) (line : List ℕ) (e : q .timed ≡ false) where
+  pub first-low : q .head < q .cap → at line (q .head) ≡ placeOf q line 0
+  first-low h = sym (ap (λ (f : ℕ → ℕ). f 0) (place-ring q line e) ∙ ap (at line) (wrap-self (q .cap) (q .head) h))
+
+  pub first-high : q .cap ≤ q .head → at line (q .head - q .cap) ≡ placeOf q line 0
+  first-high n = sym (ap (λ (f : ℕ → ℕ). f 0) (place-ring q line e) ∙ ap (at line) (wrap-high (q .cap) (q .head + 0) (omega arith) ∙ (let same : q .head + 0 ≡ q .head = omega arith in ap (λ (k : ℕ). k - q .cap) same)))
 
 -- ---- put_back, by time and otherwise
 pub pick-yes : {b : Bool} (x y : List ℕ) → b ≡ true → x ≡ cond b x y

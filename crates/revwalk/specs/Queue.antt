@@ -1,7 +1,7 @@
 -- The queue of slots: the list of those that wait, what is right of its memory, and what its functions do.
 use mathlib.Core.Path.{_≡_}
 use mathlib.Core.List.{List, [], _∷_}
-use mathlib.Core.Bool.{Bool, true, false, cond}
+use mathlib.Core.Bool.{Bool, true, false, cond, not}
 use Prim.Native.Nat.{ℕ, _+_, _-_, _≤_, _<_}
 use lib.ListN.{length}
 use lib.Dec.{ltb}
@@ -117,8 +117,18 @@ pub record Pops (q : Queue) (times : List ℤ) (line out : List ℕ) (r : Popped
   pub same : Alike q (r .queue)
   pub next : r .queue .next ≡ q .next
   pub still : r .found ≡ false → (r .queue ≡ q) × (out ≡ line)
+  pub first : r .found ≡ true → r .slot ≡ placeOf q line 0
   pub none : GoodQueue q times line → slotsOf q times line ≡ [] → r .found ≡ false
   pub some : GoodQueue q times line → (s : ℕ) (l : List ℕ) → slotsOf q times line ≡ s ∷ l → Took q times s l out r
+
+-- nothing is handed out
+abbrev pub nothing : Queue → Popped
+nothing q = record { found = false; slot = 0; queue = q }
+
+-- pop of a heap alone or of a ring alone, with its answer r: of a queue by time, or of one that is not, as b says; of the other nothing is handed out
+pub record PopsOf (b : Bool) (q : Queue) (times : List ℤ) (line out : List ℕ) (r : Popped) : Type 0 where
+  pub own : q .timed ≡ b → Pops q times line out r
+  pub other : q .timed ≡ not b → (r ≡ nothing q) × (out ≡ line)
 
 -- slot_at, with its answer r
 pub record ReadsSlot (q : Queue) (line : List ℕ) (i r : ℕ) : Type 0 where

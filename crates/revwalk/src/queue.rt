@@ -2,9 +2,9 @@
 // that each slot was queued under in line[cap..2 * cap); otherwise it is a ring in line[0..cap), first in, first out. A slot waits once.
 // The queue's numbers go in by value and come back; a call that refuses changes nothing.
 ghost use mathlib.Core.Path.{_≡_};
-ghost use Rattle.revwalk.specs.Queue.{Pushes, PutsBack, Pops, ReadsSlot};
+ghost use Rattle.revwalk.specs.Queue.{nothing, placeOf, Pushes, PutsBack, Pops, ReadsSlot};
 
-mod heap;
+pub mod heap;
 pub mod ring;
 
 pub struct Queue {
@@ -28,6 +28,17 @@ pub struct Popped {
     pub slot: u32,
     // The queue that is left.
     pub queue: Queue,
+}
+
+// The answer where nothing is handed out.
+fn none(q: Queue) -> Popped
+    ensures { λ r. ⌜ r ≡ nothing q ⌝ }
+{
+    Popped {
+        found: false,
+        slot: 0,
+        queue: q,
+    }
 }
 
 // Queues a slot that does not wait yet: after those that wait with the same seconds, or at the end.
@@ -61,6 +72,19 @@ pub fn pop(q: Queue, line: &mut [u32], times: &[i64]) -> Popped
     } else {
         ring::pop(q, line)
     }
+}
+
+// The slot at the queue's first place, which is the one that a pop hands out, if it hands out any.
+pub fn first(q: Queue, line: &[u32]) -> u32
+    ensures { λ r. ⌜ r ≡ placeOf q (now (line .entry)) 0 ⌝ }
+{
+    if q.timed {
+        return heap::slot_at(line, 0);
+    }
+    if q.head < q.cap {
+        return heap::slot_at(line, q.head);
+    }
+    heap::slot_at(line, q.head - q.cap)
 }
 
 // The slot at the i-th place of the queue's memory, to visit all that wait, in the order of their places.

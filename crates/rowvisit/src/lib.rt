@@ -2,11 +2,11 @@
 // gix_traverse::commit::simple that go by a row): its whole list is judged, and then each id goes from the file to the buffers. Every function is
 // total and safe on any bytes and numbers.
 mod ahead;
-mod breadth;
 mod numbers;
+mod plain;
 mod row;
 
-pub use breadth::PlainVisited;
-pub use breadth::visit_plain;
+pub use plain::PlainTaken;
+pub use plain::take_plain;
 pub use row::RowVisited;
 pub use row::visit_cached;

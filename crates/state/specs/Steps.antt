@@ -63,10 +63,15 @@ pub record Waits (r : Record) (times times′ : List ℤ) (line line′ : List �
   pub joined : (names marks : List ℕ) (sh : Shape) (st : State) (x : Id) → Reads r (mem names marks times line) sh st → r .failed ≡ false → NotWaiting r (mem names marks times line) sh x slot
       → sh .cap ≤ 4294967296 → r .admitted + 2 < 4294967296 → Reads r′ (mem names marks times′ line′) sh (joins (beforeOf sh) st x (cond (sh .timed) s (pos 0)))
 
--- lengthen_ring, with its answer a: in a queue that is not by time, and is not by time then either, the id in a slot waits, whatever its seconds
-pub record LengthensRing (w : Waiting) (line line′ : List ℕ) (slot : ℕ) (a : Waiting) : Type 0 where
-  pub untimed : w .queue .timed ≡ false → a .queue .timed ≡ false
-  pub waits : w .queue .timed ≡ false → (r : Record) (times : List ℤ) (s : ℤ) → Waits (waitingIn r w) times times line line′ slot s (waitingIn r a)
+-- lengthen_heap, with its answer a: in a queue by time the id in a slot waits with s seconds, in any other nothing is changed
+pub record LengthensHeap (w : Waiting) (times times′ : List ℤ) (line line′ : List ℕ) (slot : ℕ) (s : ℤ) (a : Waiting) : Type 0 where
+  pub own : w .queue .timed ≡ true → (r : Record) → Waits (waitingIn r w) times times′ line line′ slot s (waitingIn r a)
+  pub other : w .queue .timed ≡ false → (a ≡ w) × (times′ ≡ times) × (line′ ≡ line)
+
+-- lengthen_ring, with its answer a: in a queue that is not by time the id in a slot waits, whatever its seconds, in any other nothing is changed
+pub record LengthensRing (w : Waiting) (times : List ℤ) (line line′ : List ℕ) (slot : ℕ) (a : Waiting) : Type 0 where
+  pub own : w .queue .timed ≡ false → (r : Record) (s : ℤ) → Waits (waitingIn r w) times times line line′ slot s (waitingIn r a)
+  pub other : w .queue .timed ≡ true → (a ≡ w) × (line′ ≡ line)
 
 -- ---- pop
 

@@ -10,14 +10,13 @@ use hashtable::table::Slot;
 use object::ObjectId;
 use revwalk::queue;
 use revwalk::queue::Queue;
-use revwalk::queue::ring;
 ghost use mathlib.Core.Path.{_≡_};
 ghost use mathlib.Core.Bool.{cond};
 ghost use lib.ListN.{getD, set};
 ghost use lib.IntN.{pos};
 ghost use Rattle.state.specs.Shapes.{freshRecord, requeued, waitingIn};
 ghost use Rattle.state.specs.declared.Record.{Record};
-ghost use Rattle.state.specs.Steps.{Sees, Waits, LengthensRing, Pops, Drops, Starts};
+ghost use Rattle.state.specs.Steps.{Sees, Waits, LengthensHeap, LengthensRing, Pops, Drops, Starts};
 
 // What an opening finds in the files and fixes for all calls, so that no call finds it again: where the chunks of the commit-graph file stand;
 // and the kind of the ids that the walk's memory holds. (The order and the number of slots, which it fixes too, are the queue's own.)
@@ -167,7 +166,58 @@ pub fn with_waiting(r: Record, w: Waiting) -> Record
     with_queue(r, w.queue, r.kept, w.admitted)
 }
 
-// The seen id in a slot is admitted: it waits, by time with its seconds.
+// The seen id in a slot is admitted: it waits with its seconds, in a queue by time.
+pub fn lengthen_heap(
+    w: Waiting,
+    times: &mut [i64],
+    line: &mut [u32],
+    slot: usize,
+    s: Seconds,
+) -> Waiting
+    ensures { λ a. ⌜ LengthensHeap w (now (times .entry)) (now (times .exit)) (now (line .entry)) (now (line .exit)) slot (s .0) a ⌝ }
+{
+    let q = w.queue;
+    let admitted = w.admitted;
+    if !q.timed {
+        return w;
+    }
+    if MOST < slot {
+        return w;
+    }
+    if MOST < admitted {
+        return w;
+    }
+    revwalk::set_seconds(times, slot as u32, s);
+    let longer = queue::push(q, line, times, slot as u32);
+    Waiting {
+        queue: longer,
+        admitted: admitted + 1,
+    }
+}
+
+// The same in a queue that is not by time: no seconds are set down.
+pub fn lengthen_ring(w: Waiting, times: &[i64], line: &mut [u32], slot: usize) -> Waiting
+    ensures { λ a. ⌜ LengthensRing w (now (times .entry)) (now (line .entry)) (now (line .exit)) slot a ⌝ }
+{
+    let q = w.queue;
+    let admitted = w.admitted;
+    if q.timed {
+        return w;
+    }
+    if MOST < slot {
+        return w;
+    }
+    if MOST < admitted {
+        return w;
+    }
+    let longer = queue::push(q, line, times, slot as u32);
+    Waiting {
+        queue: longer,
+        admitted: admitted + 1,
+    }
+}
+
+// The same in any queue, in one piece: as a choice of the two above it would be compiled into the loops of the call by value, which then keep less in registers.
 pub fn lengthen(w: Waiting, times: &mut [i64], line: &mut [u32], slot: usize, s: Seconds) -> Waiting
     ensures { λ a. ⌜ ((r : Record) → Waits (waitingIn r w) (now (times .entry)) (now (times .exit)) (now (line .entry)) (now (line .exit)) slot (s .0) (waitingIn r a)) ⌝ }
 {
@@ -181,24 +231,6 @@ pub fn lengthen(w: Waiting, times: &mut [i64], line: &mut [u32], slot: usize, s:
     }
     set_time(q.timed, times, slot as u32, s);
     let longer = queue::push(q, line, times, slot as u32);
-    Waiting {
-        queue: longer,
-        admitted: admitted + 1,
-    }
-}
-
-// The same in a queue that is not by time: no seconds are set down.
-pub fn lengthen_ring(w: Waiting, line: &mut [u32], slot: usize) -> Waiting
-    ensures { λ a. ⌜ LengthensRing w (now (line .entry)) (now (line .exit)) slot a ⌝ }
-{
-    let admitted = w.admitted;
-    if MOST < slot {
-        return w;
-    }
-    if MOST < admitted {
-        return w;
-    }
-    let longer = ring::push(w.queue, line, slot as u32);
     Waiting {
         queue: longer,
         admitted: admitted + 1,

@@ -3,5 +3,7 @@
 mod next;
 
 pub use next::Taken;
+pub use next::end_body;
 pub use next::next_by_topology_or_commit_date;
 pub use next::noted;
+pub use next::time_given;

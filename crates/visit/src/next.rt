@@ -106,7 +106,7 @@ fn refuse(why: Refusal, parents: usize, r: Record, w: Waiting) -> Taken
 }
 
 // The seconds that a commit was queued with, in a queue by time.
-fn time_given(timed: bool, s: Seconds) -> MaybeSeconds
+pub fn time_given(timed: bool, s: Seconds) -> MaybeSeconds
     ensures { λ a. ⌜ a ≡ timeGiven timed s ⌝ }
 {
     if timed {
@@ -141,7 +141,7 @@ fn give_row(
 }
 
 // The answer after the parents of a body, with the zone of its committer line, which is read past all parents.
-fn end_body(
+pub fn end_body(
     kind: Kind,
     r: Record,
     seen: BodyVisited,

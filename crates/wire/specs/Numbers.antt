@@ -7,7 +7,7 @@ use lib.ListN.{set}
 use lib.Dec.{eqb}
 use lib.IntN.{ℤ}
 use Rattle.hash.specs.Bytes.{Id, setDown}
-use Rattle.date.specs.declared.Zone.the-variants.{NoZone}
+use Rattle.date.specs.declared.Zone.{Zone}
 use Rattle.walk.specs.declared.Settings.{Settings}
 use Rattle.walk.specs.declared.Sorting.{Sorting}
 use Rattle.walk.specs.declared.Sorting.the-variants.{BreadthFirst, ByCommitTime, ByCommitTimeCutoff}
@@ -17,7 +17,7 @@ use Rattle.walk.specs.declared.Parents.{Parents}
 use Rattle.walk.specs.declared.Parents.the-variants.{All, First}
 use Rattle.walk.specs.declared.OpenAnswer.{OpenAnswer}
 use Rattle.walk.specs.declared.MaybeLevel.{MaybeLevel}
-use Rattle.walk.specs.declared.MaybeSeconds.the-variants.{NoTime}
+use Rattle.walk.specs.declared.MaybeSeconds.{MaybeSeconds}
 use Rattle.walk.specs.declared.Outcome.the-variants.{Commit}
 use Rattle.walk.specs.Given.{Given, outcomeNumber, openNumber, secondsValue, zoneValue}
 use Rattle.object.specs.Ids.{idIn, padded}
@@ -55,11 +55,11 @@ pub record PutsAnswer (w : ℕ) (a : Given) (id id′ numbers numbers′ : List 
   pub numbers-are : numbers′ ≡ setDown numbers 0 (answerWords a)
   pub seconds-are : seconds′ ≡ set (set seconds 0 (secondsValue (a .info .time))) 1 (zoneValue (a .info .zone))
 
--- the answer of a commit x from its row, in an order that is not by time: no seconds and no zone are read
-abbrev pub rowGiven : Id → ℕ → MaybeLevel → ℕ → ℕ → ℕ → Given
-rowGiven x parents g admitted struck waiting = record {
+-- the answer of a commit x that is handed out
+abbrev pub commitGiven : Id → ℕ → MaybeLevel → MaybeSeconds → Zone → ℕ → ℕ → ℕ → Given
+commitGiven x parents g t z admitted struck waiting = record {
   outcome = Commit;
-  info = record { id = padded x; parents = parents; generation = g; time = NoTime; zone = NoZone };
+  info = record { id = padded x; parents = parents; generation = g; time = t; zone = z };
   admitted = admitted;
   struck = struck;
   waiting = waiting;

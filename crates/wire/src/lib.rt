@@ -24,9 +24,10 @@ ghost use mathlib.Core.Bool.{true};
 ghost use lib.ListN.{getD, set, length};
 ghost use lib.Dec.{eqb};
 ghost use Rattle.hash.specs.Bytes.{widthOf, setDown};
+ghost use Rattle.object.specs.Ids.{idIn, padded};
 ghost use Rattle.walk.specs.Given.{outcomeNumber, openNumber, levelValue, secondsValue, zoneValue};
 ghost use Rattle.wire.specs.Words.{kindOf, widthWord, bitOf, wordsOf, recordOf, recordWords, queueOf, fixedIn, Encodes, PutsRecord, PutsWaiting, answerWords, hasLevel, hasSeconds, hasZone, roomToOpen, roomToCall};
-ghost use Rattle.wire.specs.Numbers.{timeOrder, sortingOf, parentsOf, settingsOf, PutsOpenAnswer, PutsAnswer, rowGiven};
+ghost use Rattle.wire.specs.Numbers.{timeOrder, sortingOf, parentsOf, settingsOf, PutsOpenAnswer, PutsAnswer, commitGiven};
 
 // How many words a record has.
 const RECORD_WORDS: usize = 20;
@@ -503,13 +504,26 @@ pub fn put_answer(
     call_number(o)
 }
 
-// The answer of a commit from its graph file's row, in an order that is not by time: it has no seconds and no zone, and no value of an
-// answer is made for it.
-pub fn put_row(
+// The id in the value of some bytes, set down at the start of a slice, where it fits. Bytes of the kind's width are that id: no value is made of them.
+fn put_id(kind: Kind, x: &[u8], id: &mut [u8])
+    ensures { λ r. ⌜ now (id .exit) ≡ setDown (now (id .entry)) 0 (idIn (widthOf kind) (padded (now (x .entry)))) ⌝ }
+{
+    if x.len() == hash::width(kind) {
+        hash::set_down(id, 0, x);
+        return;
+    }
+    let whole = object::id_of(x);
+    hash::set_down(id, 0, object::id_slice(kind, &whole.bytes));
+}
+
+// The answer of a commit that is handed out, from what it is made of: no value of an answer is made for it.
+pub fn put_commit(
     kind: Kind,
     x: &[u8],
     parents: usize,
     g: MaybeLevel,
+    t: MaybeSeconds,
+    z: Zone,
     admitted: usize,
     struck: usize,
     waiting: usize,
@@ -517,7 +531,7 @@ pub fn put_row(
     numbers: &mut [u64],
     seconds: &mut [i64],
 )
-    ensures { λ r. ⌜ (length (now (x .entry)) ≡ widthOf kind → PutsAnswer (widthOf kind) (rowGiven (now (x .entry)) parents g admitted struck waiting) (now (id .entry)) (now (id .exit)) (now (numbers .entry)) (now (numbers .exit)) (now (seconds .entry)) (now (seconds .exit)) 0) ⌝ }
+    ensures { λ r. ⌜ PutsAnswer (widthOf kind) (commitGiven (now (x .entry)) parents g t z admitted struck waiting) (now (id .entry)) (now (id .exit)) (now (numbers .entry)) (now (numbers .exit)) (now (seconds .entry)) (now (seconds .exit)) 0 ⌝ }
 {
     let w = [
         long(admitted),
@@ -526,11 +540,12 @@ pub fn put_row(
         long(parents),
         has_level(g),
         level_value(g),
-        0,
-        0,
+        has_seconds(t),
+        has_zone(z),
     ];
     put(numbers, &w);
-    hash::set_down(id, 0, x);
-    put_seconds(0, seconds);
-    put_zone(0, seconds);
+    put_id(kind, x, id);
+    let s = seconds_value(t);
+    put_seconds(s.0, seconds);
+    put_zone(zone_value(z), seconds);
 }

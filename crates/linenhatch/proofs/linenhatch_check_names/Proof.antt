@@ -14,22 +14,22 @@ returns : tie.Need-returns
 returns c = record { no-room = λ e. (refl, refl); result = λ f. absurd (f (c .if1 .taken)); numbers-are = λ f. absurd (f (c .if1 .taken)) }
 
 kind-of-requires : tie.Need-kind-of-requires
-kind-of-requires c κs = search needs
+kind-of-requires c κs = tt
 
 check-names-requires : tie.Need-check-names-requires
-check-names-requires c κs = search needs
+check-names-requires c κs = tt
 
 slice-aggregate-put : tie.Need-slice-aggregate-put
 slice-aggregate-put c = search needs
 
 put-requires : tie.Need-put-requires
-put-requires c κs = search needs
+put-requires c κs = tt
 
 number-requires : tie.Need-number-requires
-number-requires c κs = search needs
+number-requires c κs = tt
 
 same-length : tie.Need-same-length
-same-length c = search needs
+same-length c = c .before .before .before .put .kept .0
 
 returns-2 : tie.Need-returns-2
 returns-2 c = let x = c .before .before .before .before .before .before .before .before .before .before .before .before .args in

@@ -5,9 +5,10 @@ ghost use Prim.Native.Nat.{_<_, _≤_};
 ghost use lib.ListN.{length};
 ghost use Rattle.revwalk.specs.Order.{at, seqOf, sooner, ahead, goes};
 ghost use Rattle.revwalk.specs.Sift.{Rose, Chosen, Sank};
-ghost use Rattle.revwalk.specs.Queue.{Unrooted, Pushes, Pops};
+ghost use Rattle.revwalk.specs.Queue.{Unrooted, Pushes, PopsOf};
 use super::Popped;
 use super::Queue;
+use super::none;
 use crate::seconds_of;
 use date::Seconds;
 
@@ -161,37 +162,32 @@ fn take_root(line: &mut [u32], times: &[i64], cap: usize, newest: bool, m: usize
     sift_up(line, times, cap, newest, hole, last);
 }
 
-// Hands out the slot at the root.
-pub(super) fn pop(q: Queue, line: &mut [u32], times: &[i64]) -> Popped
-    requires { ⌜ q .timed ≡ true ⌝ }
-    ensures { λ r. ⌜ Pops q (now (times .entry)) (now (line .entry)) (now (line .exit)) r ⌝ }
+// Hands out the slot at the root, of a queue by time.
+pub fn pop(q: Queue, line: &mut [u32], times: &[i64]) -> Popped
+    ensures { λ r. ⌜ PopsOf true q (now (times .entry)) (now (line .entry)) (now (line .exit)) r ⌝ }
 {
     let cap = q.cap;
     let n = q.count;
+    if !q.timed {
+        return none(q);
+    }
     if line.len() / 2 < cap {
-        return Popped {
-            found: false,
-            slot: 0,
-            queue: q,
-        };
+        return none(q);
     }
     if cap < n {
-        return Popped {
-            found: false,
-            slot: 0,
-            queue: q,
-        };
+        return none(q);
     }
     if n == 0 {
-        return Popped {
-            found: false,
-            slot: 0,
-            queue: q,
-        };
+        return none(q);
     }
     let top = line[0];
     let m = n - 1;
-    take_root(line, times, cap, q.newest, m);
+    // two calls, so that the compiler leaves it a function of its own, and this one is small enough to stand in its callers
+    if q.newest {
+        take_root(line, times, cap, true, m);
+    } else {
+        take_root(line, times, cap, false, m);
+    }
     let mut rest = q;
     rest.count = m;
     Popped {

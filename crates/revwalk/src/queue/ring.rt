@@ -5,9 +5,10 @@ ghost use mathlib.Core.Bool.{false};
 ghost use Prim.Native.Nat.{_+_, _<_, _≤_};
 ghost use lib.IntN.{ℤ};
 ghost use Rattle.hashtable.specs.Table.{wrap};
-ghost use Rattle.revwalk.specs.Queue.{ringAt, Pushes, PutsBack, Pops};
+ghost use Rattle.revwalk.specs.Queue.{ringAt, Pushes, PutsBack, PopsOf};
 use super::Popped;
 use super::Queue;
+use super::none;
 
 // The place that is i places after head.
 fn place(cap: usize, head: usize, i: usize) -> usize
@@ -18,9 +19,10 @@ fn place(cap: usize, head: usize, i: usize) -> usize
     if i < rest { head + i } else { i - rest }
 }
 
-// Queues a slot at the end, in a queue that is not by time.
-pub fn push(q: Queue, line: &mut [u32], slot: u32) -> Queue
-    ensures { λ r. ⌜ (q .timed ≡ false → (times : List ℤ) → Pushes q times slot (now (line .entry)) (now (line .exit)) r) ⌝ }
+// Queues a slot at the end.
+pub(super) fn push(q: Queue, line: &mut [u32], slot: u32) -> Queue
+    requires { ⌜ q .timed ≡ false ⌝ }
+    ensures { λ r. ⌜ ((times : List ℤ) → Pushes q times slot (now (line .entry)) (now (line .exit)) r) ⌝ }
 {
     let cap = q.cap;
     let head = q.head;
@@ -67,33 +69,24 @@ pub(super) fn put_front(q: Queue, line: &mut [u32], slot: u32) -> Queue
     grown
 }
 
-// Hands out the slot at head, in a queue that is not by time.
+// Hands out the slot at head, of a queue that is not by time.
 pub fn pop(q: Queue, line: &[u32]) -> Popped
-    ensures { λ r. ⌜ (q .timed ≡ false → (times : List ℤ) → Pops q times (now (line .entry)) (now (line .entry)) r) ⌝ }
+    ensures { λ r. ⌜ ((times : List ℤ) → PopsOf false q times (now (line .entry)) (now (line .entry)) r) ⌝ }
 {
     let cap = q.cap;
     let head = q.head;
     let n = q.count;
+    if q.timed {
+        return none(q);
+    }
     if line.len() / 2 < cap {
-        return Popped {
-            found: false,
-            slot: 0,
-            queue: q,
-        };
+        return none(q);
     }
     if n == 0 {
-        return Popped {
-            found: false,
-            slot: 0,
-            queue: q,
-        };
+        return none(q);
     }
     if cap <= head {
-        return Popped {
-            found: false,
-            slot: 0,
-            queue: q,
-        };
+        return none(q);
     }
     let p = place(cap, head, 1);
     let slot = line[head];

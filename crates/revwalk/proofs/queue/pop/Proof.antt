@@ -13,13 +13,13 @@ same-length : tie.Need-same-length
 same-length c = search needs
 
 returns : tie.Need-returns
-returns c = search needs
+returns c = c .before .before .pop .ensures .own (c .before .before .before .before .if1 .taken)
 
 same-length-2 : tie.Need-same-length-2
 same-length-2 c = search needs
 
 returns-2 : tie.Need-returns-2
-returns-2 c = c .pop2 .ensures (c .before .before .if1 .left) (c .before .before .before .before .args .times .now)
+returns-2 c = c .pop2 .ensures (c .before .before .before .before .args .times .now) .own (c .before .before .if1 .left)
 
 pub pop-spec : {M : Type 1} → statement M
 pop-spec =

@@ -19,7 +19,7 @@ same-length-2 : tie.Need-same-length-2
 same-length-2 c = search needs
 
 returns-2 : tie.Need-returns-2
-returns-2 c = c .before .before .push2 .ensures (c .before .before .before .before .if1 .left) (c .before .before .before .before .before .before .args .times .now)
+returns-2 c = c .before .before .push2 .ensures (c .before .before .before .before .before .before .args .times .now)
 
 pub push-spec : {M : Type 1} → statement M
 push-spec =

@@ -3,7 +3,7 @@ use Rattle.hash.specs.Bytes.{widthOf}
 use Rattle.commitgraph.specs.Graph.{parentsIn}
 use Rattle.reading.specs.Row.{levelOf}
 use Rattle.reading.proofs.Rows.{row-read}
-use Rattle.rowvisit.proofs.Plain.{plain-list, level-told}
+use Rattle.rowvisit.proofs.PlainLists.{plain-list, level-told}
 use borrow.Author.Needs.{needs}
 use Rattle.rowvisit.proofs.numbers.collect_parents.Statement.{statement}
 use Rattle.rowvisit.proofs.numbers.collect_parents.Tie as tie

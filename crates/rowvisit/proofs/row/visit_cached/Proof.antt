@@ -2,7 +2,7 @@
 -- Assumes nothing.
 use mathlib.Core.Path.{_∙_}
 use borrow.Author.Needs.{needs}
-use Rattle.rowvisit.proofs.Plain.{numbers-read, third-read}
+use Rattle.rowvisit.proofs.PlainLists.{numbers-read, third-read}
 use Rattle.rowvisit.proofs.Rows.{judged-good, judged-corrupt}
 use Rattle.rowvisit.proofs.row.visit_cached.Statement.{statement}
 use Rattle.rowvisit.proofs.row.visit_cached.Tie as tie

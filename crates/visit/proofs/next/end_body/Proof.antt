@@ -10,34 +10,33 @@ use Rattle.object.specs.Ids.{idIn}
 use Rattle.state.specs.Shapes.{waitingIn}
 use Rattle.date.specs.declared.Zone.the-variants.{NoZone}
 use Rattle.visit.proofs.Past.{unreadable-not-whole, crowded-not-whole}
-use borrow.Author.Needs.{needs}
 use Rattle.visit.proofs.next.end_body.Statement.{statement}
 use Rattle.visit.proofs.next.end_body.Tie as tie
 use Rattle.hash.specs.Bytes.{widthOf}
 
 enum-told : tie.Need-enum-told
-enum-told c = search needs
+enum-told c = c .match .keys1
 
 id-given-requires : tie.Need-id-given-requires
-id-given-requires c κs = search needs
+id-given-requires c κs = tt
 
 zone-past-requires : tie.Need-zone-past-requires
-zone-past-requires c κs = search needs
+zone-past-requires c κs = tt
 
 give-requires : tie.Need-give-requires
-give-requires c κs = search needs
+give-requires c κs = tt
 
 enum-told-2 : tie.Need-enum-told-2
-enum-told-2 c = search needs
+enum-told-2 c = c .match .keys2
 
 refuse-requires : tie.Need-refuse-requires
-refuse-requires c κs = search needs
+refuse-requires c κs = tt
 
 enum-told-3 : tie.Need-enum-told-3
-enum-told-3 c = search needs
+enum-told-3 c = c .match .keys3
 
 refuse-requires-2 : tie.Need-refuse-requires-2
-refuse-requires-2 c κs = search needs
+refuse-requires-2 c κs = tt
 
 returns : tie.Need-returns
 returns c =

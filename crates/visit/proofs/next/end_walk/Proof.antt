@@ -6,15 +6,14 @@ use Rattle.walk.specs.declared.MaybeSeconds.the-variants.{NoTime}
 use Rattle.walk.specs.Given.{noId}
 use Rattle.date.specs.declared.Zone.the-variants.{NoZone}
 use Rattle.visit.specs.Taking.{gave}
-use borrow.Author.Needs.{needs}
 use Rattle.visit.proofs.next.end_walk.Statement.{statement}
 use Rattle.visit.proofs.next.end_walk.Tie as tie
 
 waiting-of-requires : tie.Need-waiting-of-requires
-waiting-of-requires c κs = search needs
+waiting-of-requires c κs = tt
 
 give-requires : tie.Need-give-requires
-give-requires c κs = search needs
+give-requires c κs = tt
 
 returns : tie.Need-returns
 returns c = c .give .ensures ∙ ap (gave End noId 0 NoGeneration NoTime NoZone) (c .before .waiting-of .ensures)

@@ -1,10 +1,9 @@
 -- `visit::next::give` meets its contract: the record after is the one with these that wait, and its numbers are the answer's. Assumes nothing.
-use borrow.Author.Needs.{needs}
 use Rattle.visit.proofs.next.give.Statement.{statement}
 use Rattle.visit.proofs.next.give.Tie as tie
 
 with-waiting-requires : tie.Need-with-waiting-requires
-with-waiting-requires c κs = search needs
+with-waiting-requires c κs = tt
 
 returns : tie.Need-returns
 returns c = rw (c .with-waiting .ensures)

@@ -1,15 +1,14 @@
 -- `visit::next::id_given` meets its contract: the id in front of the value, with zeros after it. Assumes nothing.
 use mathlib.Core.Path.{ap, _∙_}
 use Rattle.object.specs.Ids.{padded}
-use borrow.Author.Needs.{needs}
 use Rattle.visit.proofs.next.id_given.Statement.{statement}
 use Rattle.visit.proofs.next.id_given.Tie as tie
 
 id-slice-requires : tie.Need-id-slice-requires
-id-slice-requires c κs = search needs
+id-slice-requires c κs = tt
 
 id-of-requires : tie.Need-id-of-requires
-id-of-requires c κs = search needs
+id-of-requires c κs = tt
 
 returns : tie.Need-returns
 returns c = c .id-of .ensures ∙ ap padded (c .before .id-slice .ensures)

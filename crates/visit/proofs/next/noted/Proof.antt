@@ -8,7 +8,7 @@ use Rattle.visit.proofs.next.noted.Statement.{statement}
 use Rattle.visit.proofs.next.noted.Tie as tie
 
 wide-requires : tie.Need-wide-requires
-wide-requires c κs = search needs
+wide-requires c κs = tt
 
 mul-place-noted : tie.Need-mul-place-noted
 mul-place-noted c = search needs
@@ -17,10 +17,10 @@ shared-slice-read-place-noted : tie.Need-shared-slice-read-place-noted
 shared-slice-read-place-noted c = search needs
 
 place-noted-requires : tie.Need-place-noted-requires
-place-noted-requires c κs = search needs
+place-noted-requires c κs = tt
 
 place-noted-requires-2 : tie.Need-place-noted-requires-2
-place-noted-requires-2 c κs = search needs
+place-noted-requires-2 c κs = tt
 
 returns : tie.Need-returns
 returns c = c .place-noted .ensures ∙ ap (λ (i : ℕ). (getD (c .before .before .before .before .before .args .levels .now) i 0 + 4294967295) % 4294967296) (c .before .before .before .wide .ensures)

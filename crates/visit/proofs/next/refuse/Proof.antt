@@ -1,10 +1,9 @@
 -- `visit::next::refuse` meets its contract: an id of zeros is no id. Assumes nothing.
-use borrow.Author.Needs.{needs}
 use Rattle.visit.proofs.next.refuse.Statement.{statement}
 use Rattle.visit.proofs.next.refuse.Tie as tie
 
 give-requires : tie.Need-give-requires
-give-requires c κs = search needs
+give-requires c κs = tt
 
 returns : tie.Need-returns
 returns c = c .give .ensures

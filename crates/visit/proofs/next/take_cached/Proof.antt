@@ -10,25 +10,25 @@ use Rattle.visit.proofs.next.take_cached.Statement.{statement}
 use Rattle.visit.proofs.next.take_cached.Tie as tie
 
 visit-cached-requires : tie.Need-visit-cached-requires
-visit-cached-requires c κs = search needs
+visit-cached-requires c κs = tt
 
 enum-known-after : tie.Need-enum-known-after
-enum-known-after c = search needs
+enum-known-after c = c .match .keys1
 
 give-row-requires : tie.Need-give-row-requires
-give-row-requires c κs = search needs
+give-row-requires c κs = tt
 
 enum-told : tie.Need-enum-told
-enum-told c = search needs
+enum-told c = c .match .keys2
 
 with-waiting-requires : tie.Need-with-waiting-requires
-with-waiting-requires c κs = search needs
+with-waiting-requires c κs = tt
 
 drop-graph-requires : tie.Need-drop-graph-requires
-drop-graph-requires c κs = search needs
+drop-graph-requires c κs = tt
 
 take-stored-requires : tie.Need-take-stored-requires
-take-stored-requires c κs = search needs
+take-stored-requires c κs = tt
 
 same-length : tie.Need-same-length
 same-length c = c .before .before .before .before .before .before .before .before .before .before .before .before .before .before .before .visit-cached .kept .1 .1 .1 .1 .1 .0

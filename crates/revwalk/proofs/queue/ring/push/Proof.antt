@@ -7,13 +7,13 @@ use Rattle.revwalk.proofs.queue.ring.push.Statement.{statement}
 use Rattle.revwalk.proofs.queue.ring.push.Tie as tie
 
 returns : tie.Need-returns
-returns c = λ f times. refused (λ g s a n. omega (arith, good-room g))
+returns c = λ times. refused (λ g s f n. omega (arith, good-room g))
 
 returns-2 : tie.Need-returns-2
-returns-2 c = λ f times. refused (λ g s a n. omega (arith, good-left g _ s a))
+returns-2 c = λ times. refused (λ g s f n. omega (arith, good-left g _ s f))
 
 returns-3 : tie.Need-returns-3
-returns-3 c = λ f times. refused (λ g s a n. omega (arith, g .ring f .start (omega arith)))
+returns-3 c = λ times. refused (λ g s f n. omega (arith, g .ring (c .before .before .before .before .pre) .start (omega arith)))
 
 place-requires : tie.Need-place-requires
 place-requires c κs = search needs
@@ -31,7 +31,7 @@ same-length : tie.Need-same-length
 same-length c = search needs
 
 returns-4 : tie.Need-returns-4
-returns-4 c = let s = c .before .before .before .before .before in λ f times. pushes (s .args .q) times (s .args .line .now) f _ _ (c .before .before .before .if1 .left) (c .before .before .if2 .left) (c .before .if3 .left) (c .place .ensures .1) (c .place .ensures .0)
+returns-4 c = let s = c .before .before .before .before .before in λ times. pushes (s .args .q) times (s .args .line .now) (s .pre) _ _ (c .before .before .before .if1 .left) (c .before .before .if2 .left) (c .before .if3 .left) (c .place .ensures .1) (c .place .ensures .0)
 
 pub push-spec : {M : Type 1} → statement M
 push-spec =
