@@ -1,5 +1,7 @@
 // The bytes of a line that names a person (gix_actor::SignatureRef): the email, the seconds and the zone. Functions on the bytes between the
 // line's word and its newline, total on every input.
+#![tactic(auto)]
+
 ghost use Rattle.std.specs.Prelude.{◌≡◌, ◌+◌, ◌-◌, ◌<◌, ◌≤◌, length, drop, pos, neg_ℤ};
 ghost use Rattle.actor.specs.Person.{
   first_of,
@@ -26,28 +28,28 @@ use date::{Seconds, Stamp, Zone};
 use hash::{byte_at, part};
 
 // A place of a byte.
-#[derive(Drop)]
+#[derive(Clone, Copy)]
 pub enum Spot {
     At(usize),
     Missing,
 }
 
 // A number that was read.
-#[derive(Drop)]
+#[derive(Clone, Copy)]
 enum Number {
     Good(u64),
     Bad,
 }
 
 // The seconds of a committer line's bytes; also what definitions say of whoever wants no more than them.
-#[derive(Drop)]
+#[derive(Clone, Copy)]
 pub enum SecondsRead {
     Good(Seconds),
     Bad,
 }
 
 // The seconds and the zone of a committer line that was read.
-#[derive(Drop)]
+#[derive(Clone, Copy)]
 pub enum StampRead {
     Good(Stamp),
     Bad,

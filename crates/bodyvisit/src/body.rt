@@ -14,7 +14,7 @@ use state::{Record, Waiting};
 use walk::Settings;
 
 // The parents of a body that were visited, how many they are, and how its reading ended.
-#[derive(Drop)]
+#[derive(Clone, Copy)]
 pub struct BodyVisited {
     pub after: Waiting,
     pub parents: usize,

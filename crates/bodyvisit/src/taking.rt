@@ -18,7 +18,7 @@ use state::{Record, Waiting};
 use walk::Settings;
 
 // The first of the queue was taken, with the seconds of its slot, and the parents of its body visited; or nothing waits, and nothing was changed.
-#[derive(Drop)]
+#[derive(Clone, Copy)]
 pub struct BodyTaken {
     pub found: bool,
     pub seconds: Seconds,

@@ -1,5 +1,7 @@
 // The calendar in UTC and the terms of a school (document 02, card 9). A term is lent as two months, its first and its last, counted from
 // January 1970; a list of terms as its months one after the other. Every public function is total on any numbers.
+#![tactic(auto)]
+
 pub mod months;
 
 ghost use Rattle.std.specs.Prelude.{◌≡◌, true, not, ◌+◌, ◌*◌, ◌/◌, ◌≤◌, ◌<◌, length, get_or, leb};

@@ -1,4 +1,6 @@
 // What the two files say of a commit (gix_traverse::commit): `find`, the commit-graph file before the commit store.
+#![tactic(auto)]
+
 ghost use Rattle.std.specs.Prelude.{◌≡◌};
 ghost use Rattle.hash.specs.Bytes.{width_of};
 ghost use Rattle.commit.specs.Find.{in_graph, in_store, FindsCommit, from_to, part_in_graph, part_in_store, part_of};
@@ -9,7 +11,7 @@ use hash::Kind;
 use odb::Located;
 
 // The commit-graph file, where one is used: where its chunks stand. (In the Rust an Option of the file.)
-#[derive(Drop)]
+#[derive(Clone, Copy)]
 pub enum Cache {
     Graph(Layout),
     NoGraph,
@@ -18,7 +20,7 @@ pub enum Cache {
 // Which file has a commit, and where: the position of its row in the commit-graph file, and the row's bytes; or the bytes of its body in
 // the commit store. Bytes are told by the first and the one after the last. (The Rust holds the references themselves; `part_of_graph`,
 // `part_of_store` and `part` give them.)
-#[derive(Drop)]
+#[derive(Clone, Copy)]
 pub enum Either {
     CachedCommit {
         position: usize,

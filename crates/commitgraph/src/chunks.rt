@@ -18,7 +18,7 @@ const COMMIT_DATA: u32 = 0x43444154;
 const EXTRA_EDGES: u32 = 0x45444745;
 
 // Where a chunk stands.
-#[derive(Drop)]
+#[derive(Clone, Copy)]
 struct Chunk {
     start: usize,
     size: usize,

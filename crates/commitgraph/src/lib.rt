@@ -1,4 +1,6 @@
 // The commit-graph file (gix_commitgraph).
+#![tactic(auto)]
+
 mod chunks;
 pub mod parents;
 pub mod rows;
@@ -6,7 +8,7 @@ pub mod rows;
 pub use chunks::{count, has_header, is_good, parse};
 
 // What is found of a file once: the starts of OIDF, OIDL, CDAT and EDGE, the number of u32s in EDGE, N, and whether its levels are used.
-#[derive(Drop)]
+#[derive(Clone, Copy)]
 pub struct Layout {
     pub fan: usize,
     pub ids: usize,
@@ -18,5 +20,5 @@ pub struct Layout {
 }
 
 // Document 01's level. Compared only with levels, never with seconds.
-#[derive(Drop)]
+#[derive(Clone, Copy)]
 pub struct Level(pub u32);

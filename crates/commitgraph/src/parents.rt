@@ -7,7 +7,7 @@ use crate::{Layout, rows};
 use hash::Kind;
 
 // What a row's parent list is: so many positions, each below N, or corrupt.
-#[derive(Drop)]
+#[derive(Clone, Copy)]
 pub enum ParentList {
     Good(usize),
     Corrupt,

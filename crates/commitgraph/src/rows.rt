@@ -10,7 +10,7 @@ use hash::Kind;
 use idlist::Found;
 
 // Where an id stands among those of the file.
-#[derive(Drop)]
+#[derive(Clone, Copy)]
 pub enum Position {
     At(usize),
     Absent,

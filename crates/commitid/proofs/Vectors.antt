@@ -6,7 +6,7 @@ use mathlib.Core.List.{List, [], ◌∷◌}
 use Rattle.hash.specs.Bytes.{at, u32_at}
 use Rattle.hash.specs.declared.Kind.TheVariants.{Sha1, Sha256}
 use Rattle.digest.specs.Blocks.{times, made, bit_length, padding, padded, words_of, block_count, block_words, digest}
-use Rattle.sha1.specs.Sha1.{word1, mix1, constant1, round1, compress1, sha1}
+use Rattle.sha1_hash.specs.Sha1.{word1, mix1, constant1, round1, compress1, sha1}
 use Rattle.sha256.specs.Sha256.{constants256, word256, round256, compress256, sha256}
 use Rattle.commitid.specs.Name.{digest_of, digits_before, commit_header}
 

@@ -7,7 +7,7 @@ use Rattle.hash.specs.Bytes.{width_of}
 use Rattle.hash.specs.declared.Kind.{Kind}
 use Rattle.hash.specs.declared.Kind.TheVariants.{Sha1, Sha256}
 use Rattle.digest.specs.Blocks.{digest}
-use Rattle.sha1.specs.Sha1.{sha1}
+use Rattle.sha1_hash.specs.Sha1.{sha1}
 use Rattle.sha256.specs.Sha256.{sha256}
 use Rattle.commitid.specs.Name.{digest_of, commit_object, commit_id}
 

@@ -4,7 +4,7 @@ use Rattle.std.specs.Prelude.{ℕ, zero, suc, ◌+◌, ◌/◌, ◌%◌, List, [
 use Rattle.hash.specs.Bytes.{Id, pick}
 use Rattle.hash.specs.declared.Kind.{Kind}
 use Rattle.hash.specs.declared.Kind.TheVariants.{Sha1, Sha256}
-use Rattle.sha1.specs.Sha1.{sha1}
+use Rattle.sha1_hash.specs.Sha1.{sha1}
 use Rattle.sha256.specs.Sha256.{sha256}
 
 -- the digest of a kind

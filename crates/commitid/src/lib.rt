@@ -1,5 +1,7 @@
 // Digests by the kind of a repository's ids, and the id of a commit, which is the digest of its body behind a short header (gix_object::compute_hash).
 // Bodies are read where they lie. Every public function is total.
+#![tactic(auto)]
+
 ghost use Rattle.std.specs.Prelude.{◌≡◌, ◌++◌, ◌+◌, ◌%◌, ◌≤◌, length, drop};
 ghost use Rattle.hash.specs.Bytes.{eq_id, set_down};
 ghost use Rattle.commitid.specs.Name.{digest_of, commit_header, commit_object, commit_id};
@@ -11,7 +13,7 @@ pub fn is_digest(kind: Kind, head: &[u8], body: &[u8], id: &[u8]) -> bool
     ensures { result ≡ eq_id (digest_of kind (head.now ++ body.now)) id.now }
 {
     match kind {
-        Kind::Sha1 => hash::same(&sha1::sha1_of(head, body), id),
+        Kind::Sha1 => hash::same(&sha1_hash::sha1_of(head, body), id),
         Kind::Sha256 => hash::same(&sha256::sha256_of(head, body), id),
     }
 }
@@ -21,7 +23,7 @@ pub fn set_digest(kind: Kind, head: &[u8], body: &[u8], out: &mut [u8], i: usize
     ensures { out.new ≡ set_down out.old i (digest_of kind (head.now ++ body.now)) }
 {
     match kind {
-        Kind::Sha1 => hash::set_down(out, i, &sha1::sha1_of(head, body)),
+        Kind::Sha1 => hash::set_down(out, i, &sha1_hash::sha1_of(head, body)),
         Kind::Sha256 => hash::set_down(out, i, &sha256::sha256_of(head, body)),
     }
 }

@@ -1,6 +1,8 @@
 // The header lines of one commit one by one, as gix_object::CommitRefIter gives them: a struct of the commit's body, a place in it and the
 // id kind. The place says which line may stand there, so that only tree, parents, author and committer in this order are good. The
 // functions over the struct are thin; above them stand functions with plain parameters, for whoever reads a commit.
+#![tactic(auto)]
+
 ghost use Rattle.std.specs.Prelude.{ℕ, ◌+◌, ◌*◌, ◌<◌, min, ◌≡◌, drop};
 ghost use Rattle.hash.specs.Bytes.{width_of};
 ghost use Rattle.object.specs.Header.{author_line, committer_line};
@@ -30,7 +32,7 @@ use object::{Line, ObjectId, person};
 // What stands at a place of a header: one of the four kinds of line, the committer's with its seconds and zone; a line that is not the one that may
 // stand there, or is bad; or nothing more to read. It has what a walk over commits asks of a line and no more, so a tree's id and an
 // author's bytes are left out.
-#[derive(Drop)]
+#[derive(Clone, Copy)]
 pub enum Token {
     Tree,
     Parent,
@@ -41,14 +43,14 @@ pub enum Token {
 }
 
 // A token that was read. The id stands beside it, since an enum cannot hold an array: a parent's, and all zeros with any other token.
-#[derive(Drop)]
+#[derive(Clone, Copy)]
 pub struct TokenRead {
     pub token: Token,
     pub id: ObjectId,
 }
 
 // Which line may stand at a place: the tree line; a parent line, else the author line; the committer line; none, since nothing more is read.
-#[derive(Drop)]
+#[derive(Clone, Copy)]
 pub enum State {
     Tree,
     Parents,
@@ -57,14 +59,14 @@ pub enum State {
 }
 
 // A place of a header.
-#[derive(Drop)]
+#[derive(Clone, Copy)]
 pub struct Place {
     pub at: usize,
     pub state: State,
 }
 
 // One commit's body, the place of the line that is read next, and the kind of the ids in it.
-#[derive(Drop)]
+#[derive(Clone, Copy)]
 pub struct CommitRefIter<'a> {
     pub data: &'a [u8],
     pub place: Place,

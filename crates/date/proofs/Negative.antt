@@ -46,7 +46,7 @@ pub negative : (x : ℤ) → SFits w64 x → lt_z (held x) (pos 0) ≡ true → 
 negative x f e =
     let p : held x ≡ x = to_z-of_z f in
     let b = below x (rw p at e) f.sfits in
-    let q : successor x ≡ x +ℤ pos 1 = rw p (to_z-of_z (record { sfits = b.next })) in
+    let q : successor x ≡ x +ℤ pos 1 = rw p (to_z-of_z {w = w64} (record { sfits = b.next })) in
     record {
       back = b.back;
       next = record { sfits = rw p b.next };

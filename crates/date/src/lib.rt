@@ -1,20 +1,22 @@
 // Committer time (gix_date): seconds since 1970, signed, and the zone beside them.
+#![tactic(auto)]
+
 ghost use Rattle.std.specs.Prelude.{◌≡◌, pos, nat_abs};
 ghost use Rattle.std.specs.Int.Signed.{lt_z};
 
 // Document 01's seconds. Compared only with seconds, never with a generation.
-#[derive(Drop)]
+#[derive(Clone, Copy)]
 pub struct Seconds(pub i64);
 
 // The zone of a clock in signed minutes, or none where none can be read.
-#[derive(Drop)]
+#[derive(Clone, Copy)]
 pub enum Zone {
     Minutes(i64),
     NoZone,
 }
 
 // What a committer line says of its time. The seconds count from 1970 in every zone, so no order looks at the zone.
-#[derive(Drop)]
+#[derive(Clone, Copy)]
 pub struct Stamp {
     pub seconds: Seconds,
     pub zone: Zone,

@@ -1,6 +1,8 @@
 // Runs the vectors of standard input: digests of a message lent in two parts, ids of commits, and checks of a store and a graph file.
 // A case is what it asks (one byte) and two parts, each a big-endian u32 length and its bytes, and before it stands its own length, at most
 // 65,536. tools/make_digests.py makes them.
+#![tactic(auto)]
+
 use hash::Kind;
 use libc::STDOUT_FILENO;
 

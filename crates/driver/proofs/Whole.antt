@@ -40,7 +40,7 @@ told_in : (l : List Answer) (u : List Id) → ((a : Answer) → Mem a l → Tell
 unfolding handed_ids
 told_in [] u t x m = absurd (Memᴰ.not-nil m)
 told_in (a ∷ l) u t x m =
-    ⊎_elim (λ h. (t a (Memᴰ.head refl)).id_in x h) (λ h. told_in l u (λ b k. t b (Memᴰ.tail k)) x h) (Memᴰ.append_cases (handed_by a.kind) m)
+    ⊎_elim (λ h. (t a (Memᴰ.head refl)).id_in_lem x h) (λ h. told_in l u (λ b k. t b (Memᴰ.tail k)) x h) (Memᴰ.append_cases (handed_by a.kind) m)
 
 module _ (i : Input) (st : State) (e : open_walk i true ≡ opened st) where
   in-universe : (x : Id) → Mem x (whole_list i) → Mem x (universe i)

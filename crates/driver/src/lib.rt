@@ -1,5 +1,7 @@
 // A whole walk at once, for any task: it is opened and called to its end, and a step is folded over its answers. The one loop over calls that
 // `lister` and `reports` are made of.
+#![tactic(auto)]
+
 ghost use Rattle.std.specs.Prelude.{◌≡◌, true, ◌+◌, ◌≤◌, ◌<◌};
 ghost use Rattle.hash.specs.Bytes.{width_of};
 ghost use Rattle.odb.specs.Store.{store_is_ok};
@@ -18,7 +20,7 @@ use traverse::Opened;
 use walk::{OpenOutcome, Settings};
 
 // What a whole walk came to.
-#[derive(Drop)]
+#[derive(Clone, Copy)]
 pub struct Driven {
     // The outcome of the opening.
     pub outcome: OpenOutcome,

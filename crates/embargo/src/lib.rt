@@ -1,1 +1,2 @@
 // No code: theorems about what openings, calls and reports give over two stores that differ only in feed digits of embargoed commits.
+#![tactic(auto)]

@@ -1,5 +1,7 @@
 // The two readings in a commit's message (document 02, card 5): what cone and bed were fed, in millimetres. Every function is total and safe on
 // any bytes.
+#![tactic(auto)]
+
 ghost use Rattle.std.specs.Prelude.{◌≡◌, ◌-◌, ◌≤◌, ◌<◌, ◌^◌, length, drop};
 ghost use Rattle.actor.specs.Person.{digit};
 ghost use Rattle.feed.specs.Feed.{message_of, lines_of, decimal, at_most, millimetres, told_by, twice, unreadable, reading_in, judged, feed_of};
@@ -9,28 +11,28 @@ use hash::part;
 use walk::Refusal;
 
 // One of a commit's two readings.
-#[derive(Drop)]
+#[derive(Clone, Copy)]
 pub enum Reading {
     Absent,
     Given(u64),
 }
 
 // Both of them.
-#[derive(Drop)]
+#[derive(Clone, Copy)]
 pub struct Feed {
     pub cone: Reading,
     pub bed: Reading,
 }
 
 // A commit's readings, or the first fault in them.
-#[derive(Drop)]
+#[derive(Clone, Copy)]
 pub enum FeedOutcome {
     Read(Feed),
     Faulty(Refusal),
 }
 
 // What the lines with one start tell: there is none, one is read, one can't be read, there are more.
-#[derive(Drop)]
+#[derive(Clone, Copy)]
 enum Told {
     Nothing,
     Millimetres(u64),
@@ -39,14 +41,14 @@ enum Told {
 }
 
 // The same for both starts.
-#[derive(Drop)]
+#[derive(Clone, Copy)]
 struct Lines {
     cone: Told,
     bed: Told,
 }
 
 // A number that was read.
-#[derive(Drop)]
+#[derive(Clone, Copy)]
 enum Number {
     Good(u64),
     Bad,

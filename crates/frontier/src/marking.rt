@@ -15,7 +15,7 @@ use reading::{Commit, NOWHERE};
 use walk::Refusal;
 
 // How a part of painting ends: it goes on with this queue; a commit cannot be read; or the lent memory is too small for it.
-#[derive(Drop)]
+#[derive(Clone, Copy)]
 pub enum Marked {
     Going(Pending),
     Stop(Refusal),
@@ -23,7 +23,7 @@ pub enum Marked {
 }
 
 // Where an id stands that gained marks; or its commit cannot be read; or there is no slot for it.
-#[derive(Drop)]
+#[derive(Clone, Copy)]
 pub enum Spot {
     At(u32),
     Unread(Refusal),

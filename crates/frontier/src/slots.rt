@@ -13,7 +13,7 @@ use hashtable::table::Slot;
 use walk::GenThenTime;
 
 // The slot of an id that gained marks: it had none of painting's, or it had one; or there is no slot for it.
-#[derive(Drop)]
+#[derive(Clone, Copy)]
 pub enum Added {
     New(u32),
     Known(u32),

@@ -1,5 +1,7 @@
 // The check of names (document 02, card 2): whether each commit of a store is under the digest of its body, and whether the commit-graph file ends
 // in the digest of the rest (git fsck). No function here writes a byte, and each public one is total on any bytes.
+#![tactic(auto)]
+
 ghost use Rattle.std.specs.Prelude.{◌≡◌, true, ◌-◌, ◌<◌};
 ghost use Rattle.hash.specs.Bytes.{width_of};
 ghost use Rattle.idlist.specs.IdList.{found_of};
@@ -12,7 +14,7 @@ use opening::Checked;
 use walk::Refusal;
 
 // What the check gives: no fault, or the refusal of the first fault; and the entry's number, counted from 0, where its name is false, else 0.
-#[derive(Drop)]
+#[derive(Clone, Copy)]
 pub struct Report {
     pub outcome: Checked,
     pub entry: usize,

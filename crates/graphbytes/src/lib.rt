@@ -1,5 +1,7 @@
 // Numbers and the checksum of a commit-graph file, each set down at its place in the output, where it fits.
 // Every public function is total and safe on any bytes.
+#![tactic(auto)]
+
 ghost use Rattle.std.specs.Prelude.{◌≡◌, ◌++◌, ◌+◌, ◌%◌, ◌≤◌, length, take};
 ghost use Rattle.hash.specs.Bytes.{set_down};
 ghost use Rattle.commitid.specs.Name.{digest_of};

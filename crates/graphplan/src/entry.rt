@@ -12,7 +12,7 @@ use hash::Kind;
 use object::Reading;
 
 // What a readable header says for its row: the number of its parents, its seconds without their sign, and whether a row can hold them.
-#[derive(Drop)]
+#[derive(Clone, Copy)]
 pub enum Head {
     Good(usize, usize, bool),
     NoHead,

@@ -1,5 +1,7 @@
 // What is found of a store before its commit-graph file is written: whether there is one, and how many rows and entries of EDGE it has.
 // Every public function is total and safe on any bytes.
+#![tactic(auto)]
+
 pub mod entry;
 
 ghost use Rattle.std.specs.Prelude.{◌≡◌, cond, true, false, ◌≤◌};
@@ -11,14 +13,14 @@ use levels::Answer;
 use walk::Refusal;
 
 // What is found before anything is written: the number of rows and of the entries of EDGE, or why there is no file.
-#[derive(Drop)]
+#[derive(Clone, Copy)]
 pub enum Plan {
     Rows(usize, usize),
     Not(Refusal),
 }
 
 // What reading every header finds: one is unreadable; all are readable, and some seconds do not fit; the number of the entries of EDGE.
-#[derive(Drop)]
+#[derive(Clone, Copy)]
 pub enum Survey {
     Unreadable,
     Late,

@@ -2,6 +2,8 @@
 // bytes, or `!` and the refusal's number), and the SHA-1 of the whole output as lent, which is filled with one byte before.
 // A case is the kind of ids (one byte: 2 is SHA-256), how many levels and how many bytes of output to lend (big-endian u32s) and the commit store, and
 // before it stands its own length, at most 65,536. tools/make_graphs.py makes them.
+#![tactic(auto)]
+
 ghost use Rattle.std.specs.Prelude.{◌≤◌};
 
 use graphwrite::Written;

@@ -1,1 +1,2 @@
 // No code: theorems about the graph files that `graphwrite` writes.
+#![tactic(auto)]

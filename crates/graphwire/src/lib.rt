@@ -1,5 +1,7 @@
 // Writing graph files for callers in other languages: the width of ids and the length of the file as numbers. Every function is total on any
 // bytes, numbers and lengths.
+#![tactic(auto)]
+
 ghost use Rattle.std.specs.Prelude.{◌≡◌};
 ghost use Rattle.wire.specs.Words.{kind_of};
 ghost use Rattle.graphwire.specs.Wire.{written_number, bytes_of, PutsLength, LibraryMeasures, LibraryWrites};

@@ -1,5 +1,7 @@
 // The commit-graph file of a store (git commit-graph write), version 1: the fan-out, the ids, the rows, the lists of over two parents, the checksum.
 // Every public function is total and safe on any bytes.
+#![tactic(auto)]
+
 mod parts;
 mod rows;
 
@@ -16,7 +18,7 @@ use hash::Kind;
 use walk::Refusal;
 
 // What a writing gives: the number of the file's bytes, or why there is no file.
-#[derive(Drop)]
+#[derive(Clone, Copy)]
 pub enum Written {
     File(usize),
     Refused(Refusal),

@@ -9,7 +9,7 @@ use crate::marks::is_live;
 use crate::words;
 use hash::Kind;
 
-#[derive(Drop)]
+#[derive(Clone, Copy)]
 pub enum Slot {
     Found(usize),
     Vacant(usize),

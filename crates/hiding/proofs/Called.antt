@@ -24,6 +24,7 @@ use Rattle.hiding.proofs.Adding.{adds_up}
 -- ---- calls
 
 call_below : {A : Type 0} (cs : List A) (k : ℕ) (c : A) → CallIs cs k c → k < length cs
+call_below [] k d x = elim x [ ]
 call_below (c ∷ cs) zero d here = omega arith
 call_below (c ∷ cs) (suc k) d (after p) = omega (arith, call_below cs k d p)
 

@@ -3,6 +3,8 @@
 // order is its first argument: `newest` (also where there is none), `oldest` or `breadth`.
 // For each commit it prints a line: id, committer seconds, generation and number of parents, `-` where the walk has none; a line for each refusal
 // with document 01's number and word; and last `end` with the walk's running numbers.
+#![tactic(auto)]
+
 ghost use Rattle.std.specs.Prelude.{◌<◌};
 ghost use Rattle.io.specs.Counts.{IsPrefixLen};
 
@@ -227,7 +229,7 @@ fn list(store: &[u8], graph: &[u8], tips: &[u8], hidden: &[u8], settings: Settin
 // ---- the order
 
 // An order that a word names.
-#[derive(Drop)]
+#[derive(Clone, Copy)]
 enum Order {
     Known(Sorting),
     Unknown,

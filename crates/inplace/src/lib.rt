@@ -2,6 +2,8 @@
 // is set down as it is found. So it is where a commit-graph file is lent, of a commit with at most two parents whose row stands where its child's row said;
 // and where none is, of a commit that the store has. That is what most calls come to; any other is left to the call that takes a record by value. Every
 // function is total and safe on any bytes and numbers.
+#![tactic(auto)]
+
 mod stored;
 
 ghost use Rattle.std.specs.Prelude.{◌≡◌, true, List, ℕ, ◌≤◌, ◌<◌, length};

@@ -1,5 +1,7 @@
 // One commit that is readable in the store beside its row in the commit-graph file (document 02, card 1): whether the file agrees, and the
 // commit's pair. The body is read once and handed in. Every function is total and safe on any bytes and numbers.
+#![tactic(auto)]
+
 ghost use Rattle.std.specs.Prelude.{◌≡◌};
 ghost use Rattle.reach.specs.Tested.{same_time};
 ghost use Rattle.judging.specs.Judge.{ComparesParents, ComparesRow, Judges};
@@ -13,7 +15,7 @@ use reading::Commit;
 use walk::GenThenTime;
 
 // What a commit comes to, where the file agrees: its pair, and the position of its row.
-#[derive(Drop)]
+#[derive(Clone, Copy)]
 pub enum Judged {
     Pair { position: usize, pair: GenThenTime },
     AtOdds,

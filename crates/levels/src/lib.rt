@@ -1,5 +1,7 @@
 // The levels of the commits of a store (git: topological levels), by a depth-first search whose stack is threaded through the lent levels: no other
 // memory, no recursion. A commit is known by the number of its entry.
+#![tactic(auto)]
+
 ghost use Rattle.std.specs.Prelude.{◌≡◌, true, ℕ, ◌+◌, ◌*◌, ◌-◌, ◌<◌, ◌≤◌, length, get_or, set, ltb};
 ghost use Rattle.hash.specs.Bytes.{width_of};
 ghost use Rattle.object.specs.Header.{tree_size, parent_size};
@@ -11,7 +13,7 @@ ghost use Rattle.levels.specs.StoreGraph.{lines_count, entry_of, store_graph, St
 use hash::Kind;
 
 // On: the entry at hand (n: none), and the entries below root have been met.
-#[derive(Drop)]
+#[derive(Clone, Copy)]
 pub enum Turn {
     On(usize, usize),
     All,
@@ -19,7 +21,7 @@ pub enum Turn {
 }
 
 // What the search for levels gives: every level; that there are none; too few lent levels; a store whose layout is broken.
-#[derive(Drop)]
+#[derive(Clone, Copy)]
 pub enum Answer {
     Levelled,
     NoLevels,

@@ -63,6 +63,7 @@ behind_all {f} {w} {m} (library.call {c = c} room same untouched kept rest) =
     }
 
 pub each : {width : ℕ} {cs : List LibraryCall} {ds : List Call} → Paired width cs ds → (k : ℕ) (c : LibraryCall) → CallIs cs k c → (d : Call) × CallIs ds k d × Behind width c d
+each no-pair k c p = elim p [ ]
 each (pair {d = d} b p) zero c here = (d, here, b)
 each (pair b p) (suc k) c (after q) = let x = each p k c q in (x.0, after x.1, x.2)
 

@@ -1,6 +1,8 @@
 // The walk for callers in C and Rust: every parameter is a number or a slice (a pointer and a length), and the walk's record stands as
 // words in lent memory. bindings/c/linenhatch.h declares the functions for C. Each is total on any bytes, numbers and lengths. width is that of ids: 32
 // is SHA-256, any other number SHA-1.
+#![tactic(auto)]
+
 ghost use Rattle.std.specs.Prelude.{ℕ, ◌≡◌, List, length};
 ghost use Rattle.hash.specs.Bytes.{width_of};
 ghost use Rattle.walk.specs.declared.Settings.{Settings};

@@ -1,5 +1,7 @@
 // A whole walk at once: it is opened and called to its end, and the ids of the commits are set down, in order, in a buffer of the caller's.
 // A walk call by call is in crate `traverse`.
+#![tactic(auto)]
+
 ghost use Rattle.std.specs.Prelude.{◌≡◌};
 ghost use Rattle.opening.specs.Checks.{input_of};
 ghost use Rattle.traverse.specs.Open.{lent_of};
@@ -11,7 +13,7 @@ use tally::Task;
 use walk::{OpenOutcome, Outcome, Settings};
 
 // What a whole walk came to. The list is whole if the outcome is Accepted, no call was refused, and the buffer has room for all commits.
-#[derive(Drop)]
+#[derive(Clone, Copy)]
 pub struct Listing {
     // The outcome of the opening.
     pub outcome: OpenOutcome,

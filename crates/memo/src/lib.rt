@@ -1,6 +1,8 @@
 // A memo in lent memory of any length, also 0: for each entry of a store a row of cells, one for either bench and each number of moves left. A cell
 // is 0 where nothing is known, 1 for no and 2 for yes. What has no cell is not remembered. And the commit at hand: its entry and its parents.
 // Every function is total and safe on any bytes and numbers.
+#![tactic(auto)]
+
 ghost use Rattle.std.specs.Prelude.{◌≡◌, ◌+◌, ◌*◌, ◌<◌, ◌≤◌, length};
 ghost use Rattle.object.specs.Header.{header};
 ghost use Rattle.object.specs.Read.{reading_of};

@@ -1,6 +1,8 @@
 // Where two series part (document 02, cards 8 and 11; git's merge-base): of all best common ancestors of two tips the first, from the commit store
 // alone. Two searches mark what each tip reaches, common commits stain their parents, and a common commit that is not stained is best. Every
 // function is total and safe on any bytes and numbers.
+#![tactic(auto)]
+
 ghost use Rattle.std.specs.Prelude.{◌≡◌, ◌+◌, ◌/◌, length};
 ghost use Rattle.hash.specs.Bytes.{Id, width_of};
 ghost use Rattle.object.specs.Ids.{id_in};
@@ -22,7 +24,7 @@ use walk::Refusal;
 
 // What is said of two tips: no commit is reachable from both; the commit is the first of the best of those that are; or why
 // nothing is said.
-#[derive(Drop)]
+#[derive(Clone, Copy)]
 pub enum Parted {
     Nothing,
     Commit,
@@ -30,14 +32,14 @@ pub enum Parted {
 }
 
 // The same, with the commit; zeros where there is none.
-#[derive(Drop)]
+#[derive(Clone, Copy)]
 pub struct MergeBase {
     pub outcome: Parted,
     pub commit: ObjectId,
 }
 
 // The same in lent memory: the commit by its slot.
-#[derive(Drop)]
+#[derive(Clone, Copy)]
 pub enum Place {
     Nothing,
     Commit(u32),

@@ -1,5 +1,7 @@
 // Where two series part, for callers in other languages: the width of ids as a number, the tips as bytes, and the answer as an id and a number in lent slices. Every function
 // is total on any bytes, numbers and lengths.
+#![tactic(auto)]
+
 ghost use Rattle.std.specs.Prelude.{◌≡◌, length};
 ghost use Rattle.hash.specs.Bytes.{width_of};
 ghost use Rattle.opening.specs.Checks.{lengths_of};

@@ -1,6 +1,8 @@
 // The moves of a trace by turns (document 02, card 12): two functions that call each other, the cone to move and the bed to move, with one move
 // fewer each time. A memo of any length remembers what each came to; what it has no cell for is found again. Every function is total and safe on any
 // bytes and numbers.
+#![tactic(auto)]
+
 ghost use Rattle.std.specs.Prelude.{◌≡◌, true, false};
 ghost use Rattle.object.specs.Ids.{id_in};
 ghost use Rattle.odb.specs.Store.{standing_entries};

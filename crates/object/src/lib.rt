@@ -1,4 +1,6 @@
 // Header lines of one commit (gix_object::CommitRefIter): functions on the commit's bytes and a place, total on every input.
+#![tactic(auto)]
+
 mod id;
 pub mod person;
 
@@ -14,27 +16,27 @@ use hash::Kind;
 pub use id::{id_of, id_slice};
 
 // A line that was read: the place after its newline.
-#[derive(Drop)]
+#[derive(Clone, Copy)]
 pub enum Line {
     Good(usize),
     Bad,
 }
 
 // An object id by value, of either kind: zeros stand after it.
-#[derive(Drop)]
+#[derive(Clone, Copy)]
 pub struct ObjectId {
     pub bytes: [u8; 32],
 }
 
 // A parent line that was read; with no good line the id is all zeros.
-#[derive(Drop)]
+#[derive(Clone, Copy)]
 pub struct ParentLine {
     pub good: bool,
     pub id: ObjectId,
 }
 
 // A whole header: readable, with a bad line, or with a good 257th parent line before any bad line.
-#[derive(Drop)]
+#[derive(Clone, Copy)]
 pub enum Reading {
     Readable { parents: usize, stamp: Stamp },
     Bad,

@@ -1,5 +1,7 @@
 // The commit store (gix_object::Find; document 01's book): bodies end to end, then one entry for each, then a trailer.
 // Every public function is total and safe on any bytes. The functions below them take the width of an id and hold for any.
+#![tactic(auto)]
+
 mod numbered;
 
 ghost use Rattle.std.specs.Prelude.{◌≡◌, ◌&&◌, ◌+◌, ◌*◌, ◌-◌, ◌<◌, ◌≤◌, eqb, length};
@@ -13,7 +15,7 @@ use idlist::Found;
 pub use numbered::{entry_bytes, entry_id};
 
 // Where a body lies in the store: its first byte, and the byte after its last.
-#[derive(Drop)]
+#[derive(Clone, Copy)]
 pub enum Located {
     Body { start: usize, end: usize },
     Absent,

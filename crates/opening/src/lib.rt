@@ -1,5 +1,7 @@
 // The tests of an opening: document 01's refusals 1 to 8, in order 2 to 6, 1, 7, 8. No function here writes a byte, and each is total on
 // any bytes and lengths.
+#![tactic(auto)]
+
 ghost use Rattle.std.specs.Prelude.{◌≡◌, List, [], ◌∷◌, ℕ, ◌/◌, ◌%◌, eqb, leb, length};
 ghost use Rattle.std.proofs.Math.Option.{none};
 ghost use Rattle.object.specs.Header.{parent_size};
@@ -12,7 +14,7 @@ use reading::TipRead;
 use walk::{Refusal, Settings, Sorting};
 
 // What a test of an opening gives: no fault, or the refusal of the first fault.
-#[derive(Drop)]
+#[derive(Clone, Copy)]
 pub enum Checked {
     Fine,
     Refused(Refusal),

@@ -109,10 +109,13 @@ module _ (i : Input) (W : Writable (width_in i) i.store (standing_entries (width
   -- ---- what is reached
 
   reached-held : {x y : Id} → Reaches world y x → Held (width_in i) store' x → Held (width_in i) store' y
-  reached-held (itself e) h = record { entry = h.entry; below = h.below; is = h.is ∙ e }
-  reached-held (through {p = p} m r) h =
-      let q = parent-held (width_in i) (width_least i.settings.kind) store' graph' (hash_version i.settings.kind) W S R h.entry h.below p (subst (λ (y : Id). Mem p (links world y)) (sym h.is) m) in
-      reached-held r (record { entry = q.0; below = q.1; is = q.2 })
+  reached-held r h = go r h
+    where
+      go : {y x : Id} → Reaches world y x → Held (width_in i) store' x → Held (width_in i) store' y
+      go (itself e) h = record { entry = h.entry; below = h.below; is = h.is ∙ e }
+      go (through {p = p} m r) h =
+          let q = parent-held (width_in i) (width_least i.settings.kind) store' graph' (hash_version i.settings.kind) W S R h.entry h.below p (subst (λ (y : Id). Mem p (links world y)) (sym h.is) m) in
+          go r (record { entry = q.0; below = q.1; is = q.2 })
 
   region-held : (x : Id) → Region (walk_of i) (list_ids (width_in i) i.tips) x → Held (width_in i) store' x
   unfolding Region walk_of

@@ -1,5 +1,7 @@
 // The choice of cards 8 and 11: among the commits of the line that both searches met and that are not stained, the first: that with the
 // greatest seconds, and among equals that with the smallest id. Every function is total and safe on any bytes and numbers.
+#![tactic(auto)]
+
 ghost use Rattle.std.specs.Prelude.{◌≡◌};
 ghost use Rattle.hash.specs.Bytes.{lt_id, width_of};
 ghost use Rattle.parting.specs.Choice.{met_of, GoesFirst, TakesSooner, ChoosesNext, Chooses};
@@ -9,7 +11,7 @@ use hashtable::table;
 use stain::{has_both, is_stained, slot_at};
 
 // What the commits of the line come to: none is common; some are, and none of these is best; or a best one stands in a slot.
-#[derive(Drop)]
+#[derive(Clone, Copy)]
 pub enum Choice {
     Nothing,
     Tangled,

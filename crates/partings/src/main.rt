@@ -1,6 +1,8 @@
 // Finds where two tips part, for each case of standard input, and prints it: the commit's id, `none`, or the refusal's number.
 // A case is the kind of ids (1 SHA-1, 2 SHA-256), two ids, the lengths of the six buffers to lend (big-endian u32s: names, marks, levels, times, line,
 // parents) and the commit store, and before it stands its own length, at most 65,536. tools/make_partings.py makes them.
+#![tactic(auto)]
+
 ghost use Rattle.std.specs.Prelude.{◌≤◌};
 
 use hash::Kind;

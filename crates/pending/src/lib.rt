@@ -4,6 +4,8 @@
 // times. A slot enters the younger run. Where that has no place left, which is after a few times the square root of the older run's
 // length, it is merged into the older run. So an entering moves a few times sqrt(n) slots on average, and in a real history, which inserts
 // near the front, few. Beside it the waiting ids by rising id, with which painting begins.
+#![tactic(auto)]
+
 ghost use Rattle.std.specs.Prelude.{◌≡◌, ◌+◌, ◌-◌, ◌<◌, ◌≤◌, ◌++◌, length};
 ghost use Rattle.std.proofs.Math.Seq.{slice};
 ghost use Rattle.hash.specs.Decides.{Decides};
@@ -17,7 +19,7 @@ use hashtable::table;
 use walk::GenThenTime;
 
 // Where the queue stands in `line`: line[base..end) is its own, with free places below the younger run and between the two.
-#[derive(Drop)]
+#[derive(Clone, Copy)]
 pub struct Pending {
     pub base: usize,
     pub low: usize,
@@ -27,14 +29,14 @@ pub struct Pending {
 }
 
 // Whether a slot has entered, and the queue then.
-#[derive(Drop)]
+#[derive(Clone, Copy)]
 pub struct Pushed {
     pub done: bool,
     pub pending: Pending,
 }
 
 // What leaves the queue, and the queue without it.
-#[derive(Drop)]
+#[derive(Clone, Copy)]
 pub struct Taken {
     pub found: bool,
     pub slot: u32,

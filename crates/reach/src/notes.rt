@@ -11,7 +11,7 @@ use hashtable::table;
 use hashtable::table::Slot;
 
 // What came of an id: it was new to this search and stands in a slot; it was known; or there is no slot for it.
-#[derive(Drop)]
+#[derive(Clone, Copy)]
 pub enum Marking {
     Fresh(u32),
     Known,
@@ -19,7 +19,7 @@ pub enum Marking {
 }
 
 // How many slots the line has now; or that the lent memory is too small.
-#[derive(Drop)]
+#[derive(Clone, Copy)]
 pub enum Grown {
     Count(usize),
     NoRoom,

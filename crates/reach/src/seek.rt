@@ -14,7 +14,7 @@ use hashtable::table;
 use object::Reading;
 
 // One commit read: how many slots the line has then; it is not readable; or the lent memory is too small.
-#[derive(Drop)]
+#[derive(Clone, Copy)]
 pub enum Step {
     Count(usize),
     Unreadable,
@@ -23,7 +23,7 @@ pub enum Step {
 
 // How a search ends: the line has the slots of all that is reached, so many; a commit that is reached is not readable; or the lent memory is
 // too small.
-#[derive(Drop)]
+#[derive(Clone, Copy)]
 pub enum Sought {
     Whole(usize),
     Unreadable,

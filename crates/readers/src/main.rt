@@ -1,5 +1,7 @@
 // Prints what the readers find in two files of the folder it is run in: `store`, a commit store, and `graph`, a commit-graph file. For each
 // commit of the graph file a line: its id, its level, seconds and number of parents there, and what the store has of it.
+#![tactic(auto)]
+
 ghost use Rattle.io.specs.Counts.{IsPrefixLen};
 
 use commitgraph::parents::ParentList;

@@ -10,7 +10,7 @@ use hash::Kind;
 use object::ObjectId;
 
 // How the reading of a body ends after its parents: the author line is good, or it is bad, or a parent line too many stands there.
-#[derive(Drop)]
+#[derive(Clone, Copy)]
 pub enum BodyEnd {
     Whole,
     Unreadable,
@@ -18,7 +18,7 @@ pub enum BodyEnd {
 }
 
 // How many parents of a body are followed, and how its reading ends.
-#[derive(Drop)]
+#[derive(Clone, Copy)]
 pub struct BodyRead {
     pub parents: usize,
     pub ends: BodyEnd,

@@ -1,5 +1,7 @@
 // What the walk and the painting read of one commit, in the commit-graph file and in the commit store. Every function is total and
 // safe on any bytes.
+#![tactic(auto)]
+
 mod body;
 mod ids;
 mod row;
@@ -29,7 +31,7 @@ use walk::{GenThenTime, Refusal};
 
 // A commit that was read whole, as painting does: where it stands, how many parents it has, and its place in the painting's order; or why
 // it cannot be read.
-#[derive(Drop)]
+#[derive(Clone, Copy)]
 pub enum Commit {
     Row {
         position: usize,

@@ -12,7 +12,7 @@ use hash::Kind;
 use walk::MaybeLevel;
 
 // What a row says of a commit: how many parents it has, and its level; or its parent list is corrupt.
-#[derive(Drop)]
+#[derive(Clone, Copy)]
 pub enum RowRead {
     Corrupt,
     Row { parents: usize, level: Level },

@@ -11,7 +11,7 @@ use date::{Seconds, Zone};
 use hash::Kind;
 
 // A tip that was read at the opening: its seconds; or the store lacks it; or its header is not good through the committer line.
-#[derive(Drop)]
+#[derive(Clone, Copy)]
 pub enum TipRead {
     Good(Seconds),
     Missing,

@@ -1,5 +1,7 @@
 // Prints the two readings of commits' messages, cone and bed, a line for each commit: millimetres, `-` where there is none, or `! ` and the number of
 // the refusal. Standard input, up to 65,536 bytes of it, has for each commit a byte that says how many bytes its body has, and then the body.
+#![tactic(auto)]
+
 ghost use Rattle.std.specs.Prelude.{◌≤◌};
 
 use feed::{FeedOutcome, Reading};

@@ -1,5 +1,7 @@
 // The end of painting (compute_hidden_frontier in gix_traverse::commit::simple): the frontier leaves the queue, and what left is struck;
 // or painting was refused, or was not due. Every function is total and safe on any bytes and numbers.
+#![tactic(auto)]
+
 ghost use Rattle.std.specs.Prelude.{◌≡◌, cond, ◌+◌, ◌≤◌, length, get_or, set};
 ghost use Rattle.hashtable.specs.Marks.{frontier};
 ghost use Rattle.refill.specs.Painted.{Leaves, Fails, Skips};

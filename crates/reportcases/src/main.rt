@@ -1,6 +1,8 @@
 // Makes the report of each case of standard input, and prints it: `whole` or `refused` and the number, then the report's numbers.
 // A case is the reader's letter, the width of ids, the settings, the lengths of the six buffers to lend and the parts; before it stands its own length,
 // at most 65,536. tools/make_reports.py says where each stands, and makes them.
+#![tactic(auto)]
+
 ghost use Rattle.std.specs.Prelude.{◌≤◌, ◌<◌};
 
 use libc::STDOUT_FILENO;

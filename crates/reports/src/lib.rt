@@ -1,5 +1,7 @@
 // Reports over a whole walk (document 02, cards 5 and 10): the readings of its commits, counted and added up, for the shop's reader and for an
 // outside one, from whom the readings of embargoed ids are withheld.
+#![tactic(auto)]
+
 ghost use Rattle.std.specs.Prelude.{◌≡◌, leb, pos, ◌-ℤ◌, length, ◌<◌};
 ghost use Rattle.hash.specs.Bytes.{width_of};
 ghost use Rattle.walk.specs.Opening.{list_limit};
@@ -16,7 +18,7 @@ use tally::feeds::Feeds;
 use walk::{OpenOutcome, Outcome, Refusal, Settings};
 
 // Who a report is for.
-#[derive(Drop)]
+#[derive(Clone, Copy)]
 pub enum Reader {
     // The shop's reader, who sees all.
     Shop,
@@ -25,14 +27,14 @@ pub enum Reader {
 }
 
 // Whether a report is whole.
-#[derive(Drop)]
+#[derive(Clone, Copy)]
 pub enum Reported {
     Whole,
     Refused(Refusal),
 }
 
 // The feed report; zeros where it is refused.
-#[derive(Drop)]
+#[derive(Clone, Copy)]
 pub struct FeedReport {
     pub outcome: Reported,
     // How many commits have both readings, the cone's alone, the bed's alone, and neither.

@@ -1,5 +1,7 @@
 // Reports over a whole walk for callers in other languages: the width of ids and the settings as numbers, and a report's numbers in lent slices. Every
 // function is total on any bytes, numbers and lengths.
+#![tactic(auto)]
+
 pub mod terms;
 
 ghost use Rattle.std.specs.Prelude.{◌≡◌};

@@ -1,5 +1,7 @@
 // The queue of a walk (gix_revwalk::PriorityQueue), in memory that the caller lends. A slot is a number below `cap`. Every function is
 // total and safe on any bytes.
+#![tactic(auto)]
+
 ghost use Rattle.std.specs.Prelude.{◌≡◌, set};
 ghost use Rattle.revwalk.specs.Order.{seconds_of};
 

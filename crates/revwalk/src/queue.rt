@@ -7,7 +7,7 @@ ghost use Rattle.revwalk.specs.Queue.{nothing, place_of, Pushes, PutsBack, Pops,
 pub mod heap;
 pub mod ring;
 
-#[derive(Drop)]
+#[derive(Clone, Copy)]
 pub struct Queue {
     // Whether slots go out by their seconds.
     pub timed: bool,
@@ -23,7 +23,7 @@ pub struct Queue {
     pub next: u32,
 }
 
-#[derive(Drop)]
+#[derive(Clone, Copy)]
 pub struct Popped {
     pub found: bool,
     // The slot handed out, 0 where none was found.

@@ -18,7 +18,7 @@ use state::{Record, Waiting};
 use walk::Settings;
 
 // The first of the queue, with the seconds of its slot, was taken, and the parents of its row visited; or nothing waits, and nothing was changed.
-#[derive(Drop)]
+#[derive(Clone, Copy)]
 struct Left {
     found: bool,
     seconds: Seconds,
@@ -26,7 +26,7 @@ struct Left {
 }
 
 // The same with the number of its parents and its level; or its row is not plain, and nothing was changed.
-#[derive(Drop)]
+#[derive(Clone, Copy)]
 pub enum PlainTaken {
     Taken {
         after: Waiting,

@@ -14,7 +14,7 @@ use state::{Record, Waiting};
 use walk::Settings;
 
 // The parents of a row that were visited, how many they are, and the row's level; or its list is corrupt.
-#[derive(Drop)]
+#[derive(Clone, Copy)]
 pub enum RowVisited {
     Visited {
         after: Waiting,

@@ -2,6 +2,8 @@
 // A case is eleven bytes of settings, the last of which is 1 for a tested opening, and seven parts, each a big-endian u32 length and its bytes:
 // title, commit store, commit-graph file, tips, hidden tips, excluded ids and the lengths of the six buffers to lend. Before it stands its own
 // length, at most 65,536. tools/make_runs.py makes them.
+#![tactic(auto)]
+
 ghost use Rattle.std.specs.Prelude.{◌≤◌, ◌<◌};
 ghost use Rattle.io.specs.Counts.{IsPrefixLen};
 

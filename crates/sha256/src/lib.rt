@@ -1,5 +1,7 @@
 // SHA-256 (FIPS 180-4): a block compressed into the state, and the blocks of a message one after the other.
 // A message is lent in two parts, the second right after the first, and neither is copied. Every public function is total.
+#![tactic(auto)]
+
 ghost use Rattle.std.specs.Prelude.{◌≡◌, ◌<◌, ◌++◌, take};
 ghost use Rattle.digest.specs.Blocks.{made, folds, block_count};
 ghost use Rattle.digest.specs.Words.{add32, rotr};
@@ -8,7 +10,7 @@ ghost use Rattle.sha256.specs.Sha256.{word256, schedule256, sigma_a, sigma_e, sm
 use std::num::wrapping_add_u32;
 
 // The eight words of the state.
-#[derive(Drop)]
+#[derive(Clone, Copy)]
 pub struct Eight {
     pub a: u32,
     pub b: u32,

@@ -1,5 +1,7 @@
 // The walk's next call in the form of the Rust (gix_traverse::commit::simple: `Iterator::next` of `Simple`): it takes the record of counters by
 // `&mut`. The call below it, `traverse::next::step`, takes the record and gives it back by value.
+#![tactic(auto)]
+
 ghost use Rattle.traverse.specs.Contract.{NextSays};
 ghost use Rattle.traverse.specs.Open.{lent_of};
 ghost use Rattle.traverse.specs.Next.{files_lent};

@@ -1,5 +1,7 @@
 // The stains of card 8: each commit that both searches met stains its parents, but not itself. A stain is a 1 in the lent levels, at the slot
 // of the id; names, marks and line stay as the searches left them. Every function is total and safe on any bytes and numbers.
+#![tactic(auto)]
+
 ghost use Rattle.std.specs.Prelude.{◌≡◌, get_or, eqb};
 ghost use Rattle.hashtable.specs.Marks.{frontier};
 ghost use Rattle.object.specs.Header.{header};

@@ -1,6 +1,8 @@
 // The walk's state in lent memory: the record of counters, the seen ids and the queue, and the small steps on them (the lines of
 // `insert_into_seen_and_next` and `insert_into_seen_and_queue` in gix_traverse::commit::simple). Every function is total and safe on any
 // bytes and numbers.
+#![tactic(auto)]
+
 ghost use Rattle.std.specs.Prelude.{◌≡◌, cond, get_or, set, pos};
 ghost use Rattle.state.specs.Shapes.{fresh_record, requeued, waiting_in};
 ghost use Rattle.state.specs.declared.Record.{Record};
@@ -18,14 +20,14 @@ use revwalk::queue::Queue;
 
 // What an opening finds in the files and fixes for all calls, so that no call finds it again: where the chunks of the commit-graph file stand;
 // and the kind of the ids that the walk's memory holds. (The order and the number of slots, which it fixes too, are the queue's own.)
-#[derive(Drop)]
+#[derive(Clone, Copy)]
 pub struct Fixed {
     pub layout: Layout,
     pub kind: Kind,
 }
 
 // What a call takes and gives back (document 01: one small record of counters).
-#[derive(Drop)]
+#[derive(Clone, Copy)]
 pub struct Record {
     // Whether the walk is open. A closed record is one fixed value.
     pub live: bool,
@@ -44,14 +46,14 @@ pub struct Record {
 }
 
 // Whether an id is new, and the slot that it has then; 0 where it is not new.
-#[derive(Drop)]
+#[derive(Clone, Copy)]
 pub struct Seen {
     pub fresh: bool,
     pub slot: usize,
 }
 
 // The commit that leaves the queue: its slot, its id, the seconds of its slot, and what waits after it, of a record that is otherwise as it was.
-#[derive(Drop)]
+#[derive(Clone, Copy)]
 pub struct Next {
     pub found: bool,
     pub slot: u32,
@@ -145,7 +147,7 @@ fn set_time(timed: bool, times: &mut [i64], slot: u32, s: Seconds)
 
 // What the visits of a call change of a record: its queue, and how many commits ever waited. It goes through them by itself, since a record that goes by
 // value to a function that is not compiled into its caller is copied.
-#[derive(Drop)]
+#[derive(Clone, Copy)]
 pub struct Waiting {
     pub queue: Queue,
     pub admitted: usize,

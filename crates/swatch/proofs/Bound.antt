@@ -72,7 +72,7 @@ answers-short : (i : Input) (st : State) → width_in i ≡ id_bytes → open_wa
 unfolding AllNumbers
 answers-short i st q e n =
     let s = lines_short (answers i n) (λ a m.
-    line-short a.kind (length a.parents) (λ x d. universe-wide i (open_accepted i st e) x ((all_told i st e n a m).id_in x d) ∙ q) (omega (arith, (all-numbers i n a m).parents_in))) in
+    line-short a.kind (length a.parents) (λ x d. universe-wide i (open_accepted i st e) x ((all_told i st e n a m).id_in_lem x d) ∙ q) (omega (arith, (all-numbers i n a m).parents_in))) in
     omega (arith, s, ap length (answers_at i n) ∙ length_up_to (answer_at_call i) n)
 
 -- ---- the input

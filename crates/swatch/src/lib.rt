@@ -1,5 +1,7 @@
 // The text that the program `swatches` prints (document 01): a walk in breadth order from one tip over a commit store, each commit's id and
 // number of parents on a line, each refusal on a line, and `end`. The work is one function over lent memory, `list`.
+#![tactic(auto)]
+
 mod put;
 
 ghost use Rattle.std.specs.Prelude.{◌≡◌, [], ◌-◌};
@@ -21,7 +23,7 @@ const MOST: usize = 65536;
 const TIP_BYTES: usize = 20;
 
 // What one call leaves: the record for the next call, the place after its line, and how many calls are left.
-#[derive(Drop)]
+#[derive(Clone, Copy)]
 struct Turn {
     record: Record,
     at: usize,

@@ -1,5 +1,6 @@
 // The cases of the program `swatches`: reads cases from standard input, each a title and an input with their lengths before them
 // (big-endian u32), and prints each title and the list of its input. tools/make_swatches.py makes them.
+#![tactic(auto)]
 
 // Prints the list of an input.
 fn print_list(

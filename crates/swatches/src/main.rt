@@ -1,5 +1,6 @@
 // The program of document 01's last run: reads a 20-byte tip and then a commit store from standard input, at most 65,536 bytes in all, and
 // prints each commit of the walk, with its number of parents, each refusal, and `end`. The text is `swatch::list`'s.
+#![tactic(auto)]
 
 // Prints the list of an input.
 fn print_list(

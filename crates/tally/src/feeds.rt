@@ -6,7 +6,7 @@ ghost use Rattle.tally.specs.Feeds.{no_feeds, plus, feeds_of, LowFeeds};
 use feed::{Feed, Reading};
 
 // What the readings of some commits come to, in millimetres.
-#[derive(Drop)]
+#[derive(Clone, Copy)]
 pub struct Feeds {
     // How many commits have both readings, the cone's alone, the bed's alone, and neither.
     pub both: u64,

@@ -1,4 +1,6 @@
 // What a whole walk is called for, and what its answers come to: the step that is folded over them.
+#![tactic(auto)]
+
 pub mod feeds;
 pub mod terms;
 
@@ -19,7 +21,7 @@ use terms::Spot;
 use walk::{Answer, Outcome};
 
 // What a whole walk is called for.
-#[derive(Drop)]
+#[derive(Clone, Copy)]
 pub enum Task {
     // The ids of all commits, set down in the caller's buffer.
     Ids,
@@ -30,7 +32,7 @@ pub enum Task {
 }
 
 // What the answers so far came to.
-#[derive(Drop)]
+#[derive(Clone, Copy)]
 pub struct Tally {
     // How many commits were handed out, but for those that the task finds faulty.
     pub commits: usize,

@@ -10,7 +10,7 @@ use hash::Kind;
 use reading::TipRead;
 
 // Where a commit's seconds in the store lie.
-#[derive(Drop)]
+#[derive(Clone, Copy)]
 pub enum Spot {
     Term(usize),
     Outside,

@@ -2,6 +2,8 @@
 // or `refused` and the number, the counts, among them two past the most terms, and the commits outside.
 // A case is the width of ids, the settings and the parts; before it stands its own length, at most 65,536. tools/make_terms.py says where each stands, and
 // makes them.
+#![tactic(auto)]
+
 ghost use Rattle.std.specs.Prelude.{◌<◌};
 
 use libc::STDOUT_FILENO;

@@ -1,4 +1,6 @@
 // The report of a whole walk by terms (document 02, card 9): how many of its commits lie in each term, and how many outside all.
+#![tactic(auto)]
+
 ghost use Rattle.std.specs.Prelude.{◌≡◌, length};
 ghost use Rattle.opening.specs.Checks.{input_of};
 ghost use Rattle.traverse.specs.Open.{lent_of};
@@ -10,7 +12,7 @@ use tally::Task;
 use walk::{OpenOutcome, Outcome, Refusal, Settings};
 
 // The report by terms, beside its counts.
-#[derive(Drop)]
+#[derive(Clone, Copy)]
 pub struct TermsReport {
     pub outcome: Reported,
     // How many commits lie outside all terms or have no readable seconds in the store; 0 where the report is refused.

@@ -14,7 +14,7 @@ use reach::Grown;
 
 // How the pass ends: the line has the slots of all that is reached, so many; a commit is not readable; the file is at odds with one, and the line
 // has so many slots; or the lent memory is too small.
-#[derive(Drop)]
+#[derive(Clone, Copy)]
 pub enum Gone {
     Whole(usize),
     Unreadable,

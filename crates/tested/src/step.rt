@@ -20,7 +20,7 @@ use reach::Grown;
 use walk::GenThenTime;
 
 // How many slots the line has then; the commit is not readable; the commit-graph file is at odds with it; or the lent memory is too small.
-#[derive(Drop)]
+#[derive(Clone, Copy)]
 pub enum Step {
     Count(usize),
     Unreadable,

@@ -1,6 +1,8 @@
 // Prints the tokens of commits' headers, a line each, and an empty line after each commit. Standard input, up to 65,536 bytes of it, has a byte
 // for the id kind, `1` or `2`, then a commit's body, then a zero byte, for each commit. Beside the good ones there are headers whose lines
 // do not stand where they may.
+#![tactic(auto)]
+
 ghost use Rattle.std.specs.Prelude.{◌≤◌, length};
 
 use commititer::{Place, State, Token, TokenRead};

@@ -1,6 +1,8 @@
 // Tracing by turns (document 02, card 12): whether the cone bench can force the trace from a run to a calibration within d moves, and its first
 // forcing parent, from the commit store alone. The lent memo may have any length, also 0: the answer is the same. Every function is total and safe on
 // any bytes and numbers.
+#![tactic(auto)]
+
 ghost use Rattle.std.specs.Prelude.{◌≡◌};
 ghost use Rattle.object.specs.Ids.{id_in};
 ghost use Rattle.walk.specs.Opening.{list_ids};
@@ -16,7 +18,7 @@ use walk::Refusal;
 
 // What is said of a start: the bed can evade; the start is on the list; the cone forces it, by the parent of this number, counted from 0; or why nothing
 // is said.
-#[derive(Drop)]
+#[derive(Clone, Copy)]
 pub enum Prospect {
     NotForced,
     AtStart,
@@ -25,7 +27,7 @@ pub enum Prospect {
 }
 
 // The same, with the parent's id; zeros where there is none.
-#[derive(Drop)]
+#[derive(Clone, Copy)]
 pub struct Traced {
     pub outcome: Prospect,
     pub parent: ObjectId,

@@ -1,6 +1,8 @@
 // Traces by turns, for each case of standard input, and prints what is said: `not forced`, `at the start`, the number and the id of the first forcing parent,
 // or the refusal's number. A case is the kind of ids (1 SHA-1, 2 SHA-256), a start, the moves, the length of the memo to lend and that of the list
 // (big-endian u32s), the list and the commit store, and before it stands its own length, at most 65,536. tools/make_traces.py makes them.
+#![tactic(auto)]
+
 ghost use Rattle.std.specs.Prelude.{◌≤◌};
 
 use hash::Kind;

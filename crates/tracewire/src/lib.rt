@@ -1,5 +1,7 @@
 // Tracing by turns, for callers in other languages: the width of ids as a number, the start as bytes, and the answer as an id and two numbers in lent
 // slices. Every function is total on any bytes, numbers and lengths.
+#![tactic(auto)]
+
 ghost use Rattle.std.specs.Prelude.{◌≡◌};
 ghost use Rattle.hash.specs.Bytes.{width_of};
 ghost use Rattle.wire.specs.Words.{kind_of};

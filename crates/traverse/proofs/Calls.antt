@@ -27,6 +27,7 @@ by_number Q d cs g f (suc k) c (after p) = f k c p
 pub calls-walk : (i : Input) (st : State) → open_walk i true ≡ opened st → (n : ℕ) (r : Record) (m : Lent) (cs : List Call)
     → room_for i (lengths_of m) ≡ true → Reads r m.memory (shape_of i) (state_after i n) → Calls (files_of i) r m cs
     → (k : ℕ) (c : Call) → CallIs cs k c → Gives c (answer_at_call i (n + k))
+calls-walk i st e n r m [] room h _ k c p = elim p [ ]
 calls-walk i st e n r m (d ∷ cs) room h (call u s rest) k c p =
     let room₁ : room_for i (lengths_of d.lent) ≡ true = ap (room_for i) u.same-lengths ∙ room in
     let a = s.opened-call i.tips n st (ap (open_walk i) room₁ ∙ e) (u.reads_same (shape_of i) (state_after i n) h) in
@@ -53,6 +54,7 @@ answers-up_to f (c ∷ cs) h = cons_both (h zero c here).all-fields (answers-up_
 pub take_up_to : (f : ℕ → Answer) (cs : List Call) → ((k : ℕ) (c : Call) → CallIs cs k c → Gives c (f k))
     → (k : ℕ) (c : Call) → CallIs cs k c → take (suc k) (answers_of cs) ≡ map given (up_to f (suc k))
 unfolding answers_of up_to
+take_up_to f [] h k d p = elim p [ ]
 take_up_to f (c ∷ cs) h zero d here = cons_both (h zero c here).all-fields refl
 take_up_to f (c ∷ cs) h (suc k) d (after p) = cons_both (h zero c here).all-fields (take_up_to (λ n. f (suc n)) cs (λ j b q. h (suc j) b (after q)) k d p)
 
@@ -60,6 +62,7 @@ take_up_to f (c ∷ cs) h (suc k) d (after p) = cons_both (h zero c here).all-fi
 
 pub calls-shut : (f : Files) (r : Record) (m : Lent) (cs : List Call) → r ≡ closed_record → Calls f r m cs → (k : ℕ) (c : Call) → CallIs cs k c → Shut c
 unfolding closed_record given
+calls-shut f r m [] e _ k c p = elim p [ ]
 calls-shut f r m (d ∷ cs) e (call u s rest) k c p =
     let a = s.closed-call (ap (λ (q : Record). q.live) e) in
     let t = s.twelve (ap (λ (q : Given). q.outcome) a) in

@@ -31,7 +31,7 @@ answers-wide i k a m x h = go (open_walk i true) refl m
   where
     go : (o : Opening) → open_walk i true ≡ o → Mem a (answers_from (walk_of i) k o) → length x ≡ width_in i
     go (closed r) e n = let z : Mem x (handed_by shut.kind) = subst (λ (b : Answer). Mem x (handed_by b.kind)) (only-shut k a n) h in absurd (Memᴰ.not-nil z)
-    go (opened st) e n = universe-wide i (open_accepted i st e) x ((all_told i st e k a m).id_in x h)
+    go (opened st) e n = universe-wide i (open_accepted i st e) x ((all_told i st e k a m).id_in_lem x h)
 
 -- so the answer of number k
 in_up_to : (f : ℕ → Answer) (k : ℕ) → Mem (f k) (up_to f (suc k))

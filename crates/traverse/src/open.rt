@@ -22,7 +22,7 @@ use state::{Fixed, Record, Seen};
 use walk::{CommitTimeOrder, OpenAnswer, OpenOutcome, Parents, Refusal, Settings, Sorting};
 
 // How a tip that is neither excluded nor a repeat comes in: it waits, with its seconds, or a cutoff turns it away and it is only seen.
-#[derive(Drop)]
+#[derive(Clone, Copy)]
 pub enum Admission {
     Admitted(Seconds),
     OnlySeen,

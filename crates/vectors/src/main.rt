@@ -1,6 +1,8 @@
 // Runs the vectors of standard input, good and damaged stores, headers and graph files, and prints what the readers find.
 // A case is a kind (one byte) and three parts, each a big-endian u32 length and its bytes, and before it
 // stands its own length, at most 65,536. tools/make_vectors.py makes them.
+#![tactic(auto)]
+
 use actor::StampRead;
 use commit::{Cache, Either};
 use commitgraph::parents::ParentList;

@@ -29,7 +29,7 @@ use state::{Next, Record, Waiting};
 use walk::{Answer, Info, MaybeLevel, MaybeSeconds, Outcome, Refusal, Settings};
 
 // An answer, and the record after it.
-#[derive(Drop)]
+#[derive(Clone, Copy)]
 pub struct Taken {
     pub answer: Answer,
     pub after: Record,

@@ -2,7 +2,7 @@
 -- Assumes nothing.
 use mathlib.Core.Path.{◌≡◌, refl, sym, subst}
 use mathlib.Core.Logic.{⊎_elim}
-use Prim.Native.Nat.{ℕ, zero, suc, ◌≤◌}
+use Prim.Native.Nat.{ℕ, zero, suc, ◌≤◌, ◌+◌}
 use mathlib.Core.Bool.{Bool, true, false, cond}
 use mathlib.Core.Option.{Option, none, some}
 use mathlib.Core.List.Memᴰ
@@ -21,7 +21,7 @@ use Rattle.walk.specs.Opening.{Input, walk_of, P, refusal, Opening, closed, open
 use Rattle.walk.specs.Next.{zoned, zone_shown, ending, Kind, end, refused, Answer, Step, step, painted_with, next}
 use Rattle.walk.specs.Calls.{calls, shut_calls, answers_from, answers}
 use Rattle.walk.specs.Reach.{Mem}
-use Rattle.walk.specs.Sums.{Sums, SumLaw}
+use Rattle.walk.specs.Sums.{Sums, SumLaw, uses}
 use Rattle.walk.specs.AnyInput.{Numbers, AllNumbers}
 use Rattle.walk.proofs.Whole.{answers-calls, sum_law}
 use Rattle.walk.proofs.Moves.{Takes, nothing, absent, from-store, from_row, drops, Moves, later, unhidden, strikes, stops, moves}
@@ -83,7 +83,7 @@ sums_parts n [] Sums.no_call a m = absurd (Memᴰ.not-nil m)
 sums_parts n (b ∷ l) (Sums.call e s) a m =
     ⊎_elim
     (λ j. subst (λ (c : Answer). (c.struck ≤ c.admitted) × (c.waiting ≤ c.admitted)) (sym j) (omega (arith, e), omega (arith, e)))
-    (λ j. sums_parts _ l s a j)
+    (λ j. sums_parts (n + uses b) l s a j)
     (Memᴰ.cases_cons m)
 
 calls_admit : (i : Input) (k : ℕ) (st : State) → refusal i ≡ none → Roomy i st → (a : Answer) → Mem a (calls (walk_of i) k st) → (a.admitted ≤ P i) × (length a.parents ≤ most)

@@ -1,4 +1,6 @@
 // The walk's settings, answers and refusals (gix_traverse::commit: `Sorting`, `Parents`, `Info`); specs/ says what a walk is.
+#![tactic(auto)]
+
 ghost use Rattle.std.specs.Prelude.{◌≡◌, ltb, ◌-◌};
 ghost use Rattle.walk.specs.Given.{calls_after};
 ghost use Rattle.walk.specs.Refusals.{number_of};
@@ -10,14 +12,14 @@ use date::{Seconds, Zone};
 use hash::Kind;
 
 // Which of two commits a time order takes first (document 01: newest, oldest).
-#[derive(Drop)]
+#[derive(Clone, Copy)]
 pub enum CommitTimeOrder {
     NewestFirst,
     OldestFirst,
 }
 
 // The order of a walk (document 01: breadth order, time order, a cutoff).
-#[derive(Drop)]
+#[derive(Clone, Copy)]
 pub enum Sorting {
     BreadthFirst,
     ByCommitTime(CommitTimeOrder),
@@ -28,14 +30,14 @@ pub enum Sorting {
 }
 
 // Which parents a walk follows (document 01: the mode).
-#[derive(Drop)]
+#[derive(Clone, Copy)]
 pub enum Parents {
     All,
     First,
 }
 
 // The settings of a walk, and the kind of the ids that its files and lists hold (document 02, card 13).
-#[derive(Drop)]
+#[derive(Clone, Copy)]
 pub struct Settings {
     pub sorting: Sorting,
     pub parents: Parents,
@@ -43,14 +45,14 @@ pub struct Settings {
 }
 
 // A commit's place in the painting's order (document 01: the pair of level and seconds).
-#[derive(Drop)]
+#[derive(Clone, Copy)]
 pub struct GenThenTime {
     pub generation: Level,
     pub time: Seconds,
 }
 
 // Why an opening or a call is refused; `number` gives its number in document 01's table, which document 02's cards go on with.
-#[derive(Drop)]
+#[derive(Clone, Copy)]
 pub enum Refusal {
     BufferTooSmall,
     InputTooLarge,
@@ -80,7 +82,7 @@ pub enum Refusal {
 }
 
 // What a call gives: a commit, the end, or a refusal.
-#[derive(Drop)]
+#[derive(Clone, Copy)]
 pub enum Outcome {
     Commit,
     End,
@@ -88,14 +90,14 @@ pub enum Outcome {
 }
 
 // A generation, where the commit came from the commit-graph file.
-#[derive(Drop)]
+#[derive(Clone, Copy)]
 pub enum MaybeLevel {
     Generation(Level),
     NoGeneration,
 }
 
 // The seconds that a commit was queued with, under a time order.
-#[derive(Drop)]
+#[derive(Clone, Copy)]
 pub enum MaybeSeconds {
     Time(Seconds),
     NoTime,
@@ -103,7 +105,7 @@ pub enum MaybeSeconds {
 
 // What an answer says of a commit (gix_traverse::commit::Info). Its id has the width of its kind, and zeros stand after it. The parents' ids
 // stand at the start of the lent buffer `parents`; here is their number. In a refusal and at the end all else is zeros and none.
-#[derive(Drop)]
+#[derive(Clone, Copy)]
 pub struct Info {
     pub id: [u8; 32],
     pub parents: usize,
@@ -114,7 +116,7 @@ pub struct Info {
 }
 
 // The answer of a call: its outcome, what it says of a commit, and the walk's running numbers.
-#[derive(Drop)]
+#[derive(Clone, Copy)]
 pub struct Answer {
     pub outcome: Outcome,
     pub info: Info,
@@ -124,14 +126,14 @@ pub struct Answer {
 }
 
 // What an opening gives.
-#[derive(Drop)]
+#[derive(Clone, Copy)]
 pub enum OpenOutcome {
     Accepted,
     NotOpened(Refusal),
 }
 
 // The answer of an opening: its outcome and the walk's running numbers.
-#[derive(Drop)]
+#[derive(Clone, Copy)]
 pub struct OpenAnswer {
     pub outcome: OpenOutcome,
     pub admitted: usize,

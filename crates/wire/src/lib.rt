@@ -1,5 +1,7 @@
 // A walk's record, settings and answers as plain numbers in lent slices, for callers in other languages. Every function is total on any
 // numbers and lengths.
+#![tactic(auto)]
+
 ghost use Rattle.std.specs.Prelude.{◌≡◌, ◌%◌, ◌≤◌, true, get_or, set, length, eqb};
 ghost use Rattle.hash.specs.Bytes.{width_of, set_down};
 ghost use Rattle.object.specs.Ids.{id_in, padded};

@@ -1,5 +1,7 @@
 // What is readable within so many parent steps of a commit (document 02, card 12, refusal 13): one function that calls itself with one step fewer. A
 // memo of any length remembers what it came to. It is total and safe on any bytes and numbers.
+#![tactic(auto)]
+
 ghost use Rattle.std.specs.Prelude.{◌≡◌};
 ghost use Rattle.object.specs.Ids.{id_in};
 ghost use Rattle.withinreach.specs.Remembered.{Reads};

@@ -25,7 +25,7 @@ fn seq_of(line: &[u32], cap: usize, slot: u32) -> u32
 }
 
 // What slots are handed out by (gix_traverse's QueueKey): seconds, the newest first or the oldest.
-#[derive(Drop)]
+#[derive(Clone, Copy)]
 struct QueueKey {
     seconds: Seconds,
     newest: bool,

@@ -1,0 +1,16 @@
+-- `hash::compare_bytes` meets its contract: up to place i the two agree, so the comparison is that of what is left, and the first byte that
+-- differs, or the end of one of the two, decides it. Assumes nothing.
+use borrow.Author.Rules.{rules}
+use mathlib.Core.Path.{◌≡◌, refl, ◌∙◌}
+use Prim.Native.Nat.{◌≤◌, ◌-◌}
+use native.Mathlib.Omega.{arith}
+use lib.ListN.{length, drop}
+use Rattle.hash.specs.Bytes.{compare_id}
+use Rattle.hash.proofs.Ids.{compare-tail, compare-head-less, compare-head-greater, compare_ends, compare_begins, compare_done}
+use Rattle.hash.proofs.compare_bytes.Given as goal
+
+abbrev pub invariant-loop-i : goal.invariant-loop-i
+invariant-loop-i l = (l.i ≤ length l.a) × (l.i ≤ length l.b) × (compare_id (drop l.from l.a) (drop l.from l.b) ≡ compare_id (drop l.i l.a) (drop l.i l.b))
+
+abbrev pub decreases-loop-i : goal.decreases-loop-i
+decreases-loop-i l = length l.a - l.i

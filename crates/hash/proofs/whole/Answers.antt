@@ -1,0 +1,10 @@
+-- `hash::whole` meets its contract: each width is a rest by a constant. Assumes nothing.
+use Rattle.hash.proofs.Widths.{width_1, width_256}
+use borrow.Author.Rules.{rules}
+use Rattle.hash.proofs.whole.Goals as goal
+
+pub returns-in-Sha1 : goal.returns-in-Sha1
+returns-in-Sha1 c = rw (width_1 c.in-Sha1.is)
+
+pub returns-in-Sha256 : goal.returns-in-Sha256
+returns-in-Sha256 c = rw (width_256 c.in-Sha256.is)

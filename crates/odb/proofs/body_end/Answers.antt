@@ -1,0 +1,12 @@
+-- `odb::body_end` meets its contract. The end stands after the id of entry k. Assumes nothing.
+use mathlib.Core.Path.{◌∙◌, ap}
+use Prim.Native.Nat.{ℕ, ◌+◌, ◌*◌}
+use Rattle.hash.specs.Bytes.{u32_at}
+use Rattle.odb.specs.Store.{entry_size, body_end}
+use borrow.Author.Rules.{rules}
+use Rattle.odb.proofs.body_end.Goals as goal
+
+pub returns : goal.returns
+unfolding body_end
+returns c = let s = c in
+    c.wide.ensures.0 ∙ c.be32.ensures ∙ ap (λ (i : ℕ). u32_at s.args.store.now (i + entry_size s.args.w * s.args.k + s.args.w)) s.requires.0

@@ -1,0 +1,12 @@
+-- Past the end a list has its default.
+use mathlib.Core.Path.{sym}
+use native.Mathlib.Omega.{arith}
+use lib.ListN.{get_or-eq_default}
+use borrow.Author.Rules.{rules}
+use Rattle.revwalk.proofs.queue.heap.seq_of.Goals as goal
+
+pub returns-else-i-line : goal.returns-else-i-line
+returns-else-i-line c = sym (get_or-eq_default c.args.line.now 0 (omega arith))
+
+pub returns-else-cap-line : goal.returns-else-cap-line
+returns-else-cap-line c = sym (get_or-eq_default c.args.line.now 0 (omega arith))

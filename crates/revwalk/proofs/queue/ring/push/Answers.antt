@@ -1,0 +1,18 @@
+-- Each test that refuses contradicts a good queue with room for the slot; else the slot stands at the place after the last.
+use native.Mathlib.Omega.{arith}
+use Rattle.revwalk.proofs.QueueGood.{good-room, good_left, refused}
+use Rattle.revwalk.proofs.QueueRing.{pushes}
+use borrow.Author.Rules.{rules}
+use Rattle.revwalk.proofs.queue.ring.push.Goals as goal
+
+pub returns-then-line-cap : goal.returns-then-line-cap
+returns-then-line-cap c = λ times. refused (λ g s f n. omega (arith, good-room g))
+
+pub returns-then-cap-n : goal.returns-then-cap-n
+returns-then-cap-n c = λ times. refused (λ g s f n. omega (arith, good_left g _ s f))
+
+pub returns-then-cap-head : goal.returns-then-cap-head
+returns-then-cap-head c = λ times. refused (λ g s f n. omega (arith, (g.ring c.requires).start (omega arith)))
+
+pub returns : goal.returns
+returns c = let s = c in λ times. pushes s.args.q times s.args.line.now s.requires _ _ c.if-line-cap.false c.if-cap-n.false c.if-cap-head.false c.place-p.ensures.1 c.place-p.ensures.0

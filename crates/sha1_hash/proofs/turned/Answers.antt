@@ -1,0 +1,6 @@
+-- `sha1::turned` meets its contract. Assumes nothing.
+use Rattle.std.proofs.Common.{◌≡◌, sym, refl, ap, ◌∙◌, rules}
+use Rattle.sha1_hash.proofs.turned.Goals as goal
+
+pub returns : goal.returns
+returns c = cc
