@@ -1,22 +1,20 @@
 -- Laws of the places in a line that names a person. The first place of a byte is the one with none before it, the last the one with
 -- none after it; the answers of the search tell these places; the email and the seconds stand by them. Assumes nothing.
-use mathlib.Core.Path.{◌≡◌, refl, sym, ap, ◌∙◌, subst}
+use mathlib.Core.Path.{◌≡◌, refl, ap, ◌∙◌}
 use mathlib.Core.List.{List, [], ◌∷◌}
 use mathlib.Core.Bool.{Bool, true, false, cond}
 use mathlib.Core.Option.{Option, none, some}
-use Prim.Native.Nat.{ℕ, zero, suc, ◌+◌, ◌-◌, ◌≤◌, ◌<◌}
+use Prim.Native.Nat.{ℕ, zero, suc, ◌+◌, ◌≤◌, ◌<◌}
 use native.Mathlib.Numerals.{add-one}
 use native.Mathlib.Omega.{arith}
-use lib.ListN.{length, get_or, take, drop, length-drop}
-use lib.Seq.{drop-drop, length-take-le}
+use lib.ListN.{length, get_or, drop}
 use lib.Dec.{eqb, ltb}
 use borrow.Author.Tests.{eq-eqb, ne_eqb, ltb-true, ltb-false}
 use Rattle.hash.specs.Bytes.{if_some}
 use Rattle.actor.specs.Person.{further, first_of, last_of, has_email, spaced, line_seconds}
 use Rattle.actor.specs.Read.{place}
-use Rattle.actor.specs.declared.Spot.{Spot}
 use Rattle.actor.specs.declared.Spot.TheVariants.{At, Missing}
-use Rattle.hash.proofs.Tests.{by_cases, clash, no-some}
+use Rattle.hash.proofs.Tests.{by_cases, no-some}
 
 -- the first place
 pub first-here : (c : ℕ) (b : List ℕ) (i : ℕ) → i < length b → get_or b i 0 ≡ c → ((k : ℕ) → k < i → get_or b k 0 ≡ c → ⊥) → first_of c b ≡ some i

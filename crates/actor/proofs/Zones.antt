@@ -1,18 +1,18 @@
 -- Laws of the zone in a committer line. Each test of a byte, a digit or a number picks a case of the definition; minutes on a clock of at
 -- most 14 hours are below 900. Assumes nothing.
-use mathlib.Core.Path.{◌≡◌, refl, sym, ap, ◌∙◌, subst}
-use mathlib.Core.List.{List, [], ◌∷◌}
-use mathlib.Core.Bool.{Bool, true, false, cond, ◌&&◌}
+use mathlib.Core.Path.{◌≡◌, sym, ap, ◌∙◌}
+use mathlib.Core.List.{List}
+use mathlib.Core.Bool.{true, false, ◌&&◌}
 use mathlib.Core.Option.{Option, none, some}
-use Prim.Native.Nat.{ℕ, zero, suc, ◌+◌, ◌-◌, ◌*◌, ◌≤◌, ◌<◌}
+use Prim.Native.Nat.{ℕ, suc, ◌+◌, ◌-◌, ◌*◌, ◌≤◌, ◌<◌}
 use native.Mathlib.Numerals.{add-one}
 use native.Mathlib.Omega.{arith}
 use lib.ListN.{length, get_or, drop}
-use lib.Dec.{eqb, leb, ltb}
-use lib.IntN.{ℤ, pos, neg_ℤ}
+use lib.Dec.{leb, ltb}
+use lib.IntN.{pos, neg_ℤ}
 use borrow.Author.Tests.{eq-eqb, ne_eqb, le-leb, lt-leb, lt-ltb, le-ltb, leb-true, ltb-true}
 use Rattle.hash.specs.Bytes.{if_some}
-use Rattle.hash.proofs.Tests.{by_cases, no-some, some_in, and_both, and_of}
+use Rattle.hash.proofs.Tests.{by_cases, no-some, some_in, and_both}
 use Rattle.actor.specs.Person.{digit, first_of, last_of, two_digits, clock, clock_text, by_sign, zone_text, spaced_zone, line_zone}
 
 -- two digits: the first is none, the second is none, both are

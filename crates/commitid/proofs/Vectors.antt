@@ -1,8 +1,7 @@
 -- Published vectors (`abc`, the first example of FIPS 180-4 for each kind) and a commit's header, by computation: the definitions compute, so each
 -- is the definition's own value. Assumes nothing.
 use mathlib.Core.Path.{◌≡◌, refl}
-use Prim.Native.Nat.{ℕ}
-use mathlib.Core.List.{List, [], ◌∷◌}
+use mathlib.Core.List.{[], ◌∷◌}
 use Rattle.hash.specs.Bytes.{at, u32_at}
 use Rattle.hash.specs.declared.Kind.TheVariants.{Sha1, Sha256}
 use Rattle.digest.specs.Blocks.{times, made, bit_length, padding, padded, words_of, block_count, block_words, digest}

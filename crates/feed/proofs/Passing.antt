@@ -1,6 +1,6 @@
 -- Passing the lines one by one tells what the lines with each start tell together: a second line with a start makes the reading given twice, and
 -- no further line takes that back. Assumes nothing.
-use mathlib.Core.Path.{◌≡◌, refl, sym, ap, ◌∙◌}
+use mathlib.Core.Path.{◌≡◌, refl, ap, ◌∙◌}
 use mathlib.Core.Bool.{Bool, true, false, ◌||◌}
 use mathlib.Core.Option.{Option, none, some}
 use mathlib.Core.List.{List, [], ◌∷◌}
@@ -9,7 +9,7 @@ use Rattle.hash.specs.Bytes.{if_some, pick}
 use Rattle.object.specs.Header.{strip}
 use Rattle.walk.specs.declared.Refusal.TheVariants.{ReadingTwice, ReadingUnreadable}
 use Rattle.feed.specs.declared.Told.{Told}
-use Rattle.feed.specs.declared.Told.TheVariants.{Nothing, Millimetres, Unreadable, Twice}
+use Rattle.feed.specs.declared.Told.TheVariants.{Nothing, Twice}
 use Rattle.feed.specs.declared.Lines.{Lines}
 use Rattle.feed.specs.declared.FeedOutcome.TheVariants.{Read, Faulty}
 use Rattle.feed.specs.Feed.{cone_start, bed_start, millimetres, told_by, told, starting_so, twice, unreadable, reading_in, judged, lines_of, message_of, feed_in, feed_of}

@@ -11,10 +11,8 @@ use borrow.Author.Tests.{leb-true}
 use Rattle.hash.specs.Bytes.{if_some, pick}
 use Rattle.hash.proofs.Tests.{by_cases, no-some, some_in}
 use Rattle.walk.specs.declared.Refusal.TheVariants.{ReadingTwice, ReadingUnreadable}
-use Rattle.feed.specs.declared.Reading.{Reading}
-use Rattle.feed.specs.declared.Reading.TheVariants.{Absent, Given}
+use Rattle.feed.specs.declared.Reading.TheVariants.{Given}
 use Rattle.feed.specs.declared.Feed as feed
-use Rattle.feed.specs.declared.FeedOutcome.{FeedOutcome}
 use Rattle.feed.specs.declared.FeedOutcome.TheVariants.{Read, Faulty}
 use Rattle.feed.specs.declared.Told.{Told}
 use Rattle.feed.specs.declared.Told.TheVariants.{Nothing, Millimetres, Unreadable, Twice}

@@ -1,9 +1,9 @@
 -- A cycle leaves no levels, since they fall along a link; a level is at most the number of nodes; and the turns of a search are linear. Assumes nothing.
-use mathlib.Core.Path.{◌≡◌, refl, sym, ◌∙◌, ap, subst}
-use Prim.Native.Nat.{ℕ, zero, suc, ◌+◌, ◌*◌, ◌-◌, ◌≤◌, ◌<◌}
+use mathlib.Core.Path.{◌≡◌, refl, subst}
+use Prim.Native.Nat.{ℕ, zero, suc, ◌+◌, ◌*◌, ◌≤◌, ◌<◌}
 use native.Mathlib.Omega.{arith}
 use borrow.Author.Tests.{eq-eqb}
-use Rattle.levels.specs.Levels.{Graph, level_from, Rule, Sound, Fit, level_at, level_of}
+use Rattle.levels.specs.Levels.{Graph, Fit, level_at, level_of}
 use Rattle.levels.specs.Search.{total, turns_of, left}
 use Rattle.levels.proofs.Rules.{falls, from_bound}
 

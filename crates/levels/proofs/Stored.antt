@@ -2,13 +2,13 @@
 use mathlib.Core.Path.{◌≡◌, refl, sym, ◌∙◌, ap, subst}
 use mathlib.Core.Bool.{Bool, true, false, cond}
 use mathlib.Core.List.{List}
-use Prim.Native.Nat.{ℕ, ◌≤◌, ◌<◌}
+use Prim.Native.Nat.{ℕ}
 use native.Mathlib.Omega.{arith}
 use lib.ListN.{length}
 use lib.Dec.{ltb}
 use Rattle.hash.specs.Bytes.{pick}
 use Rattle.idlist.specs.IdList.{rising}
-use Rattle.odb.specs.Store.{entries, entry_ids, standing_entries, store_is_ok}
+use Rattle.odb.specs.Store.{entry_ids, standing_entries, store_is_ok}
 use Rattle.odb.specs.Lookup.{ids_rise}
 use Rattle.odb.proofs.Store.{good, good-count}
 use Rattle.levels.specs.Levels.{fit}

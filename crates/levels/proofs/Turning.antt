@@ -1,20 +1,17 @@
 -- From a store in the lent memory to a turn of the search: one law for each way that a turn ends. Assumes nothing.
 use mathlib.Core.Path.{◌≡◌, refl, sym, ◌∙◌, ap, subst}
 use mathlib.Core.Logic.{⊎_elim, ◌⊎◌, inl, inr}
-use mathlib.Core.Bool.{Bool, true, false, cond}
 use mathlib.Core.List.{List, [], ◌∷◌}
-use Prim.Native.Nat.{ℕ, zero, suc, ◌+◌, ◌*◌, ◌-◌, ◌/◌, ◌%◌, ◌≤◌, ◌<◌}
+use Prim.Native.Nat.{ℕ, suc, ◌+◌, ◌*◌, ◌-◌, ◌%◌, ◌≤◌, ◌<◌}
 use native.Mathlib.Omega.{arith}
 use native.Mathlib.Numerals.{add-one}
-use lib.ListN.{length, get_or, set, length-set, get_or-eq_default}
+use lib.ListN.{length, get_or, set}
 use lib.Seq.{set_out, get_or-set_same, get_or-set_other}
 use lib.Dec.{ltb}
-use borrow.Author.Tests.{lt-ltb, le-ltb}
 use Rattle.hash.proofs.Tests.{by_cases}
-use Rattle.levels.specs.declared.Turn.{Turn}
 use Rattle.levels.specs.declared.Turn.TheVariants.{On, All, Unfit}
 use Rattle.levels.specs.Levels.{Graph, larger, most, level_from, Fit}
-use Rattle.levels.specs.Search.{most_nodes, tag, back_of, hand_of, left, DoneAt, Linked, Chain, Search, at, Turns, Puts}
+use Rattle.levels.specs.Search.{most_nodes, tag, back_of, hand_of, left, Linked, Chain, Search, at, Turns, Puts}
 use Rattle.levels.proofs.Rules.{three}
 use Rattle.levels.proofs.Moves.{Upd, pushed, pushed-less, opens, skipped, finished, crowded, absent, cycle, stepped, stepped-less, ended, ended-less, level-fits, top_low}
 

@@ -1,6 +1,6 @@
 -- Levels (git: topological levels, generation number v1) of a graph whose nodes are numbers below `nodes`: the rule, and what makes a graph
 -- fit to have them. Everything computes. Assumes nothing.
-use Rattle.std.specs.Prelude.{◌≡◌, ℕ, zero, suc, ◌+◌, ◌-◌, ◌≤◌, ◌<◌, Bool, true, false, cond, eqb, ltb, leb}
+use Rattle.std.specs.Prelude.{◌≡◌, ℕ, zero, suc, ◌≤◌, ◌<◌, Bool, true, false, cond, eqb, ltb, leb}
 
 -- how many nodes there are, how many parents a node has, and its parents in order. A node whose count is over 256 is crowded or unreadable;
 -- a parent that is no node is absent

@@ -1,8 +1,8 @@
 -- The search for levels in lent memory: one number a node, 0 for a node not met, `tag` plus its level for a node that is done, and between the two a node
 -- on the path: 512 times one more than the node to go back to (`nodes` where there is none), plus the number of the parent at hand. Assumes nothing.
-use Rattle.std.specs.Prelude.{◌≡◌, ℕ, zero, suc, ◌+◌, ◌*◌, ◌-◌, ◌/◌, ◌%◌, ◌≤◌, ◌<◌, Bool, true, false, cond, length, get_or, set, eqb, ltb, leb}
+use Rattle.std.specs.Prelude.{◌≡◌, ℕ, zero, suc, ◌+◌, ◌-◌, ◌/◌, ◌%◌, ◌≤◌, ◌<◌, cond, length, get_or, set, eqb, ltb, leb}
 use mathlib.Core.List.{List, [], ◌∷◌, Memᴰ}
-use Rattle.levels.specs.Levels.{Graph, Rule, Fit, level_from, most, level_of, fit}
+use Rattle.levels.specs.Levels.{Graph, Fit, level_from, most, level_of, fit}
 use Rattle.levels.specs.declared.Turn.{Turn}
 use Rattle.levels.specs.declared.Turn.TheVariants.{On, All, Unfit}
 use Rattle.levels.specs.declared.Answer.{Answer}

@@ -1,14 +1,14 @@
 -- The commits of a store as a graph: entry k's parents are what its parent lines name, by the numbers of their entries (document 02, card 4). Assumes nothing.
-use Rattle.std.specs.Prelude.{◌≡◌, ℕ, ◌+◌, ◌<◌, ◌≤◌, Bool, true, false, cond, List, [], length, drop, get_or}
+use Rattle.std.specs.Prelude.{◌≡◌, ℕ, ◌+◌, ◌<◌, ◌≤◌, cond, List, [], length, drop, get_or}
 use Rattle.hash.specs.Bytes.{Id, if_some, pick}
 use Rattle.idlist.specs.IdList.{find_in}
 use Rattle.object.specs.Header.{tree_size, Parents, parent_lines, most as mostLines}
-use Rattle.odb.specs.Store.{entries, entry_ids, standing_entries, store_is_ok}
+use Rattle.odb.specs.Store.{entry_ids, standing_entries, store_is_ok}
 use Rattle.odb.specs.Lookup.{entry_body}
 use Rattle.levels.specs.Levels.{Graph, level_of}
 use Rattle.levels.specs.Search.{tag, at, answer_of}
 use Rattle.levels.specs.declared.Answer.{Answer}
-use Rattle.levels.specs.declared.Answer.TheVariants.{Levelled, NoLevels, Short, Torn}
+use Rattle.levels.specs.declared.Answer.TheVariants.{Levelled, Short, Torn}
 
 -- the parent lines behind the place of the tree line, up to 256 of them
 unfoldable pub lines_in : ℕ → List ℕ → Parents

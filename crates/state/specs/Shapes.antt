@@ -1,5 +1,5 @@
 -- The order of a queue by its shape alone, and the model's steps by it: a commit waits, a commit goes back. Assumes nothing.
-use Rattle.std.specs.Prelude.{ℕ, suc, Bool, true, false, cond, ◌&&◌, ◌||◌, List, ◌∷◌, ℤ, pos}
+use Rattle.std.specs.Prelude.{ℕ, suc, Bool, true, false, cond, ◌&&◌, List, ◌∷◌, ℤ}
 use Rattle.hash.specs.Bytes.{Id, width_of}
 use Rattle.hash.specs.declared.Kind.{Kind}
 use Rattle.commitgraph.specs.Graph.{layout_of}

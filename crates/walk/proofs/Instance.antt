@@ -24,7 +24,7 @@ use Rattle.walk.specs.Calls.{walk_all}
 use Rattle.walk.specs.Reach.{Mem, links, Reaches, itself, through}
 use Rattle.walk.specs.Demand.{Readable, Agrees, Region, Premises, pair_at, row_generation, Third, Delivers}
 use Rattle.walk.specs.Runs.{sample, all, first_only, kinds, sample_wide}
-use Rattle.walk.specs.Slips.{ids_for, input_with, fork, listing, grown, earlier}
+use Rattle.walk.specs.Slips.{ids_for, fork, listing, grown, earlier}
 use Rattle.walk.specs.Instances.{Meets, hiding, first_hiding, all_listed, part_listed, Instances}
 use Rattle.walk.proofs.Open.{among-mem}
 use Rattle.walk.proofs.Rows.{find_nil}

@@ -8,7 +8,7 @@ use Rattle.hash.specs.Bytes.{Id, among}
 use Rattle.walk.specs.State.{Walk}
 use Rattle.walk.specs.Opening.{distinct}
 use Rattle.walk.specs.Reach.{Mem}
-use Rattle.walk.specs.Demand.{Region, Premises, tipStays, AdmittedTip, Turned, AdmittedLink, Admitted, Hidden, Listed}
+use Rattle.walk.specs.Demand.{Region, Premises, tipStays, AdmittedTip, Turned, Admitted, Hidden, Listed}
 use Rattle.walk.proofs.Open.{distinct-out, distinct-in}
 
 module _ (v : Walk) (tips : List Id) where

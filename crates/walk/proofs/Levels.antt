@@ -1,6 +1,6 @@
 -- Card 6 holds of every input: a row's level is asked for in one place, which one row of level 0 turns to 0xFFFFFFFF for the whole file, and an
 -- answer shows that as none. Assumes nothing.
-use mathlib.Core.Path.{◌≡◌, refl, sym, ◌∙◌, ap}
+use mathlib.Core.Path.{◌≡◌, refl, ◌∙◌, ap}
 use Prim.Native.Nat.{ℕ}
 use mathlib.Core.Bool.{Bool, true, false, cond}
 use mathlib.Core.Option.{Option, none, some}
@@ -14,11 +14,11 @@ use Rattle.commitgraph.specs.Graph.{graph_find, graph_parents, graph_id, graph_s
 use Rattle.commitgraph.proofs.Levels.{zero-level, levels-all, level-used}
 use Rattle.walk.specs.declared.Refusal.{Refusal}
 use Rattle.walk.specs.declared.Refusal.TheVariants.{CommitNotFound, CommitUnreadable, TooManyParents, Closed}
-use Rattle.walk.specs.Lookup.{World, Row, no_row, corrupt, row, row_at, world_of, Read, fail, good, from_store, read_row, read, Pair}
+use Rattle.walk.specs.Lookup.{World, Row, no_row, corrupt, row, row_at, world_of, fail, good, from_store, read_row, read, Pair}
 use Rattle.walk.specs.Demand.{row_generation, pair_at}
 use Rattle.walk.specs.State.{Walk, State}
 use Rattle.walk.specs.Opening.{Input, walk_of, Opening, closed, opened, open_walk, width_in}
-use Rattle.walk.specs.Next.{Kind, end, refused, handed, level_shown, Step, step, dropped, queued_seconds, ending, kind_of, painted_with, next}
+use Rattle.walk.specs.Next.{Kind, end, refused, handed, level_shown, Step, step, queued_seconds, ending, kind_of}
 use Rattle.walk.specs.Calls.{answer_on, answer_at_call, state_after}
 use Rattle.walk.specs.Levels.{ZeroRow, NoLevels, NeverComputed}
 use Rattle.walk.proofs.Moves.{Takes, nothing, absent, from-store, from_row, drops, Moves, later, unhidden, strikes, stops, moves}

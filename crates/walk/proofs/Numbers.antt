@@ -16,7 +16,7 @@ use Rattle.walk.specs.declared.Settings.{Settings}
 use Rattle.walk.specs.declared.Refusal.TheVariants.{CommitNotFound}
 use Rattle.walk.specs.Settings.{followed, only_first}
 use Rattle.walk.specs.Lookup.{row}
-use Rattle.walk.specs.State.{Walk, State, ids, with_queue, nobody}
+use Rattle.walk.specs.State.{Walk, State, with_queue, nobody}
 use Rattle.walk.specs.Opening.{Input, walk_of, P, refusal, Opening, closed, opened, open_walk}
 use Rattle.walk.specs.Next.{zoned, zone_shown, ending, Kind, end, refused, Answer, Step, step, painted_with, next}
 use Rattle.walk.specs.Calls.{calls, shut_calls, answers_from, answers}

@@ -6,13 +6,12 @@ use Prim.Native.Nat.{ℕ, zero, suc, ◌+◌}
 use mathlib.Core.Bool.{true, false, ◌||◌}
 use mathlib.Core.List.{[]}
 use native.Mathlib.Omega.{arith}
-use lib.ListN.{length}
 use Rattle.hash.proofs.Tests.{by_cases, clash}
 use Rattle.walk.specs.declared.Refusal.{Refusal}
 use Rattle.walk.specs.State.{State, ids, nobody, is_empty}
 use Rattle.walk.specs.Opening.{Input, walk_of, Opening, opened, open_walk}
 use Rattle.walk.specs.Painting.{Painting, Paint, stop, going, paint, both_marks}
-use Rattle.walk.specs.Next.{Kind, end, refused, Answer, Step, step, take_next, outside, painted_with, first_call, next}
+use Rattle.walk.specs.Next.{end, refused, Answer, Step, step, take_next, outside, painted_with, next}
 use Rattle.walk.specs.Calls.{state_of, state_after, answer_on, answer_at_call}
 use Rattle.walk.specs.Sums.{uses, PaintingRefuses, PaintingsOwn, ToldApart, RefusedCommits, GivenOnce, RefusedPainting}
 use Rattle.walk.proofs.Moves.{takes, moves, next-painted, next-first, first_plain, first-paint, first-stop}

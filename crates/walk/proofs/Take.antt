@@ -20,7 +20,7 @@ use Rattle.walk.specs.declared.Refusal.TheVariants.{CommitUnreadable, TooManyPar
 use Rattle.walk.specs.Settings.{followed, only_first}
 use Rattle.walk.specs.Lookup.{World, Row, no_row, row, corrupt, fail, good, from_store, parents_of, Pair, store_seconds, seconds_for, no_generation}
 use Rattle.walk.specs.State.{Walk, State, ids, with_queue, is_empty}
-use Rattle.walk.specs.Next.{handed, Step, step, zoned, zone_shown, level_shown, visit_all, with_seconds, queued_seconds, step_from_row, from_body, ending, kind_of, take_store, take_row, take_queue, take_next}
+use Rattle.walk.specs.Next.{handed, Step, step, zoned, level_shown, visit_all, with_seconds, queued_seconds, step_from_row, from_body, ending, kind_of, take_store, take_row, take_queue, take_next}
 use Rattle.walk.specs.Reach.{Mem, NoDup, links, Reaches, itself, through}
 use Rattle.walk.specs.Demand.{Readable, Region, Premises}
 use Rattle.walk.proofs.Queue.{Away, tip, link, Walked, Due, visitAll-went, nodup_tail, nodup_first}

@@ -1,11 +1,10 @@
 -- `actor::before_zero` meets its contract: a number of at most 18 digits, negated, fits a signed 64-bit number. Assumes nothing.
-use mathlib.Core.Path.{◌≡◌, sym, ap, ◌∙◌, subst}
-use lib.IntN.{ℤ, pos, neg_ℤ}
+use mathlib.Core.Path.{sym, ap, ◌∙◌, subst}
+use lib.IntN.{ℤ}
 use mir.Syntax.{w64}
 use mir.Val.{SFits, to_z, of_z}
 use mir.Facts.{to_z-of_z}
 use Rattle.actor.proofs.Numbers.{from_zero, below-fits}
-use borrow.Author.Rules.{rules}
 use Rattle.actor.proofs.before_zero.Goals as goal
 
 pub overflow_sub-result : goal.overflow_sub-result

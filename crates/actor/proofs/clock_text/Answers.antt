@@ -1,13 +1,12 @@
 -- `actor::clock_text` meets its contract: hours are read before minutes. Assumes nothing.
 use mathlib.Core.Path.{◌≡◌, sym, ap, ◌∙◌}
-use mathlib.Core.Option.{Option, none, some}
+use mathlib.Core.Option.{some}
 use Prim.Native.Nat.{ℕ}
 use lib.ListN.{get_or}
-use Rattle.actor.specs.Person.{two_digits, clock_text}
+use Rattle.actor.specs.Person.{two_digits}
 use Rattle.actor.specs.Read.{number_read}
 use Rattle.actor.proofs.Numbers.{read-good, read-bad}
 use Rattle.actor.proofs.Zones.{no_hours, no_minutes, hours_minutes}
-use borrow.Author.Rules.{rules}
 use Rattle.actor.proofs.clock_text.Goals as goal
 
 pub returns-in-Bad : goal.returns-in-Bad

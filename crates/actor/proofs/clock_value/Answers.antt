@@ -2,7 +2,6 @@
 use mathlib.Core.Path.{sym, ap}
 use Rattle.actor.specs.Read.{number_read}
 use Rattle.actor.proofs.Zones.{late_hour, late_minute, on-clock}
-use borrow.Author.Rules.{rules}
 use Rattle.actor.proofs.clock_value.Goals as goal
 
 pub returns-then-hours-gt14 : goal.returns-then-hours-gt14

@@ -1,12 +1,11 @@
 -- `actor::digits_value` meets its contract. The loop's invariant: the value has i digits, at most 18, and goes on with what follows
 -- as the number does. The measure is what is left. Assumes nothing.
-use Prim.Native.Nat.{ℕ, suc, ◌+◌, ◌-◌, ◌*◌, ◌^◌, ◌≤◌, ◌<◌}
-use mathlib.Core.Path.{◌≡◌, refl, sym, ap, ◌∙◌, subst}
-use mathlib.Core.Bool.{true, false}
+use Prim.Native.Nat.{ℕ, ◌+◌, ◌-◌, ◌*◌, ◌^◌, ◌<◌}
+use mathlib.Core.Path.{◌≡◌, refl, sym, ap, ◌∙◌}
+use mathlib.Core.Bool.{true}
 use native.Mathlib.Numerals.{add-one}
 use native.Mathlib.Omega.{arith}
-use lib.ListN.{length, get_or, drop}
-use borrow.Author.Tests.{not-true, not-false}
+use lib.ListN.{get_or, drop}
 use Rattle.actor.specs.Person.{digit, digits}
 use Rattle.actor.specs.Read.{number_read}
 use Rattle.actor.proofs.Numbers.{digit_bounds, at-space, at_other, at-many, at-digit, at-end, ten_more, ten_most}

@@ -1,16 +1,9 @@
 -- `actor::digits_value` meets its contract. The loop's invariant: the value has i digits, at most 18, and goes on with what follows
 -- as the number does. The measure is what is left. Assumes nothing.
-use Prim.Native.Nat.{ℕ, suc, ◌+◌, ◌-◌, ◌*◌, ◌^◌, ◌≤◌, ◌<◌}
-use mathlib.Core.Path.{◌≡◌, refl, sym, ap, ◌∙◌, subst}
-use mathlib.Core.Bool.{true, false}
-use native.Mathlib.Numerals.{add-one}
-use native.Mathlib.Omega.{arith}
-use lib.ListN.{length, get_or, drop}
-use borrow.Author.Tests.{not-true, not-false}
-use Rattle.actor.specs.Person.{digit, digits}
-use Rattle.actor.specs.Read.{number_read}
-use Rattle.actor.proofs.Numbers.{digit_bounds, at-space, at_other, at-many, at-digit, at-end, ten_more, ten_most}
-use borrow.Author.Rules.{rules}
+use Prim.Native.Nat.{◌-◌, ◌^◌, ◌≤◌, ◌<◌}
+use mathlib.Core.Path.{◌≡◌}
+use lib.ListN.{length, drop}
+use Rattle.actor.specs.Person.{digits}
 use Rattle.actor.proofs.digits_value.Given as goal
 
 abbrev pub invariant-loop-i : goal.invariant-loop-i

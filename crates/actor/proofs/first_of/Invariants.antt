@@ -1,13 +1,8 @@
 -- `actor::first_of` meets its contract. The loop's invariant: the byte stands at no place passed. The measure is what is left.
 -- Assumes nothing.
 use Prim.Native.Nat.{ℕ, ◌≤◌, ◌<◌, ◌-◌}
-use mathlib.Core.Path.{◌≡◌, sym, ap}
-use borrow.Author.Count.{below_more}
-use borrow.Author.Rules.{rules}
-use native.Mathlib.Omega.{arith}
+use mathlib.Core.Path.{◌≡◌}
 use lib.ListN.{length, get_or}
-use Rattle.actor.specs.Read.{place}
-use Rattle.actor.proofs.Places.{first-here, first-nowhere}
 use Rattle.actor.proofs.first_of.Given as goal
 
 abbrev pub invariant-loop-i : goal.invariant-loop-i

@@ -1,14 +1,11 @@
 -- `actor::has_email` meets its contract: `>` is looked for after the first `<`. Assumes nothing.
 use mathlib.Core.Path.{◌≡◌, sym, ap, ◌∙◌}
 use mathlib.Core.Bool.{true, false}
-use mathlib.Core.Option.{Option, none, some}
-use Prim.Native.Nat.{◌+◌}
+use mathlib.Core.Option.{some}
 use native.Mathlib.Omega.{arith}
-use lib.ListN.{length, drop}
 use Rattle.hash.specs.Bytes.{if_some}
 use Rattle.actor.specs.Person.{first_of, has_email}
 use Rattle.actor.proofs.Places.{place_at, place-missing, first_below, no_email, after_angle}
-use borrow.Author.Rules.{rules}
 use Rattle.actor.proofs.has_email.Goals as goal
 
 pub overflow_add-k : goal.overflow_add-k

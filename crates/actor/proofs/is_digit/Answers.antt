@@ -1,7 +1,5 @@
 -- `actor::is_digit` meets its contract: the second test is made where the first holds. Assumes nothing.
-use mathlib.Core.Path.{◌≡◌, sym, ap}
 use borrow.Author.Tests.{le-leb, lt-leb}
-use borrow.Author.Rules.{rules}
 use Rattle.actor.proofs.is_digit.Goals as goal
 
 pub returns-then-x-ge48 : goal.returns-then-x-ge48

@@ -1,9 +1,9 @@
 -- `actor::last_of` meets its contract. The loop's invariant: the byte stands at none of the places passed, those at the end.
 -- The measure is the number of the others. Assumes nothing.
-use Prim.Native.Nat.{ℕ, ◌+◌, ◌-◌, ◌≤◌, ◌<◌}
-use mathlib.Core.Path.{◌≡◌, sym, ap}
+use Prim.Native.Nat.{ℕ, ◌-◌}
+use mathlib.Core.Path.{sym, ap}
 use native.Mathlib.Omega.{arith}
-use lib.ListN.{length, get_or}
+use lib.ListN.{length}
 use Rattle.actor.specs.Read.{place}
 use Rattle.actor.proofs.Places.{last-here, last-nowhere, none_from}
 use borrow.Author.Rules.{rules}

@@ -1,12 +1,8 @@
 -- `actor::last_of` meets its contract. The loop's invariant: the byte stands at none of the places passed, those at the end.
 -- The measure is the number of the others. Assumes nothing.
 use Prim.Native.Nat.{ℕ, ◌+◌, ◌-◌, ◌≤◌, ◌<◌}
-use mathlib.Core.Path.{◌≡◌, sym, ap}
-use native.Mathlib.Omega.{arith}
+use mathlib.Core.Path.{◌≡◌}
 use lib.ListN.{length, get_or}
-use Rattle.actor.specs.Read.{place}
-use Rattle.actor.proofs.Places.{last-here, last-nowhere, none_from}
-use borrow.Author.Rules.{rules}
 use Rattle.actor.proofs.last_of.Given as goal
 
 abbrev pub invariant-loop-passed : goal.invariant-loop-passed

@@ -4,11 +4,10 @@ use mathlib.Core.Option.{Option, some}
 use Prim.Native.Nat.{◌+◌}
 use lib.IntN.{ℤ}
 use lib.ListN.{drop}
-use Rattle.actor.specs.Person.{last_of, spaced, line_seconds, line_zone, stamped}
+use Rattle.actor.specs.Person.{last_of, spaced, line_zone, stamped}
 use Rattle.actor.specs.Read.{stamp_read}
 use Rattle.actor.proofs.Places.{place_at, place-missing, last-below, no-seconds, after_email}
 use Rattle.actor.proofs.Zones.{zone-after}
-use borrow.Author.Rules.{rules}
 use Rattle.actor.proofs.line_stamp.Goals as goal
 
 pub stamp_after-requires : goal.stamp_after-requires

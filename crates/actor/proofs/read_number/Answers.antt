@@ -4,7 +4,6 @@ use lib.ListN.{get_or}
 use Rattle.actor.specs.Person.{digit}
 use Rattle.actor.specs.Read.{number_read}
 use Rattle.actor.proofs.Numbers.{number-none, number_digits}
-use borrow.Author.Rules.{rules}
 use Rattle.actor.proofs.read_number.Goals as goal
 
 pub returns-then-is_digit : goal.returns-then-is_digit

@@ -1,12 +1,10 @@
 -- `actor::signed_number` meets its contract: after a minus sign the number is negated, and it has at most 18 digits. Assumes nothing.
 use mathlib.Core.Path.{◌≡◌, sym, ap, ◌∙◌}
-use mathlib.Core.Option.{Option, some}
-use lib.ListN.{drop}
-use lib.IntN.{ℤ, pos, neg_ℤ}
+use mathlib.Core.Option.{some}
+use lib.IntN.{ℤ}
 use Rattle.actor.specs.Person.{number, plain, minus, signed}
 use Rattle.actor.specs.Read.{seconds_read}
 use Rattle.actor.proofs.Numbers.{signed-minus, signed-plain, read-good, read-bad, number_small}
-use borrow.Author.Rules.{rules}
 use Rattle.actor.proofs.signed_number.Goals as goal
 
 pub before_zero-requires : goal.before_zero-requires

@@ -1,6 +1,6 @@
 -- `actor::signed_zone` meets its contract: the sign is kept, and minutes of at most 18 digits fit a signed 64-bit number with either. Assumes nothing.
-use mathlib.Core.Path.{◌≡◌, sym, ap, ◌∙◌}
-use lib.IntN.{ℤ, pos, neg_ℤ}
+use mathlib.Core.Path.{sym, ap, ◌∙◌}
+use lib.IntN.{ℤ}
 use mir.Syntax.{w64}
 use mir.Val.{to_z, of_z}
 use mir.Facts.{to_z-of_z}
@@ -8,7 +8,6 @@ use Rattle.date.specs.declared.Zone.TheVariants.{Minutes}
 use Rattle.actor.specs.Read.{zone_given}
 use Rattle.actor.proofs.Numbers.{above-fits, below-fits}
 use Rattle.actor.proofs.Zones.{forward, backward, no_sign}
-use borrow.Author.Rules.{rules}
 use Rattle.actor.proofs.signed_zone.Goals as goal
 
 pub returns-then-sign-eq43 : goal.returns-then-sign-eq43

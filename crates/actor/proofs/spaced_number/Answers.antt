@@ -1,9 +1,8 @@
 -- `actor::spaced_number` meets its contract: past the one space stands the signed number. Assumes nothing.
-use mathlib.Core.Path.{◌≡◌, sym, ap, ◌∙◌}
-use Rattle.actor.specs.Person.{signed, spaced}
+use mathlib.Core.Path.{sym, ap, ◌∙◌}
+use Rattle.actor.specs.Person.{signed}
 use Rattle.actor.specs.Read.{seconds_read}
 use Rattle.actor.proofs.Numbers.{spaced-yes, spaced-no}
-use borrow.Author.Rules.{rules}
 use Rattle.actor.proofs.spaced_number.Goals as goal
 
 pub returns-then-byte_at-eq32 : goal.returns-then-byte_at-eq32

@@ -1,12 +1,11 @@
 -- `actor::spaced_zone` meets its contract: the zone is read after the first space. Assumes nothing.
 use mathlib.Core.Path.{◌≡◌, sym, ap, ◌∙◌}
-use mathlib.Core.Option.{Option, some}
+use mathlib.Core.Option.{some}
 use native.Mathlib.Omega.{arith}
 use Rattle.actor.specs.Person.{first_of, zone_text}
 use Rattle.actor.specs.Read.{zone_given}
 use Rattle.actor.proofs.Places.{place_at, place-missing, first_below}
 use Rattle.actor.proofs.Zones.{no_space, after_space}
-use borrow.Author.Rules.{rules}
 use Rattle.actor.proofs.spaced_zone.Goals as goal
 
 pub overflow_add-p : goal.overflow_add-p

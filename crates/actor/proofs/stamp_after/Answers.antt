@@ -1,5 +1,5 @@
 -- `actor::stamp_after` meets its contract: the seconds decide whether there is a reading, and the zone stands beside them. Assumes nothing.
-use mathlib.Core.Path.{◌≡◌, sym, ap, ◌∙◌}
+use mathlib.Core.Path.{sym, ap, ◌∙◌}
 use mathlib.Core.List.{List}
 use Prim.Native.Nat.{ℕ, ◌+◌}
 use native.Mathlib.Omega.{arith}
@@ -7,7 +7,6 @@ use lib.ListN.{drop}
 use Rattle.actor.specs.Person.{spaced, spaced_zone}
 use Rattle.actor.specs.Read.{seconds_read, zone_given}
 use Rattle.actor.proofs.Stamps.{stamp_good, stamp_bad}
-use borrow.Author.Rules.{rules}
 use Rattle.actor.proofs.stamp_after.Goals as goal
 
 pub overflow_add-k : goal.overflow_add-k

@@ -3,7 +3,6 @@ use mathlib.Core.Path.{◌∙◌}
 use native.Mathlib.Omega.{arith}
 use lib.ListN.{length}
 use Rattle.hash.proofs.Bytes.{at_rest}
-use borrow.Author.Rules.{rules}
 use Rattle.actor.proofs.tail.Goals as goal
 
 pub returns : goal.returns

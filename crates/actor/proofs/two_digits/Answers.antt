@@ -3,12 +3,10 @@ use mathlib.Core.Path.{◌≡◌, sym, ap, ◌∙◌}
 use mathlib.Core.Bool.{true}
 use Prim.Native.Nat.{ℕ, ◌+◌, ◌-◌, ◌*◌}
 use mathlib.Core.Option.{some}
-use borrow.Author.Tests.{not-true, not-false}
 use Rattle.actor.specs.Person.{digit}
 use Rattle.actor.specs.Read.{number_read}
 use Rattle.actor.proofs.Numbers.{digit_bounds}
 use Rattle.actor.proofs.Zones.{no-first, no_second, both-digits}
-use borrow.Author.Rules.{rules}
 use Rattle.actor.proofs.two_digits.Goals as goal
 
 pub returns-then-not-is_digit : goal.returns-then-not-is_digit

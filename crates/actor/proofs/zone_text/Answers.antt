@@ -1,13 +1,12 @@
 -- `actor::zone_text` meets its contract: five bytes are a sign and four digits. Assumes nothing.
 use mathlib.Core.Path.{◌≡◌, sym, ap, ◌∙◌}
-use mathlib.Core.Option.{Option, some}
+use mathlib.Core.Option.{some}
 use Prim.Native.Nat.{ℕ}
 use native.Mathlib.Omega.{arith}
 use Rattle.actor.specs.Person.{clock_text, by_sign}
 use Rattle.actor.specs.Read.{zone_given}
 use Rattle.actor.proofs.Numbers.{read-good, read-bad}
 use Rattle.actor.proofs.Zones.{other_length, no-clock, zone-signed, text-small}
-use borrow.Author.Rules.{rules}
 use Rattle.actor.proofs.zone_text.Goals as goal
 
 pub returns-then-b-ne5 : goal.returns-then-b-ne5

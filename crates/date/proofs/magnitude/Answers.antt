@@ -1,9 +1,8 @@
 -- `date::magnitude` meets its contract: a time's number fits, so it is passed on as it is. Assumes nothing.
-use mathlib.Core.Path.{◌≡◌, ◌∙◌, ap}
+use mathlib.Core.Path.{◌∙◌, ap}
 use lib.IntN.{nat_abs}
 use mir.Syntax.{w64}
 use mir.Facts.{to_z-of_z}
-use borrow.Author.Rules.{rules}
 use Rattle.date.proofs.magnitude.Goals as goal
 
 pub returns : goal.returns

@@ -1,10 +1,8 @@
 -- `date::size` meets its contract: below zero it is one more than the magnitude of the successor, which fits. Assumes nothing.
 use mathlib.Core.Path.{◌≡◌}
 use native.Mathlib.Omega.{arith}
-use lib.IntN.{ℤ}
 use mir.Syntax.{w64}
 use mir.Facts.{to_z-of_z, Fits-nat_abs}
-use borrow.Author.Rules.{rules}
 use Rattle.date.proofs.Negative.{held, negative, upward}
 use Rattle.date.proofs.size.Goals as goal
 

@@ -1,5 +1,4 @@
 -- `hash::be32` meets its contract: where four bytes stand they are read at once, else one by one. Assumes nothing.
-use borrow.Author.Rules.{rules}
 use mathlib.Core.Path.{◌≡◌, ap}
 use Prim.Native.Nat.{ℕ, ◌+◌}
 use native.Mathlib.Omega.{arith}

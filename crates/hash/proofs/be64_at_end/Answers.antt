@@ -1,10 +1,8 @@
 -- `hash::be64_at_end` meets its contract: a u32 past the end is 0. Assumes nothing.
 use native.Mathlib.Omega.{arith}
 use Prim.Native.Nat.{◌+◌}
-use mathlib.Core.Path.{◌≡◌}
 use Rattle.hash.specs.Bytes.{u64_at}
 use Rattle.hash.proofs.Bytes.{u32_at-past}
-use borrow.Author.Rules.{rules}
 use Rattle.hash.proofs.be64_at_end.Goals as goal
 
 pub returns-then-s-i : goal.returns-then-s-i

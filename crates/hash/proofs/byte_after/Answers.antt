@@ -1,8 +1,7 @@
 -- `hash::byte_after` meets its contract: past the end stands the default, 0. Assumes nothing.
-use mathlib.Core.Path.{◌≡◌, sym}
+use mathlib.Core.Path.{sym}
 use native.Mathlib.Omega.{arith}
 use lib.ListN.{get_or-eq_default}
-use borrow.Author.Rules.{rules}
 use Rattle.hash.proofs.byte_after.Goals as goal
 
 pub returns-then-s-i : goal.returns-then-s-i

@@ -1,5 +1,5 @@
 -- `hash::byte_at` meets its contract: past the end stands the default, 0. Assumes nothing.
-use mathlib.Core.Path.{◌≡◌, sym}
+use mathlib.Core.Path.{sym}
 use lib.ListN.{get_or-eq_default}
 use borrow.Author.Rules.{rules}
 use Rattle.hash.proofs.byte_at.Goals as goal

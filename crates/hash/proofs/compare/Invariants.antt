@@ -1,12 +1,9 @@
 -- `hash::compare` meets its contract: up to place i the two agree, so the comparison is that of what is left; the first eight bytes that
 -- differ decide it, and where one of the two has fewer than eight, the comparison of the rest. Assumes nothing.
-use mathlib.Core.Path.{◌≡◌, refl, sym, ◌∙◌}
-use Prim.Native.Nat.{◌≤◌, ◌-◌, ◌+◌}
-use native.Mathlib.Omega.{arith}
+use mathlib.Core.Path.{◌≡◌}
+use Prim.Native.Nat.{◌≤◌, ◌-◌}
 use lib.ListN.{drop}
 use Rattle.hash.specs.Bytes.{compare_id}
-use Rattle.hash.proofs.Words.{compare-long, long-less, long_greater}
-use borrow.Author.Rules.{rules}
 use Rattle.hash.proofs.compare.Given as goal
 
 abbrev pub invariant-loop-i : goal.invariant-loop-i

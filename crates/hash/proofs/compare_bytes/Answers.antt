@@ -2,10 +2,7 @@
 -- differs, or the end of one of the two, decides it. Assumes nothing.
 use borrow.Author.Rules.{rules}
 use mathlib.Core.Path.{◌≡◌, refl, ◌∙◌}
-use Prim.Native.Nat.{◌≤◌, ◌-◌}
 use native.Mathlib.Omega.{arith}
-use lib.ListN.{length, drop}
-use Rattle.hash.specs.Bytes.{compare_id}
 use Rattle.hash.proofs.Ids.{compare-tail, compare-head-less, compare-head-greater, compare_ends, compare_begins, compare_done}
 use Rattle.hash.proofs.compare_bytes.Goals as goal
 

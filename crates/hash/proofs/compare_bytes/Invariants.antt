@@ -1,12 +1,9 @@
 -- `hash::compare_bytes` meets its contract: up to place i the two agree, so the comparison is that of what is left, and the first byte that
 -- differs, or the end of one of the two, decides it. Assumes nothing.
-use borrow.Author.Rules.{rules}
-use mathlib.Core.Path.{◌≡◌, refl, ◌∙◌}
+use mathlib.Core.Path.{◌≡◌}
 use Prim.Native.Nat.{◌≤◌, ◌-◌}
-use native.Mathlib.Omega.{arith}
 use lib.ListN.{length, drop}
 use Rattle.hash.specs.Bytes.{compare_id}
-use Rattle.hash.proofs.Ids.{compare-tail, compare-head-less, compare-head-greater, compare_ends, compare_begins, compare_done}
 use Rattle.hash.proofs.compare_bytes.Given as goal
 
 abbrev pub invariant-loop-i : goal.invariant-loop-i

@@ -1,9 +1,9 @@
 -- `hash::copy` meets its contract: after k turns the first k bytes stand at their place and all else is as it was. Assumes nothing.
-use mathlib.Core.Path.{◌≡◌, refl, sym, ◌∙◌, ap}
-use Prim.Native.Nat.{ℕ, ◌≤◌, ◌-◌, ◌+◌, suc}
+use mathlib.Core.Path.{◌≡◌, sym, ◌∙◌, ap}
+use Prim.Native.Nat.{◌+◌, suc}
 use native.Mathlib.Omega.{arith}
-use mathlib.Core.List.{List, ◌++◌, append_assoc}
-use lib.ListN.{length, take, drop, set, get_or}
+use mathlib.Core.List.{append_assoc}
+use lib.ListN.{length, take, drop}
 use lib.Seq.{paste, paste-zero, paste-suc, length-paste, take_all}
 use Rattle.hash.proofs.Bytes.{set_down-fits}
 use borrow.Author.Rules.{rules}

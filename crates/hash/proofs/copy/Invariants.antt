@@ -1,12 +1,8 @@
 -- `hash::copy` meets its contract: after k turns the first k bytes stand at their place and all else is as it was. Assumes nothing.
-use mathlib.Core.Path.{◌≡◌, refl, sym, ◌∙◌, ap}
-use Prim.Native.Nat.{ℕ, ◌≤◌, ◌-◌, ◌+◌, suc}
-use native.Mathlib.Omega.{arith}
-use mathlib.Core.List.{List, ◌++◌, append_assoc}
-use lib.ListN.{length, take, drop, set, get_or}
-use lib.Seq.{paste, paste-zero, paste-suc, length-paste, take_all}
-use Rattle.hash.proofs.Bytes.{set_down-fits}
-use borrow.Author.Rules.{rules}
+use mathlib.Core.Path.{◌≡◌}
+use Prim.Native.Nat.{◌≤◌, ◌-◌}
+use lib.ListN.{length}
+use lib.Seq.{paste}
 use Rattle.hash.proofs.copy.Given as goal
 
 abbrev pub invariant-loop-k : goal.invariant-loop-k

@@ -1,8 +1,7 @@
 -- `hash::head` meets its contract: of the n bytes at a place there are eight where n is eight and the slice has as many there. Assumes nothing.
-use mathlib.Core.Path.{◌≡◌, ◌∙◌}
+use mathlib.Core.Path.{◌∙◌}
 use native.Mathlib.Omega.{arith}
 use Rattle.hash.proofs.Bytes.{head_few, head-past, head_at}
-use borrow.Author.Rules.{rules}
 use Rattle.hash.proofs.head.Goals as goal
 
 pub returns-then-n-lt8 : goal.returns-then-n-lt8

@@ -1,6 +1,5 @@
 -- `hash::id_at` meets its contract: the part is as wide as an id. Assumes nothing.
 use mathlib.Core.Path.{sym}
-use borrow.Author.Rules.{rules}
 use Rattle.hash.proofs.id_at.Goals as goal
 
 pub returns : goal.returns

@@ -1,6 +1,5 @@
 -- `hash::ids_in` meets its contract: each width is a division by a constant. Assumes nothing.
 use Rattle.hash.proofs.Widths.{width_1, width_256}
-use borrow.Author.Rules.{rules}
 use Rattle.hash.proofs.ids_in.Goals as goal
 
 pub returns-in-Sha1 : goal.returns-in-Sha1

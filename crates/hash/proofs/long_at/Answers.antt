@@ -1,7 +1,6 @@
 -- `hash::long_at` meets its contract: eight bytes are two words. Assumes nothing.
 use native.Mathlib.Omega.{arith}
 use Rattle.hash.specs.Bytes.{u64_at}
-use borrow.Author.Rules.{rules}
 use Rattle.hash.proofs.long_at.Goals as goal
 
 pub returns : goal.returns

@@ -1,6 +1,5 @@
 -- `hash::past_all` meets its contract: each width has its own greatest number of ids. Assumes nothing.
 use Rattle.hash.proofs.Widths.{width_1, width_256, past_20, past_32}
-use borrow.Author.Rules.{rules}
 use Rattle.hash.proofs.past_all.Goals as goal
 
 pub returns-in-Sha1 : goal.returns-in-Sha1

@@ -1,10 +1,7 @@
 -- `hash::same` meets its contract: up to place i the two agree, so whether they are the same is whether what is left is. Assumes nothing.
 use borrow.Author.Rules.{rules}
-use mathlib.Core.Path.{◌≡◌, refl, sym, ◌∙◌}
-use Prim.Native.Nat.{◌≤◌, ◌-◌}
+use mathlib.Core.Path.{refl, sym, ◌∙◌}
 use native.Mathlib.Omega.{arith}
-use lib.ListN.{length, drop}
-use Rattle.hash.specs.Bytes.{eq_id}
 use Rattle.hash.proofs.Ids.{same-tail, same_not, same-done, same_length-not}
 use Rattle.hash.proofs.same.Goals as goal
 

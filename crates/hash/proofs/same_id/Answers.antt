@@ -5,7 +5,6 @@ use native.Mathlib.Omega.{arith}
 use Rattle.hash.specs.Bytes.{width_of}
 use Rattle.hash.proofs.Widths.{width_1, width_256, width_least}
 use Rattle.hash.proofs.Words.{other_width, no-width, other_word, other-long, all_same, last-long}
-use borrow.Author.Rules.{rules}
 use Rattle.hash.proofs.same_id.Goals as goal
 
 pub returns-then-a-w : goal.returns-then-a-w

@@ -5,7 +5,6 @@ use native.Mathlib.Omega.{arith}
 use lib.ListN.{replicate}
 use Rattle.hash.specs.Bytes.{set_down}
 use Rattle.hash.proofs.Bytes.{set_down-not, set_whole}
-use borrow.Author.Rules.{rules}
 use Rattle.hash.proofs.set_down.Goals as goal
 
 pub returns-then-out-i : goal.returns-then-out-i

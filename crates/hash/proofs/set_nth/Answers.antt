@@ -1,11 +1,10 @@
 -- `hash::set_nth` meets its contract: past every place of 64 bits nothing is changed, else the place is a number. Assumes nothing.
 use mathlib.Core.Path.{sym, ◌∙◌}
-use Prim.Native.Nat.{◌*◌, ◌<◌, ◌≤◌}
+use Prim.Native.Nat.{◌*◌}
 use native.Mathlib.Omega.{arith}
 use borrow.Author.Tests.{leb-true, leb-false}
 use Rattle.hash.specs.Bytes.{width_of}
 use Rattle.hash.proofs.Bytes.{set_down-not}
-use borrow.Author.Rules.{rules}
 use Rattle.hash.proofs.set_nth.Goals as goal
 
 pub returns-then-past_all : goal.returns-then-past_all

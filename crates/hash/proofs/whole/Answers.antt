@@ -1,6 +1,5 @@
 -- `hash::whole` meets its contract: each width is a rest by a constant. Assumes nothing.
 use Rattle.hash.proofs.Widths.{width_1, width_256}
-use borrow.Author.Rules.{rules}
 use Rattle.hash.proofs.whole.Goals as goal
 
 pub returns-in-Sha1 : goal.returns-in-Sha1

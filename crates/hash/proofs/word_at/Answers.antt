@@ -1,5 +1,4 @@
 -- `hash::word_at` meets its contract: four bytes that stand in the slice, read at once. Assumes nothing.
-use borrow.Author.Rules.{rules}
 use Rattle.hash.specs.Bytes.{u32_at}
 use Rattle.hash.proofs.word_at.Goals as goal
 

@@ -1,6 +1,5 @@
 -- `idlist::above` meets its contract: above number m the range begins at the next one, and the number to look at lies in it. Assumes nothing.
 use mathlib.Core.Path.{refl}
-use borrow.Author.Rules.{rules}
 use Rattle.idlist.proofs.above.Goals as goal
 
 pub returns : goal.returns

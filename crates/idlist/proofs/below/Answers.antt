@@ -1,6 +1,5 @@
 -- `idlist::below` meets its contract: below number m the range ends at it, and the number to look at lies in it. Assumes nothing.
 use mathlib.Core.Path.{refl}
-use borrow.Author.Rules.{rules}
 use Rattle.idlist.proofs.below.Goals as goal
 
 pub returns : goal.returns

@@ -2,12 +2,8 @@
 -- is left of the range, and the number to look at is one of it; so one that is found is a number of the range, and where nothing is left
 -- there was none. What is left shrinks with each turn, wherever the search starts and the guesses fall. Assumes nothing.
 use mathlib.Core.Path.{refl}
-use Prim.Native.Nat.{◌-◌, ◌≤◌, ◌<◌}
 use native.Mathlib.Omega.{arith}
-use borrow.Author.Tests.{not-true, not-false}
-use lib.ListN.{length}
-use Rattle.idlist.proofs.Search.{Keeps, whole, ends, up, down, found, missed, torn, told}
-use borrow.Author.Rules.{rules}
+use Rattle.idlist.proofs.Search.{whole, ends, up, down, found, missed, torn, told}
 use Rattle.idlist.proofs.find_from.Goals as goal
 
 pub returns-then-not-stands : goal.returns-then-not-stands

@@ -1,13 +1,9 @@
 -- `idlist::find_from` meets its contract. The loop's invariant: of rising ids, whatever is the id that is looked for lies in what
 -- is left of the range, and the number to look at is one of it; so one that is found is a number of the range, and where nothing is left
 -- there was none. What is left shrinks with each turn, wherever the search starts and the guesses fall. Assumes nothing.
-use mathlib.Core.Path.{refl}
 use Prim.Native.Nat.{◌-◌, ◌≤◌, ◌<◌}
-use native.Mathlib.Omega.{arith}
-use borrow.Author.Tests.{not-true, not-false}
 use lib.ListN.{length}
-use Rattle.idlist.proofs.Search.{Keeps, whole, ends, up, down, found, missed, torn, told}
-use borrow.Author.Rules.{rules}
+use Rattle.idlist.proofs.Search.{Keeps}
 use Rattle.idlist.proofs.find_from.Given as goal
 
 abbrev pub invariant-loop-left : goal.invariant-loop-left

@@ -4,7 +4,6 @@ use native.Mathlib.Omega.{arith}
 use Rattle.hash.specs.Bytes.{lt_id, compare_id, at}
 use Rattle.hash.specs.declared.Order.{Order}
 use Rattle.idlist.proofs.Heads.{heads-less, heads-greater, is_less, less_test}
-use borrow.Author.Rules.{rules}
 use Rattle.idlist.proofs.is_lower.Goals as goal
 
 pub returns-then-x-y : goal.returns-then-x-y

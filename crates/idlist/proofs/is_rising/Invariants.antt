@@ -1,19 +1,10 @@
 -- `idlist::is_rising` meets its contract. The loop's invariant: the first k ids rise, and prior is the head of the last of them. An id that is
 -- not above the one before it breaks the list; where all are passed, they rise. The measure is the number of ids left. Assumes nothing.
-use mathlib.Core.Path.{◌≡◌, refl, sym, ◌∙◌}
-use Prim.Native.Nat.{◌+◌, ◌-◌, ◌*◌, ◌≤◌, ◌<◌}
+use mathlib.Core.Path.{◌≡◌}
+use Prim.Native.Nat.{◌+◌, ◌-◌, ◌*◌, ◌<◌}
 use mathlib.Core.Bool.{true}
-use native.Mathlib.Omega.{arith}
-use native.Mathlib.Numerals.{add-one}
-use lib.ListN.{length}
-use borrow.Author.Tests.{not-true, not-false}
 use Rattle.hash.specs.Bytes.{at, head_of}
-use Rattle.hash.proofs.Widths.{one-before}
-use Rattle.idlist.specs.IdList.{IdList, rises_at, rising, Stands}
-use Rattle.idlist.proofs.Place.{within}
-use Rattle.idlist.proofs.Rising.{rising-more}
-use Rattle.idlist.proofs.Pass.{torn-rising, rises-at, broken, passed}
-use borrow.Author.Rules.{rules}
+use Rattle.idlist.specs.IdList.{rising}
 use Rattle.idlist.proofs.is_rising.Given as goal
 
 abbrev pub invariant-loop-k : goal.invariant-loop-k

@@ -3,9 +3,7 @@
 use mathlib.Core.Path.{◌≡◌, sym}
 use Prim.Native.Nat.{ℕ}
 use native.Mathlib.Omega.{arith}
-use Rattle.hash.specs.declared.Order.TheVariants.{Less, Greater}
 use Rattle.idlist.proofs.Heads.{lower-head, higher-head}
-use borrow.Author.Rules.{rules}
 use Rattle.idlist.proofs.order_at.Goals as goal
 
 pub returns-then-here-key : goal.returns-then-here-key

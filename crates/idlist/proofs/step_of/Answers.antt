@@ -1,5 +1,4 @@
 -- `idlist::step_of` meets its contract: the product of two numbers of 32 bits fits. Assumes nothing.
-use native.Mathlib.Omega.{arith}
 use Rattle.idlist.proofs.Place.{product}
 use borrow.Author.Rules.{rules}
 use Rattle.idlist.proofs.step_of.Goals as goal

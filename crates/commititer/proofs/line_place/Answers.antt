@@ -1,0 +1,17 @@
+-- `commititer::line_place` meets its contract: k is above the quotient just where its line is past the farthest place. Assumes nothing.
+use native.Mathlib.Omega.{arith}
+use borrow.Author.Rules.{rules}
+use Rattle.commititer.proofs.ParentsPlace.{line-far, line-near}
+use Rattle.commititer.proofs.line_place.Goals as goal
+
+pub returns-then-first-size : goal.returns-then-first-size
+returns-then-first-size c = let s = c in omega (arith, line-far s.args.first s.args.size s.args.k s.requires c.if-first-size.true)
+
+pub overflow_mul-result : goal.overflow_mul-result
+overflow_mul-result c = let s = c in omega (arith, line-near s.args.first s.args.size s.args.k s.requires c.if-first-size.false)
+
+pub overflow_add-result : goal.overflow_add-result
+overflow_add-result c = let s = c in omega (arith, line-near s.args.first s.args.size s.args.k s.requires c.if-first-size.false)
+
+pub returns : goal.returns
+returns c = let s = c in omega (arith, line-near s.args.first s.args.size s.args.k s.requires c.if-first-size.false)

@@ -1,0 +1,16 @@
+-- `bits::has_both` meets its contract: the tests are those of the definition. Assumes nothing.
+-- HEAD-END
+use mathlib.Core.Path.{sym, ◌∙◌}
+use borrow.Author.Rules.{rules}
+use Rattle.frontier.proofs.bits.has_both.Reads as reads
+use Rattle.hashtable.proofs.marks.has_hidden.Reads as has-hidden-reads
+use Rattle.hashtable.proofs.marks.has_visible.Reads as has-visible-reads
+use Rattle.frontier.proofs.bits.has_both.Goals as goal
+
+-- src/bits.rt:72:1
+pub returns-then-has_visible : goal.returns-then-has_visible
+returns-then-has_visible c = rw (sym c.has_visible.ensures ∙ c.if-has_visible.true) c.has_hidden.ensures
+
+-- src/bits.rt:72:1
+pub returns-else-has_visible : goal.returns-else-has_visible
+returns-else-has_visible c = rw (sym c.has_visible.ensures ∙ c.if-has_visible.false)

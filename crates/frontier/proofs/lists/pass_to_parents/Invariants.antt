@@ -1,0 +1,17 @@
+-- `lists::pass_to_parents` meets its contract: after i turns the memory reads as the painting with i parents looked at. What is left of the list grows shorter. Assumes nothing.
+use mathlib.Core.Path.{sym, ap, ◌∙◌}
+use Prim.Native.Nat.{◌-◌}
+use native.Mathlib.Omega.{arith}
+use Rattle.frontier.specs.Paint.{lent}
+use lib.ListN.{length}
+use Rattle.reading.proofs.ByValue.{id_in-kind, gives_length}
+use Rattle.frontier.proofs.Steps.{Passing, passing_first, passing_next, passing_last}
+use borrow.Author.Rules.{rules}
+use Rattle.hash.specs.Bytes.{width_of}
+use Rattle.frontier.proofs.lists.pass_to_parents.Given as goal
+
+abbrev pub invariant-loop-i : goal.invariant-loop-i
+invariant-loop-i l = Passing (width_of l.kind) l.cache l.graph l.store l.cap (lent l.initial.names l.initial.marks l.initial.levels l.initial.times l.initial.line) (lent l.names l.marks l.levels l.times l.line) l.initial.r l.commit l.bits l.i l.r
+
+abbrev pub decreases-loop-i : goal.decreases-loop-i
+decreases-loop-i l = l.n - l.i

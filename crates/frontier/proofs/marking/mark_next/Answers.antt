@@ -1,0 +1,19 @@
+-- `marking::mark_next` meets its contract: the step is taken where painting goes on. Assumes nothing.
+-- HEAD-END
+use mathlib.Core.Path.{refl}
+use borrow.Author.Rules.{rules}
+use Rattle.frontier.proofs.marking.mark_next.Reads as reads
+use Rattle.frontier.proofs.marking.mark_one.Reads as mark-one-reads
+use Rattle.frontier.proofs.marking.mark_next.Goals as goal
+
+-- src/marking.rt:102:1
+pub returns-in-Going : goal.returns-in-Going
+returns-in-Going c = record { does = rw c.in-Going.is c.mark_one.ensures }
+
+-- src/marking.rt:102:1
+pub returns-in-Stop : goal.returns-in-Stop
+returns-in-Stop c = record { does = rw c.in-Stop.is (refl, refl) }
+
+-- src/marking.rt:102:1
+pub returns-in-NoRoom : goal.returns-in-NoRoom
+returns-in-NoRoom c = record { does = rw c.in-NoRoom.is (refl, refl) }

@@ -1,0 +1,29 @@
+-- `graphwrite::rows::edge_of` meets its contract: the last of the list has the top bit. Assumes nothing.
+use mathlib.Core.Path.{sym, ◌∙◌}
+use Prim.Native.Nat.{◌-◌}
+use native.Mathlib.Omega.{arith}
+use Rattle.hash.specs.Bytes.{width_of}
+use Rattle.graphplan.specs.StoreRows.{row_of}
+use Rattle.graphplan.proofs.Planning.{few-entries}
+use Rattle.hash.proofs.Widths.{width_least}
+use Rattle.graphplan.proofs.StoreLinks.{number_read, number-low}
+use Rattle.graphbytes.proofs.Lists.{edge_last, edge_more}
+use borrow.Author.Rules.{rules}
+use Rattle.graphwrite.proofs.rows.edge_of.Reads as reads
+use Rattle.levels.proofs.parent_at.Reads as parent-at-reads
+use Rattle.graphwrite.proofs.rows.edge_of.Goals as goal
+
+pub overflow_add-result : goal.overflow_add-result
+overflow_add-result c = let s = c in
+    let x = s.args in
+    omega (arith, number_read (width_of x.kind) x.store.now x.n x.k s.requires.0 s.requires.1 x.j c.parent_at-v.result (omega (arith, s.requires.2, s.requires.5)) c.parent_at-v.ensures, number-low (width_of x.kind) x.store.now x.n x.k s.requires.0 s.requires.1 x.j (omega (arith, s.requires.2, s.requires.5)), s.requires.0.many, few-entries (width_of x.kind) x.store.now (width_least x.kind) s.requires.0.small)
+
+pub returns-then-j-c : goal.returns-then-j-c
+returns-then-j-c c = let s = c in
+    let x = s.args in
+    edge_last (row_of (width_of x.kind) x.store.now x.k).parents x.j c.parent_at-v.result (omega (arith, s.requires.2, s.requires.3)) s.requires.4 (omega (arith, s.requires.2, s.requires.5)) (c.if-j-c.true ∙ s.requires.2) (number_read (width_of x.kind) x.store.now x.n x.k s.requires.0 s.requires.1 x.j c.parent_at-v.result (omega (arith, s.requires.2, s.requires.5)) c.parent_at-v.ensures)
+
+pub returns : goal.returns
+returns c = let s = c in
+    let x = s.args in
+    edge_more (row_of (width_of x.kind) x.store.now x.k).parents x.j c.parent_at-v.result (omega (arith, s.requires.2, s.requires.3)) s.requires.4 (omega (arith, s.requires.2, s.requires.5)) (λ z. c.if-j-c.false (z ∙ sym s.requires.2)) (number_read (width_of x.kind) x.store.now x.n x.k s.requires.0 s.requires.1 x.j c.parent_at-v.result (omega (arith, s.requires.2, s.requires.5)) c.parent_at-v.ensures)

@@ -1,0 +1,12 @@
+-- `notes::note_next` meets its contract: by the answer before. Assumes nothing.
+use Rattle.reach.specs.Memory.{lent}
+use Rattle.reach.proofs.Noting.{next-count, next-none}
+use borrow.Author.Rules.{rules}
+use Rattle.hash.specs.Bytes.{width_of}
+use Rattle.reach.proofs.notes.note_next.Goals as goal
+
+pub returns-in-Count : goal.returns-in-Count
+returns-in-Count c = next-count c.in-Count.is c.note.ensures
+
+pub returns-in-NoRoom : goal.returns-in-NoRoom
+returns-in-NoRoom c = let x = c.args in next-none (width_of x.kind) x.second x.cap x.from (lent x.names.now x.marks.now x.line.now) x.id.now c.in-NoRoom.is

@@ -1,0 +1,17 @@
+-- `reading::body_parent` meets its contract: the token at the place of parent line k has its id. Assumes nothing.
+use mathlib.Core.Path.{refl}
+use native.Mathlib.Omega.{arith}
+use Rattle.hash.specs.Bytes.{width_of}
+use Rattle.hash.proofs.Widths.{width-most}
+use Rattle.reading.proofs.Lines.{id_near, id_far}
+use borrow.Author.Rules.{rules}
+use Rattle.reading.proofs.body.body_parent.Reads as reads
+use Rattle.reading.proofs.body.token_after.Reads as token-after-reads
+use Rattle.reading.proofs.body.body_parent.Goals as goal
+
+pub returns-then-k-ge-MOST_PARENTS : goal.returns-then-k-ge-MOST_PARENTS
+returns-then-k-ge-MOST_PARENTS c = id_far _ _ _ c.if-k-ge-MOST_PARENTS.true refl
+
+pub returns : goal.returns
+returns c = let x = c.args in
+    id_near (width_of x.kind) (width-most x.kind) x.body.now x.k (omega arith) c.token_after-read.ensures

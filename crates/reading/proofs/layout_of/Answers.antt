@@ -1,0 +1,6 @@
+-- `reading::layout_of` meets its contract: it goes by the same cases. Assumes nothing.
+use borrow.Author.Rules.{rules}
+use Rattle.reading.proofs.layout_of.Goals as goal
+
+pub returns-in-NoGraph : goal.returns-in-NoGraph
+returns-in-NoGraph c = rw c.in-NoGraph.is

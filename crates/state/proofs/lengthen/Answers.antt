@@ -1,0 +1,18 @@
+-- `state::lengthen` meets its contract: the seconds are set down, and then the slot is pushed; where a number is too large nothing is changed.
+-- Assumes nothing.
+use native.Mathlib.Omega.{arith}
+use Rattle.state.specs.Shapes.{waiting_in}
+use Rattle.state.proofs.Queueing.{waits_pushed, waits-not}
+use Rattle.state.proofs.lengthen.Goals as goal
+
+pub returns-then-slot-gt-MOST : goal.returns-then-slot-gt-MOST
+returns-then-slot-gt-MOST c = λ r. waits-not (λ sh l m b. omega (arith, c.if-slot-gt-MOST.true))
+
+pub returns-then-admitted-gt-MOST : goal.returns-then-admitted-gt-MOST
+returns-then-admitted-gt-MOST c = λ r. waits-not (λ sh l m b. omega (arith, c.if-admitted-gt-MOST.true))
+
+pub returns : goal.returns
+returns c = let p = c in
+    let t = p in
+    let x = t.args in
+    λ r. waits_pushed {r = waiting_in r x.w} x.times.now x.slot x.s.0 t.set_time.ensures p.push-longer.ensures
