@@ -4,61 +4,59 @@
 #![tactic(auto)]
 
 use hash::Kind;
-use libc::STDOUT_FILENO;
+use std::io;
 
-fn text(s: &[u8]) {
-    io::write_all(STDOUT_FILENO, s);
+fn text(rt: &impl Print, s: &[u8]) -> io::Result<()> {
+    host::write_all(rt, s)
 }
 
-fn number(n: usize) {
-    io::print_decimal(STDOUT_FILENO, n as u64);
+fn number(rt: &impl Print, n: usize) -> io::Result<()> {
+    host::print_decimal(rt, n as u64)
 }
 
-fn byte(b: u8) {
-    io::print_hex(STDOUT_FILENO, b as u64, 2);
+fn byte(rt: &impl Print, b: u8) -> io::Result<()> {
+    host::print_hex(rt, b as u64, 2)
 }
 
-fn hex(s: &[u8]) {
-    let mut i = 0;
-    while i < s.len() {
-        byte(s[i]);
-        i += 1;
+fn hex(rt: &impl Print, s: &[u8]) -> io::Result<()> {
+    for i in 0..s.len() {
+        byte(rt, s[i])?;
     }
-    text(b"\n");
+    text(rt, b"\n")
 }
 
 // The digest of both parts.
-fn print_digest(kind: Kind, head: &[u8], body: &[u8]) {
+fn print_digest(rt: &impl Print, kind: Kind, head: &[u8], body: &[u8]) -> io::Result<()> {
     let mut out = [0u8; 32];
     commitid::set_digest(kind, head, body, &mut out, 0);
-    hex(hash::part(&out, 0, hash::width(kind)));
+    hex(rt, hash::part(&out, 0, hash::width(kind)))
 }
 
 // The id of the commit with this body.
-fn print_id(kind: Kind, body: &[u8]) {
+fn print_id(rt: &impl Print, kind: Kind, body: &[u8]) -> io::Result<()> {
     let mut out = [0u8; 32];
     commitid::set_commit_id(kind, body, &mut out, 0);
-    hex(hash::part(&out, 0, hash::width(kind)));
+    hex(rt, hash::part(&out, 0, hash::width(kind)))
 }
 
 // The check of a store and a graph file: the refusal's number, and the entry's.
-fn print_check(kind: Kind, store: &[u8], graph: &[u8]) {
+fn print_check(rt: &impl Print, kind: Kind, store: &[u8], graph: &[u8]) -> io::Result<()> {
     let r = fsck::check_names(kind, store, graph);
     let o = r.outcome;
-    io::print_decimal(STDOUT_FILENO, fsck::number(o) as u64);
-    text(b" ");
-    number(r.entry);
-    text(b"\n");
+    host::print_decimal(rt, fsck::number(o) as u64)?;
+    text(rt, b" ")?;
+    number(rt, r.entry)?;
+    text(rt, b"\n")
 }
 
-fn case(asked: u8, a: &[u8], b: &[u8]) {
+fn case(rt: &impl Print, asked: u8, a: &[u8], b: &[u8]) -> io::Result<()> {
     match asked {
-        1 => print_digest(Kind::Sha1, a, b),
-        2 => print_digest(Kind::Sha256, a, b),
-        3 => print_id(Kind::Sha1, a),
-        4 => print_id(Kind::Sha256, a),
-        5 => print_check(Kind::Sha1, a, b),
-        _ => print_check(Kind::Sha256, a, b),
+        1 => print_digest(rt, Kind::Sha1, a, b),
+        2 => print_digest(rt, Kind::Sha256, a, b),
+        3 => print_id(rt, Kind::Sha1, a),
+        4 => print_id(rt, Kind::Sha256, a),
+        5 => print_check(rt, Kind::Sha1, a, b),
+        _ => print_check(rt, Kind::Sha256, a, b),
     }
 }
 
@@ -80,43 +78,45 @@ fn after_front(s: &[u8]) -> &[u8] {
     rest(rest(s, 4), wide(hash::be32(s, 0)))
 }
 
-fn run_case(input: &[u8]) {
+fn run_case(rt: &impl Print, input: &[u8]) -> io::Result<()> {
     let a = rest(input, 1);
-    case(hash::byte_at(input, 0), front(a), front(after_front(a)));
+    case(rt, hash::byte_at(input, 0), front(a), front(after_front(a)))
 }
 
 // How many bytes the next case has, 0 where the input ends.
-fn next_size() -> usize {
+fn next_size(rt: &impl Input) -> io::Result<usize> {
     let mut head = [0u8; 4];
-    let got = io::read_full(libc::STDIN_FILENO, &mut head);
+    let got = host::read_input(rt, &mut head)?;
     if got < 4 {
-        return 0;
+        return Ok(0);
     }
-    wide(hash::be32(&head, 0))
+    Ok(wide(hash::be32(&head, 0)))
 }
 
 // Reads and runs the next case, and answers whether there was one.
-fn run_next(space: &mut [u8]) -> bool {
-    let n = next_size();
+fn run_next(rt: &(impl Input + Print), space: &mut [u8]) -> io::Result<bool> {
+    let n = next_size(rt)?;
     if n == 0 {
-        return false;
+        return Ok(false);
     }
     if space.len() < n {
-        return false;
+        return Ok(false);
     }
-    let got = io::read_full(libc::STDIN_FILENO, &mut space[..n]);
+    let got = host::read_input(rt, &mut space[..n])?;
     if got < n {
-        return false;
+        return Ok(false);
     }
-    run_case(&space[..n]);
-    true
+    run_case(rt, &space[..n])?;
+    Ok(true)
 }
 
-// A proved loop has to end, and nothing says that the input does. So the loop counts its turns down, from a number that no run uses up.
-fn main() {
-    let mut space = io::large_buffer();
-    let mut turns = u64::MAX;
-    while turns > 0 && run_next(&mut space) {
-        turns -= 1;
+// A proved loop has to end, and nothing says that the input does. So the loop counts its turns, up to a number that no run uses up.
+fn main(rt: HostRuntime) -> io::Result<()> {
+    let mut space = host::large_buffer();
+    for _ in 0..u64::MAX {
+        if !run_next(&rt, &mut space)? {
+            break;
+        }
     }
+    Ok(())
 }

@@ -8,40 +8,40 @@ ghost use Rattle.std.specs.Prelude.{◌≤◌};
 
 use graphwrite::Written;
 use hash::Kind;
-use libc::STDOUT_FILENO;
+use std::io;
 use walk::Refusal;
 
-fn text(s: &[u8]) {
-    io::write_all(STDOUT_FILENO, s);
+fn text(rt: &impl Print, s: &[u8]) -> io::Result<()> {
+    host::write_all(rt, s)
 }
 
-fn number(n: u64) {
-    io::print_decimal(STDOUT_FILENO, n);
+fn number(rt: &impl Print, n: u64) -> io::Result<()> {
+    host::print_decimal(rt, n)
 }
 
 // A refusal by its number.
-fn refusal(r: Refusal) {
-    text(b"!");
-    number(walk::number(r) as u64);
+fn refusal(rt: &impl Print, r: Refusal) -> io::Result<()> {
+    text(rt, b"!")?;
+    number(rt, walk::number(r) as u64)
 }
 
 // The bytes of a file, or a refusal.
-fn print_written(w: Written) {
+fn print_written(rt: &impl Print, w: Written) -> io::Result<()> {
     match w {
-        Written::File(n) => number(n as u64),
-        Written::Refused(r) => refusal(r),
+        Written::File(n) => number(rt, n as u64)?,
+        Written::Refused(r) => refusal(rt, r)?,
     }
-    text(b" ");
+    text(rt, b" ")
 }
 
 // The SHA-1 of some bytes, on the rest of the line.
-fn print_digest(s: &[u8]) {
+fn print_digest(rt: &impl Print, s: &[u8]) -> io::Result<()> {
     let mut out = [0u8; 20];
     commitid::set_digest(Kind::Sha1, hash::part(s, 0, 0), s, &mut out, 0);
-    io::print_hex(STDOUT_FILENO, hash::be64(&out, 0), 16);
-    io::print_hex(STDOUT_FILENO, hash::be64(&out, 8), 16);
-    io::print_hex(STDOUT_FILENO, hash::be32(&out, 16) as u64, 8);
-    text(b"\n");
+    host::print_hex(rt, hash::be64(&out, 0), 16)?;
+    host::print_hex(rt, hash::be64(&out, 8), 16)?;
+    host::print_hex(rt, hash::be32(&out, 16) as u64, 8)?;
+    text(rt, b"\n")
 }
 
 fn wide(x: u32) -> usize {
@@ -61,59 +61,72 @@ fn kind_of(b: u8) -> Kind {
 }
 
 // Lends levels and output, each as long as the list says, to both calls.
-fn write(kind: Kind, lengths: &[u8], store: &[u8], levels: &mut [u32], out: &mut [u8]) {
+fn write(
+    rt: &impl Print,
+    kind: Kind,
+    lengths: &[u8],
+    store: &[u8],
+    levels: &mut [u32],
+    out: &mut [u8],
+) -> io::Result<()> {
     let a = lent(lengths, 0, levels.len());
     let b = lent(lengths, 4, out.len());
-    print_written(graphwrite::graph_length(kind, store, &mut levels[..a]));
-    print_written(graphwrite::write_graph(kind, store, &mut levels[..a], &mut out[..b]));
-    print_digest(hash::part(out, 0, b));
+    print_written(rt, graphwrite::graph_length(kind, store, &mut levels[..a]))?;
+    print_written(
+        rt,
+        graphwrite::write_graph(kind, store, &mut levels[..a], &mut out[..b]),
+    )?;
+    print_digest(rt, hash::part(out, 0, b))
 }
 
 // A case, in memory for 1,024 levels and 40,960 bytes.
-fn run_case(input: &[u8]) {
+fn run_case(rt: &impl Print, input: &[u8]) -> io::Result<()> {
     let mut levels = [7u32; 1024];
     let mut out = [92u8; 40960];
     write(
+        rt,
         kind_of(hash::byte_at(input, 0)),
         hash::part(input, 1, 8),
         hash::part(input, 9, input.len()),
         &mut levels,
         &mut out,
-    );
+    )
 }
 
 // How many bytes the next case has, 0 where the input ends.
-fn next_size() -> usize {
+fn next_size(rt: &impl Input) -> io::Result<usize> {
     let mut head = [0u8; 4];
-    let got = io::read_full(libc::STDIN_FILENO, &mut head);
+    let got = host::read_input(rt, &mut head)?;
     if got < 4 {
-        return 0;
+        return Ok(0);
     }
-    wide(hash::be32(&head, 0))
+    Ok(wide(hash::be32(&head, 0)))
 }
 
 // Reads and runs the next case, and answers whether there was one.
-fn run_next(space: &mut [u8]) -> bool {
-    let n = next_size();
+fn run_next(rt: &(impl Input + Print), space: &mut [u8]) -> io::Result<bool> {
+    let n = next_size(rt)?;
     if n == 0 {
-        return false;
+        return Ok(false);
     }
     if space.len() < n {
-        return false;
+        return Ok(false);
     }
-    let got = io::read_full(libc::STDIN_FILENO, &mut space[..n]);
+    let got = host::read_input(rt, &mut space[..n])?;
     if got < n {
-        return false;
+        return Ok(false);
     }
-    run_case(&space[..n]);
-    true
+    run_case(rt, &space[..n])?;
+    Ok(true)
 }
 
-// A proved loop has to end, and nothing says that the input does. So the loop counts its turns down, from a number that no run uses up.
-fn main() {
-    let mut space = io::large_buffer();
-    let mut turns = u64::MAX;
-    while turns > 0 && run_next(&mut space) {
-        turns -= 1;
+// A proved loop has to end, and nothing says that the input does. So the loop counts its turns, up to a number that no run uses up.
+fn main(rt: HostRuntime) -> io::Result<()> {
+    let mut space = host::large_buffer();
+    for _ in 0..u64::MAX {
+        if !run_next(&rt, &mut space)? {
+            break;
+        }
     }
+    Ok(())
 }

@@ -6,12 +6,14 @@
 #![tactic(auto)]
 
 ghost use Rattle.std.specs.Prelude.{◌<◌};
-ghost use Rattle.io.specs.Counts.{IsPrefixLen};
+ghost use Rattle.std.specs.Io.{ReadsAtMost};
 
 use date::Seconds;
 use hash::Kind;
-use libc::{STDERR_FILENO, STDOUT_FILENO};
 use state::Record;
+use std::io::{ErrorKind, Read};
+use std::rt::Files;
+use std::{fs, io};
 use traverse::next::step;
 use traverse::open::open;
 use walk::{
@@ -25,111 +27,111 @@ const MOST_CALLS: usize = 5000;
 // ---- printing
 
 // Bytes as they are.
-fn text(s: &[u8]) {
-    io::write_all(STDOUT_FILENO, s);
+fn text(rt: &impl Print, s: &[u8]) -> io::Result<()> {
+    host::write_all(rt, s)
 }
 
 // A word and a number.
-fn count(word: &[u8], n: u64) {
-    text(word);
-    io::print_decimal(STDOUT_FILENO, n);
+fn count(rt: &impl Print, word: &[u8], n: u64) -> io::Result<()> {
+    text(rt, word)?;
+    host::print_decimal(rt, n)
 }
 
 // An id in 40 hexadecimal digits.
-fn id(s: &[u8]) {
-    io::print_hex(STDOUT_FILENO, hash::be64(s, 0), 16);
-    io::print_hex(STDOUT_FILENO, hash::be64(s, 8), 16);
-    io::print_hex(STDOUT_FILENO, hash::be32(s, 16) as u64, 8);
+fn id(rt: &impl Print, s: &[u8]) -> io::Result<()> {
+    host::print_hex(rt, hash::be64(s, 0), 16)?;
+    host::print_hex(rt, hash::be64(s, 8), 16)?;
+    host::print_hex(rt, hash::be32(s, 16) as u64, 8)
 }
 
 // Seconds with their sign.
-fn signed(s: Seconds) {
+fn signed(rt: &impl Print, s: Seconds) -> io::Result<()> {
     if date::is_negative(s) {
-        text(b"-");
+        text(rt, b"-")?;
     }
-    io::print_decimal(STDOUT_FILENO, date::magnitude(s));
+    host::print_decimal(rt, date::magnitude(s))
 }
 
 // The seconds, which only a time order has.
-fn seconds(t: MaybeSeconds) {
-    text(b" seconds ");
+fn seconds(rt: &impl Print, t: MaybeSeconds) -> io::Result<()> {
+    text(rt, b" seconds ")?;
     match t {
-        MaybeSeconds::Time(s) => signed(s),
-        MaybeSeconds::NoTime => text(b"-"),
+        MaybeSeconds::Time(s) => signed(rt, s),
+        MaybeSeconds::NoTime => text(rt, b"-"),
     }
 }
 
 // The generation, which only a commit from the commit-graph file has.
-fn generation(g: MaybeLevel) {
+fn generation(rt: &impl Print, g: MaybeLevel) -> io::Result<()> {
     match g {
-        MaybeLevel::Generation(level) => count(b" generation ", level.0 as u64),
-        MaybeLevel::NoGeneration => text(b" generation -"),
+        MaybeLevel::Generation(level) => count(rt, b" generation ", level.0 as u64),
+        MaybeLevel::NoGeneration => text(rt, b" generation -"),
     }
 }
 
 // Document 01's word for a refusal.
-fn word(r: Refusal) {
+fn word(rt: &impl Print, r: Refusal) -> io::Result<()> {
     match r {
-        Refusal::BufferTooSmall => text(b" short memory"),
-        Refusal::InputTooLarge => text(b" oversize"),
-        Refusal::PartialId => text(b" ragged list"),
-        Refusal::CorruptStore => text(b" torn book"),
-        Refusal::UnknownGraph => text(b" foreign graph"),
-        Refusal::CorruptGraph => text(b" torn graph"),
-        Refusal::TipNotFound => text(b" lost tip"),
-        Refusal::TipUnreadable => text(b" blurred tip"),
-        Refusal::CommitNotFound => text(b" lost commit"),
-        Refusal::CommitUnreadable => text(b" blurred commit"),
-        Refusal::TooManyParents => text(b" crowded commit"),
-        Refusal::Closed => text(b" closed"),
-        Refusal::UnreadableReach => text(b" unreadable reach"),
-        Refusal::GraphAtOdds => text(b" graph at odds"),
-        Refusal::PairNotFalling => text(b" pair not falling"),
-        Refusal::FalseName => text(b" false name"),
-        Refusal::FalseChecksum => text(b" graph checksum false"),
-        Refusal::UnfitStore => text(b" unfit book"),
-        Refusal::UnfitSeconds => text(b" unfit seconds"),
-        Refusal::ShortOutput => text(b" short output"),
-        Refusal::ReadingTwice => text(b" reading given twice"),
-        Refusal::ReadingUnreadable => text(b" reading unreadable"),
-        Refusal::TangledReach => text(b" tangled reach"),
-        Refusal::BadTerms => text(b" bad term list"),
-        Refusal::TooManyMoves => text(b" too many moves"),
+        Refusal::BufferTooSmall => text(rt, b" short memory"),
+        Refusal::InputTooLarge => text(rt, b" oversize"),
+        Refusal::PartialId => text(rt, b" ragged list"),
+        Refusal::CorruptStore => text(rt, b" torn book"),
+        Refusal::UnknownGraph => text(rt, b" foreign graph"),
+        Refusal::CorruptGraph => text(rt, b" torn graph"),
+        Refusal::TipNotFound => text(rt, b" lost tip"),
+        Refusal::TipUnreadable => text(rt, b" blurred tip"),
+        Refusal::CommitNotFound => text(rt, b" lost commit"),
+        Refusal::CommitUnreadable => text(rt, b" blurred commit"),
+        Refusal::TooManyParents => text(rt, b" crowded commit"),
+        Refusal::Closed => text(rt, b" closed"),
+        Refusal::UnreadableReach => text(rt, b" unreadable reach"),
+        Refusal::GraphAtOdds => text(rt, b" graph at odds"),
+        Refusal::PairNotFalling => text(rt, b" pair not falling"),
+        Refusal::FalseName => text(rt, b" false name"),
+        Refusal::FalseChecksum => text(rt, b" graph checksum false"),
+        Refusal::UnfitStore => text(rt, b" unfit book"),
+        Refusal::UnfitSeconds => text(rt, b" unfit seconds"),
+        Refusal::ShortOutput => text(rt, b" short output"),
+        Refusal::ReadingTwice => text(rt, b" reading given twice"),
+        Refusal::ReadingUnreadable => text(rt, b" reading unreadable"),
+        Refusal::TangledReach => text(rt, b" tangled reach"),
+        Refusal::BadTerms => text(rt, b" bad term list"),
+        Refusal::TooManyMoves => text(rt, b" too many moves"),
     }
 }
 
 // A refusal by document 01's number and word.
-fn refusal(r: Refusal) {
-    count(b"refused ", walk::number(r) as u64);
-    word(r);
-    text(b"\n");
+fn refusal(rt: &impl Print, r: Refusal) -> io::Result<()> {
+    count(rt, b"refused ", walk::number(r) as u64)?;
+    word(rt, r)?;
+    text(rt, b"\n")
 }
 
 // A commit's line.
-fn commit(a: Answer) {
+fn commit(rt: &impl Print, a: Answer) -> io::Result<()> {
     let info = a.info;
-    id(&info.id);
-    seconds(info.time);
-    generation(info.generation);
-    count(b" parents ", info.parents as u64);
-    text(b"\n");
+    id(rt, &info.id)?;
+    seconds(rt, info.time)?;
+    generation(rt, info.generation)?;
+    count(rt, b" parents ", info.parents as u64)?;
+    text(rt, b"\n")
 }
 
 // The last line: the numbers of commits that ever waited, that hiding struck, and that wait.
-fn end(a: Answer) {
-    count(b"end admitted ", a.admitted as u64);
-    count(b" struck ", a.struck as u64);
-    count(b" waiting ", a.waiting as u64);
-    text(b"\n");
+fn end(rt: &impl Print, a: Answer) -> io::Result<()> {
+    count(rt, b"end admitted ", a.admitted as u64)?;
+    count(rt, b" struck ", a.struck as u64)?;
+    count(rt, b" waiting ", a.waiting as u64)?;
+    text(rt, b"\n")
 }
 
 // A call's answer on a line.
-fn print_answer(a: Answer) {
+fn print_answer(rt: &impl Print, a: Answer) -> io::Result<()> {
     let outcome = a.outcome;
     match outcome {
-        Outcome::Commit => commit(a),
-        Outcome::End => end(a),
-        Outcome::Refused(r) => refusal(r),
+        Outcome::Commit => commit(rt, a),
+        Outcome::End => end(rt, a),
+        Outcome::Refused(r) => refusal(rt, r),
     }
 }
 
@@ -149,6 +151,7 @@ fn left_after(o: Outcome, left: usize) -> usize
 
 // Calls until the walk says end, and prints each answer.
 fn calls(
+    rt: &impl Print,
     first: Record,
     store: &[u8],
     graph: &[u8],
@@ -160,7 +163,7 @@ fn calls(
     times: &mut [i64],
     line: &mut [u32],
     parents: &mut [u8],
-) {
+) -> io::Result<()> {
     let mut r = first;
     let mut left = MOST_CALLS;
     while 0 < left {
@@ -168,15 +171,17 @@ fn calls(
             r, store, graph, hidden, b"", settings, names, marks, levels, times, line, parents,
         );
         let answer = out.answer;
-        print_answer(answer);
+        print_answer(rt, answer)?;
         let outcome = answer.outcome;
         left = left_after(outcome, left);
         r = out.record;
     }
+    Ok(())
 }
 
 // Opens a walk over lent memory and lists it.
 fn list_in(
+    rt: &impl Print,
     store: &[u8],
     graph: &[u8],
     tips: &[u8],
@@ -188,7 +193,7 @@ fn list_in(
     times: &mut [i64],
     line: &mut [u32],
     parents: &mut [u8],
-) {
+) -> io::Result<()> {
     let o = open(
         store, graph, tips, hidden, b"", settings, names, marks, levels, times, line, parents,
     );
@@ -196,15 +201,23 @@ fn list_in(
     let outcome = answer.outcome;
     match outcome {
         OpenOutcome::Accepted => calls(
-            o.record, store, graph, hidden, settings, names, marks, levels, times, line, parents,
+            rt, o.record, store, graph, hidden, settings, names, marks, levels, times, line,
+            parents,
         ),
-        OpenOutcome::NotOpened(r) => refusal(r),
+        OpenOutcome::NotOpened(r) => refusal(rt, r),
     }
 }
 
 // Lists in memory for P = 4,600 places. No files ask for more: 1,024 tips and as many hidden, 1,365 for a store of 65,536 bytes, and 1,150
 // commits in a commit-graph file of that size.
-fn list(store: &[u8], graph: &[u8], tips: &[u8], hidden: &[u8], settings: Settings) {
+fn list(
+    rt: &impl Print,
+    store: &[u8],
+    graph: &[u8],
+    tips: &[u8],
+    hidden: &[u8],
+    settings: Settings,
+) -> io::Result<()> {
     let mut names = [0u8; 92000];
     let mut marks = [0u8; 4600];
     let mut levels = [0u32; 4600];
@@ -212,6 +225,7 @@ fn list(store: &[u8], graph: &[u8], tips: &[u8], hidden: &[u8], settings: Settin
     let mut line = [0u32; 23000];
     let mut parents = [0u8; 5120];
     list_in(
+        rt,
         store,
         graph,
         tips,
@@ -223,7 +237,7 @@ fn list(store: &[u8], graph: &[u8], tips: &[u8], hidden: &[u8], settings: Settin
         &mut times,
         &mut line,
         &mut parents,
-    );
+    )
 }
 
 // ---- the order
@@ -252,50 +266,60 @@ fn order_of(word: &[u8]) -> Order {
 // ---- the files
 
 // A line on standard error: a name and what is wrong with it.
-fn complain(name: &[u8], fault: &[u8]) {
-    io::write_all(STDERR_FILENO, name);
-    io::write_all(STDERR_FILENO, fault);
+fn complain(err: &impl Print, name: &[u8], fault: &[u8]) -> io::Result<()> {
+    host::write_all(err, name)?;
+    host::write_all(err, fault)
 }
 
 // Whether an open file has bytes left.
-fn has_more(fd: i32) -> bool {
+fn has_more<R: Read>(file: &mut R) -> io::Result<bool> {
     let mut byte = [0u8; 1];
-    io::read_full(fd, &mut byte) == 1
+    let n = host::read_full(file, &mut byte)?;
+    Ok(n == 1)
 }
 
 // Reads a file into the room and answers the number of its bytes. A file that is absent has none. Where it is needed, cannot be opened, or has
 // more bytes than the room, `whole` is set to false and a line says so.
-fn load(path: &[u8], needed: bool, space: &mut [u8], whole: &mut bool) -> usize
-    ensures { IsPrefixLen result space.new }
+fn load(
+    rt: &impl Files,
+    err: &impl Print,
+    path: &str,
+    needed: bool,
+    space: &mut [u8],
+    whole: &mut bool,
+) -> io::Result<usize>
+    ensures { ReadsAtMost result space.new }
 {
-    let fd = os::open_read(path);
-    if fd < 0 {
-        if needed || os::errno() != libc::ENOENT {
-            os::fail(path);
-            *whole = false;
+    match fs::open(rt, path) {
+        Ok(mut file) => {
+            let n = host::read_full(&mut file, space)?;
+            if has_more(&mut file)? {
+                complain(err, path.as_bytes(), b": more than 65,536 bytes\n")?;
+                *whole = false;
+            }
+            Ok(n)
         }
-        return 0;
+        Err(e) => {
+            if needed || e.kind() != ErrorKind::NotFound {
+                println!(err; "{path}: {e}")?;
+                *whole = false;
+            }
+            Ok(0)
+        }
     }
-    let n = io::read_full(fd, space);
-    if has_more(fd) {
-        complain(path, b": more than 65,536 bytes\n");
-        *whole = false;
-    }
-    libc::close(fd);
-    n
 }
 
 // Reads the files and lists the history in an order.
-fn list_files(sorting: Sorting) {
-    let mut first = io::large_buffer();
-    let mut second = io::large_buffer();
-    let mut third = io::large_buffer();
-    let mut fourth = io::large_buffer();
+fn list_files(rt: &(impl Files + Print), err: &impl Print, sorting: Sorting) -> io::Result<()> {
+    let mut first = host::large_buffer();
+    let mut second = host::large_buffer();
+    let mut third = host::large_buffer();
+    let mut fourth = host::large_buffer();
     let mut whole = true;
-    let store = load(b"store", true, &mut first, &mut whole);
-    let graph = load(b"graph", false, &mut second, &mut whole);
-    let tips = load(b"tips", true, &mut third, &mut whole);
-    let hidden = load(b"hidden", false, &mut fourth, &mut whole);
+    let store = load(rt, err, "store", true, &mut first, &mut whole)?;
+    let graph = load(rt, err, "graph", false, &mut second, &mut whole)?;
+    let tips = load(rt, err, "tips", true, &mut third, &mut whole)?;
+    let hidden = load(rt, err, "hidden", false, &mut fourth, &mut whole)?;
     if whole {
         let settings = Settings {
             sorting,
@@ -303,21 +327,25 @@ fn list_files(sorting: Sorting) {
             kind: Kind::Sha1,
         };
         list(
+            rt,
             &first[..store],
             &second[..graph],
             &third[..tips],
             &fourth[..hidden],
             settings,
-        );
+        )?;
     }
+    Ok(())
 }
 
-fn main() {
-    let mut space = io::buffer();
-    let n = os::arg(1, &mut space);
+fn main(rt: HostRuntime) -> io::Result<()> {
+    let err = rt.stderr();
+    let mut space = host::buffer();
+    let n = host::argument(&rt, 1, &mut space);
     match order_of(&space[..n]) {
-        Order::Known(sorting) => list_files(sorting),
+        Order::Known(sorting) => list_files(&rt, &err, sorting),
         Order::Unknown => complain(
+            &err,
             &space[..n],
             b": the orders are newest, oldest and breadth\n",
         ),

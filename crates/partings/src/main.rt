@@ -6,45 +6,43 @@
 ghost use Rattle.std.specs.Prelude.{◌≤◌};
 
 use hash::Kind;
-use libc::STDOUT_FILENO;
 use mergebase::{MergeBase, Parted};
+use std::io;
 use walk::Refusal;
 
-fn text(s: &[u8]) {
-    io::write_all(STDOUT_FILENO, s);
+fn text(rt: &impl Print, s: &[u8]) -> io::Result<()> {
+    host::write_all(rt, s)
 }
 
 // An id in hexadecimal digits, two for each byte of its width.
-fn id(kind: Kind, s: &[u8]) {
-    io::print_hex(STDOUT_FILENO, hash::be64(s, 0), 16);
-    io::print_hex(STDOUT_FILENO, hash::be64(s, 8), 16);
+fn id(rt: &impl Print, kind: Kind, s: &[u8]) -> io::Result<()> {
+    host::print_hex(rt, hash::be64(s, 0), 16)?;
+    host::print_hex(rt, hash::be64(s, 8), 16)?;
     match kind {
-        Kind::Sha1 => {
-            io::print_hex(STDOUT_FILENO, hash::be32(s, 16) as u64, 8);
-        }
+        Kind::Sha1 => { host::print_hex(rt, hash::be32(s, 16) as u64, 8) }
         Kind::Sha256 => {
-            io::print_hex(STDOUT_FILENO, hash::be64(s, 16), 16);
-            io::print_hex(STDOUT_FILENO, hash::be64(s, 24), 16);
+            host::print_hex(rt, hash::be64(s, 16), 16)?;
+            host::print_hex(rt, hash::be64(s, 24), 16)
         }
     }
 }
 
 // A refusal by its number.
-fn refusal(r: Refusal) {
-    text(b"refused ");
-    io::print_decimal(STDOUT_FILENO, walk::number(r) as u64);
+fn refusal(rt: &impl Print, r: Refusal) -> io::Result<()> {
+    text(rt, b"refused ")?;
+    host::print_decimal(rt, walk::number(r) as u64)
 }
 
 // An answer on a line.
-fn print_base(kind: Kind, r: MergeBase) {
+fn print_base(rt: &impl Print, kind: Kind, r: MergeBase) -> io::Result<()> {
     let o = r.outcome;
     let c = r.commit;
     match o {
-        Parted::Nothing => text(b"none"),
-        Parted::Commit => id(kind, &c.bytes),
-        Parted::Refused(n) => refusal(n),
+        Parted::Nothing => text(rt, b"none")?,
+        Parted::Commit => id(rt, kind, &c.bytes)?,
+        Parted::Refused(n) => refusal(rt, n)?,
     }
-    text(b"\n");
+    text(rt, b"\n")
 }
 
 fn wide(x: u32) -> usize {
@@ -70,6 +68,7 @@ fn after_id(kind: Kind, s: &[u8]) -> &[u8] {
 
 // Lends the buffers, each as long as the list says, to the call.
 fn lend(
+    rt: &impl Print,
     kind: Kind,
     tips: &[u8],
     lengths: &[u8],
@@ -80,7 +79,7 @@ fn lend(
     times: &[i64],
     line: &mut [u32],
     parents: &[u8],
-) {
+) -> io::Result<()> {
     let a = lent(lengths, 0, names.len());
     let b = lent(lengths, 4, marks.len());
     let c = lent(lengths, 8, levels.len());
@@ -99,11 +98,11 @@ fn lend(
         &mut line[..e],
         &parents[..f],
     );
-    print_base(kind, base);
+    print_base(rt, kind, base)
 }
 
 // A case, in memory for 512 places of either kind.
-fn run_case(input: &[u8]) {
+fn run_case(rt: &impl Print, input: &[u8]) -> io::Result<()> {
     let mut names = [0u8; 16384];
     let mut marks = [0u8; 512];
     let mut levels = [0u32; 512];
@@ -114,6 +113,7 @@ fn run_case(input: &[u8]) {
     let tips = hash::part(input, 1, input.len());
     let rest = after_id(kind, after_id(kind, tips));
     lend(
+        rt,
         kind,
         tips,
         hash::part(rest, 0, 24),
@@ -124,41 +124,43 @@ fn run_case(input: &[u8]) {
         &times,
         &mut line,
         &parents,
-    );
+    )
 }
 
 // How many bytes the next case has, 0 where the input ends.
-fn next_size() -> usize {
+fn next_size(rt: &impl Input) -> io::Result<usize> {
     let mut head = [0u8; 4];
-    let got = io::read_full(libc::STDIN_FILENO, &mut head);
+    let got = host::read_input(rt, &mut head)?;
     if got < 4 {
-        return 0;
+        return Ok(0);
     }
-    wide(hash::be32(&head, 0))
+    Ok(wide(hash::be32(&head, 0)))
 }
 
 // Reads and runs the next case, and answers whether there was one.
-fn run_next(space: &mut [u8]) -> bool {
-    let n = next_size();
+fn run_next(rt: &(impl Input + Print), space: &mut [u8]) -> io::Result<bool> {
+    let n = next_size(rt)?;
     if n == 0 {
-        return false;
+        return Ok(false);
     }
     if space.len() < n {
-        return false;
+        return Ok(false);
     }
-    let got = io::read_full(libc::STDIN_FILENO, &mut space[..n]);
+    let got = host::read_input(rt, &mut space[..n])?;
     if got < n {
-        return false;
+        return Ok(false);
     }
-    run_case(&space[..n]);
-    true
+    run_case(rt, &space[..n])?;
+    Ok(true)
 }
 
-// A proved loop has to end, and nothing says that the input does. So the loop counts its turns down, from a number that no run uses up.
-fn main() {
-    let mut space = io::large_buffer();
-    let mut turns = u64::MAX;
-    while turns > 0 && run_next(&mut space) {
-        turns -= 1;
+// A proved loop has to end, and nothing says that the input does. So the loop counts its turns, up to a number that no run uses up.
+fn main(rt: HostRuntime) -> io::Result<()> {
+    let mut space = host::large_buffer();
+    for _ in 0..u64::MAX {
+        if !run_next(&rt, &mut space)? {
+            break;
+        }
     }
+    Ok(())
 }

@@ -2,132 +2,130 @@
 // commit of the graph file a line: its id, its level, seconds and number of parents there, and what the store has of it.
 #![tactic(auto)]
 
-ghost use Rattle.io.specs.Counts.{IsPrefixLen};
+ghost use Rattle.std.specs.Io.{ReadsAtMost};
 
 use commitgraph::parents::ParentList;
 use commitgraph::{Layout, parents, rows};
 use date::Seconds;
 use hash::Kind;
-use libc::STDOUT_FILENO;
 use object::Reading;
+use std::rt::Files;
+use std::{fs, io};
 
-fn text(s: &[u8]) {
-    io::write_all(STDOUT_FILENO, s);
+fn text(rt: &impl Print, s: &[u8]) -> io::Result<()> {
+    host::write_all(rt, s)
 }
 
-fn number(n: usize) {
-    io::print_decimal(STDOUT_FILENO, n as u64);
+fn number(rt: &impl Print, n: usize) -> io::Result<()> {
+    host::print_decimal(rt, n as u64)
 }
 
-fn seconds(s: Seconds) {
+fn seconds(rt: &impl Print, s: Seconds) -> io::Result<()> {
     if date::is_negative(s) {
-        text(b"-");
+        text(rt, b"-")?;
     }
-    io::print_decimal(STDOUT_FILENO, date::magnitude(s));
+    host::print_decimal(rt, date::magnitude(s))
 }
 
-fn byte(b: u8) {
-    io::print_hex(STDOUT_FILENO, b as u64, 2);
+fn byte(rt: &impl Print, b: u8) -> io::Result<()> {
+    host::print_hex(rt, b as u64, 2)
 }
 
-fn hex(s: &[u8]) {
-    let mut i = 0;
-    while i < s.len() {
-        byte(s[i]);
-        i += 1;
+fn hex(rt: &impl Print, s: &[u8]) -> io::Result<()> {
+    for i in 0..s.len() {
+        byte(rt, s[i])?;
     }
+    Ok(())
 }
 
-fn counted(n: usize, s: Seconds) {
-    number(n);
-    text(b" parents, ");
-    seconds(s);
-    text(b" seconds");
+fn counted(rt: &impl Print, n: usize, s: Seconds) -> io::Result<()> {
+    number(rt, n)?;
+    text(rt, b" parents, ")?;
+    seconds(rt, s)?;
+    text(rt, b" seconds")
 }
 
 // What the store has under an id.
-fn stored(store: &[u8], id: &[u8]) {
+fn stored(rt: &impl Print, store: &[u8], id: &[u8]) -> io::Result<()> {
     let mut found = false;
     let body = odb::try_find(Kind::Sha1, store, id, &mut found);
     if !found {
-        text(b"absent");
-        return;
+        text(rt, b"absent")?;
+        return Ok(());
     }
     match object::readable(Kind::Sha1, body) {
         Reading::Readable { parents: n, stamp } => {
             let s = stamp.seconds;
-            counted(n, s);
+            counted(rt, n, s)
         }
-        Reading::Bad => text(b"a bad header line"),
-        Reading::Crowded => text(b"over 256 parents"),
+        Reading::Bad => text(rt, b"a bad header line"),
+        Reading::Crowded => text(rt, b"over 256 parents"),
     }
 }
 
 // What the graph file has at a position.
-fn listed(graph: &[u8], l: Layout, p: usize) {
-    text(b" level ");
+fn listed(rt: &impl Print, graph: &[u8], l: Layout, p: usize) -> io::Result<()> {
+    text(rt, b" level ")?;
     let level = rows::level(Kind::Sha1, graph, l, p);
-    io::print_decimal(STDOUT_FILENO, level.0 as u64);
-    text(b"; graph: ");
+    host::print_decimal(rt, level.0 as u64)?;
+    text(rt, b"; graph: ")?;
     match parents::parents(Kind::Sha1, graph, l, p) {
-        ParentList::Good(n) => counted(n, rows::seconds(Kind::Sha1, graph, l, p)),
-        ParentList::Corrupt => text(b"a corrupt parent list"),
+        ParentList::Good(n) => counted(rt, n, rows::seconds(Kind::Sha1, graph, l, p)),
+        ParentList::Corrupt => text(rt, b"a corrupt parent list"),
     }
 }
 
-fn commits(graph: &[u8], l: Layout, store: &[u8]) {
-    let mut p = 0;
-    while p < l.count {
-        hex(rows::id_at(Kind::Sha1, graph, l, p));
-        listed(graph, l, p);
-        text(b"; store: ");
-        stored(store, rows::id_at(Kind::Sha1, graph, l, p));
-        text(b"\n");
-        p += 1;
+fn commits(rt: &impl Print, graph: &[u8], l: Layout, store: &[u8]) -> io::Result<()> {
+    for p in 0..l.count {
+        hex(rt, rows::id_at(Kind::Sha1, graph, l, p))?;
+        listed(rt, graph, l, p)?;
+        text(rt, b"; store: ")?;
+        stored(rt, store, rows::id_at(Kind::Sha1, graph, l, p))?;
+        text(rt, b"\n")?;
     }
+    Ok(())
 }
 
-fn report(graph: &[u8], store: &[u8]) {
+fn report(rt: &impl Print, graph: &[u8], store: &[u8]) -> io::Result<()> {
     if !odb::is_good(Kind::Sha1, store) {
-        text(b"the commit store's layout is broken\n");
-        return;
+        text(rt, b"the commit store's layout is broken\n")?;
+        return Ok(());
     }
-    text(b"commit store: ");
-    number(odb::count(Kind::Sha1, store));
-    text(b" commits\n");
+    text(rt, b"commit store: ")?;
+    number(rt, odb::count(Kind::Sha1, store))?;
+    text(rt, b" commits\n")?;
     if !commitgraph::has_header(Kind::Sha1, graph) {
-        text(b"this is no commit-graph file of version 1\n");
-        return;
+        text(rt, b"this is no commit-graph file of version 1\n")?;
+        return Ok(());
     }
     if !commitgraph::is_good(Kind::Sha1, graph) {
-        text(b"the commit-graph file's layout is broken\n");
-        return;
+        text(rt, b"the commit-graph file's layout is broken\n")?;
+        return Ok(());
     }
     let l = commitgraph::parse(Kind::Sha1, graph);
-    text(b"commit-graph file: ");
-    number(l.count);
-    text(b" commits\n");
-    commits(graph, l, store);
+    text(rt, b"commit-graph file: ")?;
+    number(rt, l.count)?;
+    text(rt, b" commits\n")?;
+    commits(rt, graph, l, store)
 }
 
 // Reads a file into the room; the number of its bytes, 0 where it cannot be opened.
-fn load(path: &[u8], space: &mut [u8]) -> usize
-    ensures { IsPrefixLen result space.new }
+fn load(rt: &(impl Files + Eprint), path: &str, space: &mut [u8]) -> io::Result<usize>
+    ensures { ReadsAtMost result space.new }
 {
-    let fd = os::open_read(path);
-    if fd < 0 {
-        os::fail(path);
-        return 0;
+    match fs::open(rt, path) {
+        Ok(mut file) => host::read_full(&mut file, space),
+        Err(e) => {
+            eprintln!(rt; "{path}: {e}")?;
+            Ok(0)
+        }
     }
-    let n = io::read_full(fd, space);
-    libc::close(fd);
-    n
 }
 
-fn main() {
-    let mut first = io::large_buffer();
-    let mut second = io::large_buffer();
-    let n = load(b"graph", &mut first);
-    let m = load(b"store", &mut second);
-    report(&first[..n], &second[..m]);
+fn main(rt: HostRuntime) -> io::Result<()> {
+    let mut first = host::large_buffer();
+    let mut second = host::large_buffer();
+    let n = load(&rt, "graph", &mut first)?;
+    let m = load(&rt, "store", &mut second)?;
+    report(&rt, &first[..n], &second[..m])
 }

@@ -5,38 +5,38 @@
 ghost use Rattle.std.specs.Prelude.{◌≤◌};
 
 use feed::{FeedOutcome, Reading};
-use libc::STDOUT_FILENO;
+use std::io;
 
-fn text(s: &[u8]) {
-    io::write_all(STDOUT_FILENO, s);
+fn text(rt: &impl Print, s: &[u8]) -> io::Result<()> {
+    host::write_all(rt, s)
 }
 
-fn number(n: u64) {
-    io::print_decimal(STDOUT_FILENO, n);
+fn number(rt: &impl Print, n: u64) -> io::Result<()> {
+    host::print_decimal(rt, n)
 }
 
-fn reading(r: Reading) {
+fn reading(rt: &impl Print, r: Reading) -> io::Result<()> {
     match r {
-        Reading::Given(n) => number(n),
-        Reading::Absent => text(b"-"),
+        Reading::Given(n) => number(rt, n),
+        Reading::Absent => text(rt, b"-"),
     }
 }
 
-fn print(read: FeedOutcome) {
+fn print(rt: &impl Print, read: FeedOutcome) -> io::Result<()> {
     match read {
         FeedOutcome::Read(f) => {
             let cone = f.cone;
             let bed = f.bed;
-            reading(cone);
-            text(b" ");
-            reading(bed);
+            reading(rt, cone)?;
+            text(rt, b" ")?;
+            reading(rt, bed)?;
         }
         FeedOutcome::Faulty(r) => {
-            text(b"! ");
-            number(walk::number(r) as u64);
+            text(rt, b"! ")?;
+            number(rt, walk::number(r) as u64)?;
         }
     }
-    text(b"\n");
+    text(rt, b"\n")
 }
 
 // How many bytes a commit takes, its length's byte included.
@@ -46,21 +46,22 @@ fn wide(x: u8) -> usize
     1 + x as usize
 }
 
-fn commits(s: &[u8]) {
+fn commits(rt: &impl Print, s: &[u8]) -> io::Result<()> {
     let mut at = 0;
     while at < s.len() {
         let n = wide(s[at]);
         let body = hash::part(s, at, n);
-        print(feed::read(hash::part(body, 1, n)));
+        print(rt, feed::read(hash::part(body, 1, n)))?;
         if s.len() - at <= n {
-            return;
+            return Ok(());
         }
         at += n;
     }
+    Ok(())
 }
 
-fn main() {
-    let mut space = io::large_buffer();
-    let n = io::read_full(libc::STDIN_FILENO, &mut space);
-    commits(&space[..n]);
+fn main(rt: HostRuntime) -> io::Result<()> {
+    let mut space = host::large_buffer();
+    let n = host::read_input(&rt, &mut space)?;
+    commits(&rt, &space[..n])
 }

@@ -5,52 +5,52 @@
 
 ghost use Rattle.std.specs.Prelude.{◌≤◌, ◌<◌};
 
-use libc::STDOUT_FILENO;
 use reports::{FeedReport, Reader, Reported};
+use std::io;
 use walk::Settings;
 
-fn text(s: &[u8]) {
-    io::write_all(STDOUT_FILENO, s);
+fn text(rt: &impl Print, s: &[u8]) -> io::Result<()> {
+    host::write_all(rt, s)
 }
 
 // A number after a space.
-fn print_number(n: u64) {
-    text(b" ");
-    io::print_decimal(STDOUT_FILENO, n);
+fn print_number(rt: &impl Print, n: u64) -> io::Result<()> {
+    text(rt, b" ")?;
+    host::print_decimal(rt, n)
 }
 
 // A signed number after a space.
-fn print_signed(n: i64) {
+fn print_signed(rt: &impl Print, n: i64) -> io::Result<()> {
     let s = date::Seconds(n);
     if date::is_negative(s) {
-        text(b" -");
+        text(rt, b" -")?;
     } else {
-        text(b" ");
+        text(rt, b" ")?;
     }
-    io::print_decimal(STDOUT_FILENO, date::magnitude(s));
+    host::print_decimal(rt, date::magnitude(s))
 }
 
-fn print_outcome(o: Reported) {
+fn print_outcome(rt: &impl Print, o: Reported) -> io::Result<()> {
     match o {
-        Reported::Whole => text(b"whole"),
+        Reported::Whole => text(rt, b"whole"),
         Reported::Refused(r) => {
-            text(b"refused");
-            print_number(walk::number(r) as u64);
+            text(rt, b"refused")?;
+            print_number(rt, walk::number(r) as u64)
         }
     }
 }
 
-fn print_feed(r: FeedReport) {
+fn print_feed(rt: &impl Print, r: FeedReport) -> io::Result<()> {
     let o = r.outcome;
-    print_outcome(o);
-    print_number(r.both);
-    print_number(r.cone);
-    print_number(r.bed);
-    print_number(r.neither);
-    print_number(r.cone_sum);
-    print_number(r.bed_sum);
-    print_signed(r.difference);
-    text(b"\n");
+    print_outcome(rt, o)?;
+    print_number(rt, r.both)?;
+    print_number(rt, r.cone)?;
+    print_number(rt, r.bed)?;
+    print_number(rt, r.neither)?;
+    print_number(rt, r.cone_sum)?;
+    print_number(rt, r.bed_sum)?;
+    print_signed(rt, r.difference)?;
+    text(rt, b"\n")
 }
 
 fn wide(x: u32) -> usize
@@ -101,6 +101,7 @@ fn reader(head: &[u8]) -> Reader {
 
 // The feed report of a case.
 fn run_feed(
+    rt: &impl Print,
     input: &[u8],
     names: &mut [u8],
     marks: &mut [u8],
@@ -108,33 +109,37 @@ fn run_feed(
     times: &mut [i64],
     line: &mut [u32],
     parents: &mut [u8],
-) {
+) -> io::Result<()> {
     let s = number_at(input, 49);
     let g = number_at(input, 53);
     let t = number_at(input, 57);
     let h = number_at(input, 61);
     let e = number_at(input, 65);
     let b = number_at(input, 69);
-    print_feed(reports::feed_report(
-        hash::part(input, 73, s),
-        hash::part(input, 73 + s, g),
-        hash::part(input, 73 + s + g, t),
-        hash::part(input, 73 + s + g + t, h),
-        hash::part(input, 73 + s + g + t + h, e),
-        settings(input),
-        hash::part(input, 73 + s + g + t + h + e, b),
-        reader(input),
-        names,
-        marks,
-        levels,
-        times,
-        line,
-        parents,
-    ));
+    print_feed(
+        rt,
+        reports::feed_report(
+            hash::part(input, 73, s),
+            hash::part(input, 73 + s, g),
+            hash::part(input, 73 + s + g, t),
+            hash::part(input, 73 + s + g + t, h),
+            hash::part(input, 73 + s + g + t + h, e),
+            settings(input),
+            hash::part(input, 73 + s + g + t + h + e, b),
+            reader(input),
+            names,
+            marks,
+            levels,
+            times,
+            line,
+            parents,
+        ),
+    )
 }
 
 // Lends the buffers, each as long as the head says, to the report.
 fn lend(
+    rt: &impl Print,
     input: &[u8],
     names: &mut [u8],
     marks: &mut [u8],
@@ -142,7 +147,7 @@ fn lend(
     times: &mut [i64],
     line: &mut [u32],
     parents: &mut [u8],
-) {
+) -> io::Result<()> {
     let a = lent(input, 25, names.len());
     let b = lent(input, 29, marks.len());
     let c = lent(input, 33, levels.len());
@@ -150,6 +155,7 @@ fn lend(
     let e = lent(input, 41, line.len());
     let f = lent(input, 45, parents.len());
     run_feed(
+        rt,
         input,
         &mut names[..a],
         &mut marks[..b],
@@ -157,11 +163,11 @@ fn lend(
         &mut times[..d],
         &mut line[..e],
         &mut parents[..f],
-    );
+    )
 }
 
 // A case, in memory for 512 places of either kind.
-fn run_case(input: &[u8]) {
+fn run_case(rt: &impl Print, input: &[u8]) -> io::Result<()> {
     let mut names = [0u8; 16384];
     let mut marks = [0u8; 512];
     let mut levels = [0u32; 512];
@@ -169,6 +175,7 @@ fn run_case(input: &[u8]) {
     let mut line = [0u32; 2560];
     let mut parents = [0u8; 8192];
     lend(
+        rt,
         input,
         &mut names,
         &mut marks,
@@ -176,33 +183,35 @@ fn run_case(input: &[u8]) {
         &mut times,
         &mut line,
         &mut parents,
-    );
+    )
 }
 
 // Reads and runs the next case, and answers whether there was one.
-fn run_next(space: &mut [u8]) -> bool {
+fn run_next(rt: &(impl Input + Print), space: &mut [u8]) -> io::Result<bool> {
     let mut head = [0u8; 4];
-    let got = io::read_full(libc::STDIN_FILENO, &mut head);
+    let got = host::read_input(rt, &mut head)?;
     if got < 4 {
-        return false;
+        return Ok(false);
     }
     let n = wide(hash::be32(&head, 0));
     if space.len() < n {
-        return false;
+        return Ok(false);
     }
-    let all = io::read_full(libc::STDIN_FILENO, &mut space[..n]);
+    let all = host::read_input(rt, &mut space[..n])?;
     if all < n {
-        return false;
+        return Ok(false);
     }
-    run_case(&space[..n]);
-    true
+    run_case(rt, &space[..n])?;
+    Ok(true)
 }
 
-// A proved loop has to end, and nothing says that the input does. So the loop counts its turns down, from a number that no run uses up.
-fn main() {
-    let mut space = io::large_buffer();
-    let mut turns = u64::MAX;
-    while turns > 0 && run_next(&mut space) {
-        turns -= 1;
+// A proved loop has to end, and nothing says that the input does. So the loop counts its turns, up to a number that no run uses up.
+fn main(rt: HostRuntime) -> io::Result<()> {
+    let mut space = host::large_buffer();
+    for _ in 0..u64::MAX {
+        if !run_next(&rt, &mut space)? {
+            break;
+        }
     }
+    Ok(())
 }

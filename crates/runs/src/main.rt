@@ -5,13 +5,13 @@
 #![tactic(auto)]
 
 ghost use Rattle.std.specs.Prelude.{◌≤◌, ◌<◌};
-ghost use Rattle.io.specs.Counts.{IsPrefixLen};
+ghost use Rattle.std.specs.Io.{ReadsAtMost};
 
 use date::{Seconds, Zone};
 use hash::Kind;
-use libc::STDOUT_FILENO;
 use opentested::open_tested;
 use state::Record;
+use std::io;
 use traverse::next::step;
 use traverse::open::open;
 use traverse::{Opened, Out};
@@ -30,97 +30,96 @@ const MOST_PARENTS: usize = 256;
 const MOST_CALLS: usize = 2000;
 
 // Bytes as they are.
-fn text(s: &[u8]) {
-    io::write_all(STDOUT_FILENO, s);
+fn text(rt: &impl Print, s: &[u8]) -> io::Result<()> {
+    host::write_all(rt, s)
 }
 
 // A number in decimal digits.
-fn number(n: u64) {
-    io::print_decimal(STDOUT_FILENO, n);
+fn number(rt: &impl Print, n: u64) -> io::Result<()> {
+    host::print_decimal(rt, n)
 }
 
 // A word and a number.
-fn count(word: &[u8], n: usize) {
-    text(word);
-    number(n as u64);
+fn count(rt: &impl Print, word: &[u8], n: usize) -> io::Result<()> {
+    text(rt, word)?;
+    number(rt, n as u64)
 }
 
 // ---- an answer's line
 
 // An id in 40 hexadecimal digits.
-fn id(s: &[u8]) {
-    io::print_hex(STDOUT_FILENO, hash::be64(s, 0), 16);
-    io::print_hex(STDOUT_FILENO, hash::be64(s, 8), 16);
-    io::print_hex(STDOUT_FILENO, hash::be32(s, 16) as u64, 8);
+fn id(rt: &impl Print, s: &[u8]) -> io::Result<()> {
+    host::print_hex(rt, hash::be64(s, 0), 16)?;
+    host::print_hex(rt, hash::be64(s, 8), 16)?;
+    host::print_hex(rt, hash::be32(s, 16) as u64, 8)
 }
 
 // A refusal by document 01's number.
-fn refusal(r: Refusal) {
-    text(b"refused ");
-    number(walk::number(r) as u64);
+fn refusal(rt: &impl Print, r: Refusal) -> io::Result<()> {
+    text(rt, b"refused ")?;
+    number(rt, walk::number(r) as u64)
 }
 
 // What came of a call.
-fn outcome(o: Outcome) {
+fn outcome(rt: &impl Print, o: Outcome) -> io::Result<()> {
     match o {
-        Outcome::Commit => text(b"commit"),
-        Outcome::End => text(b"end"),
-        Outcome::Refused(r) => refusal(r),
+        Outcome::Commit => text(rt, b"commit"),
+        Outcome::End => text(rt, b"end"),
+        Outcome::Refused(r) => refusal(rt, r),
     }
 }
 
 // The generation, `-` where there is none.
-fn generation(g: MaybeLevel) {
-    text(b" generation ");
+fn generation(rt: &impl Print, g: MaybeLevel) -> io::Result<()> {
+    text(rt, b" generation ")?;
     match g {
-        MaybeLevel::Generation(level) => number(level.0 as u64),
-        MaybeLevel::NoGeneration => text(b"-"),
+        MaybeLevel::Generation(level) => number(rt, level.0 as u64),
+        MaybeLevel::NoGeneration => text(rt, b"-"),
     }
 }
 
 // Seconds with their sign.
-fn signed(s: Seconds) {
+fn signed(rt: &impl Print, s: Seconds) -> io::Result<()> {
     if date::is_negative(s) {
-        text(b"-");
+        text(rt, b"-")?;
     }
-    number(date::magnitude(s));
+    number(rt, date::magnitude(s))
 }
 
 // The seconds, `-` where there are none.
-fn seconds(t: MaybeSeconds) {
-    text(b" seconds ");
+fn seconds(rt: &impl Print, t: MaybeSeconds) -> io::Result<()> {
+    text(rt, b" seconds ")?;
     match t {
-        MaybeSeconds::Time(s) => signed(s),
-        MaybeSeconds::NoTime => text(b"-"),
+        MaybeSeconds::Time(s) => signed(rt, s),
+        MaybeSeconds::NoTime => text(rt, b"-"),
     }
 }
 
 // The zone in signed minutes, `-` where there is none.
-fn zone(z: Zone) {
-    text(b" zone ");
+fn zone(rt: &impl Print, z: Zone) -> io::Result<()> {
+    text(rt, b" zone ")?;
     match z {
-        Zone::Minutes(m) => signed(Seconds(m)),
-        Zone::NoZone => text(b"-"),
+        Zone::Minutes(m) => signed(rt, Seconds(m)),
+        Zone::NoZone => text(rt, b"-"),
     }
 }
 
 // The running numbers of a walk.
-fn numbers(admitted: usize, struck: usize, waiting: usize) {
-    count(b" admitted ", admitted);
-    count(b" struck ", struck);
-    count(b" waiting ", waiting);
+fn numbers(rt: &impl Print, admitted: usize, struck: usize, waiting: usize) -> io::Result<()> {
+    count(rt, b" admitted ", admitted)?;
+    count(rt, b" struck ", struck)?;
+    count(rt, b" waiting ", waiting)
 }
 
 // The first n ids.
-fn few(ids: &[u8], n: usize)
+fn few(rt: &impl Print, ids: &[u8], n: usize) -> io::Result<()>
     requires { n ≤ 8 }
 {
-    let mut k = 0;
-    while k < n {
-        text(b" ");
-        id(hash::id_at(Kind::Sha1, ids, 20 * k));
-        k += 1;
+    for k in 0..n {
+        text(rt, b" ")?;
+        id(rt, hash::id_at(Kind::Sha1, ids, 20 * k))?;
     }
+    Ok(())
 }
 
 // A byte as a number of 32 bits.
@@ -133,71 +132,71 @@ fn wide(b: u8) -> u32
 // A number in which each byte and its place have a part.
 fn checksum(s: &[u8]) -> u32 {
     let mut sum = 0;
-    let mut i = 0;
-    while i < s.len() {
+    for i in 0..s.len() {
         sum = (sum * 31 + wide(s[i])) % 65521;
-        i += 1;
     }
     sum
 }
 
 // The first and the last of the first n ids, and the checksum of all n.
-fn many(ids: &[u8], n: usize)
+fn many(rt: &impl Print, ids: &[u8], n: usize) -> io::Result<()>
     requires { (0 < n) × (n ≤ 256) }
 {
-    text(b" ");
-    id(ids);
-    text(b" to ");
-    id(hash::id_at(Kind::Sha1, ids, 20 * (n - 1)));
-    text(b" checksum ");
-    number(checksum(hash::part(ids, 0, 20 * n)) as u64);
+    text(rt, b" ")?;
+    id(rt, ids)?;
+    text(rt, b" to ")?;
+    id(rt, hash::id_at(Kind::Sha1, ids, 20 * (n - 1)))?;
+    text(rt, b" checksum ")?;
+    number(rt, checksum(hash::part(ids, 0, 20 * n)) as u64)
 }
 
 // The ids that an answer counts, at the start of the buffer.
-fn parents_of(buffer: &[u8], n: usize) {
-    count(b" parents ", n);
+fn parents_of(rt: &impl Print, buffer: &[u8], n: usize) -> io::Result<()> {
+    count(rt, b" parents ", n)?;
     if n <= FEW {
-        few(buffer, n);
+        few(rt, buffer, n)?;
     } else if n <= MOST_PARENTS {
-        many(buffer, n);
+        many(rt, buffer, n)?;
     }
+    Ok(())
 }
 
 // A call's answer on a line.
-fn print_answer(a: Answer, parents: &[u8]) {
+fn print_answer(rt: &impl Print, a: Answer, parents: &[u8]) -> io::Result<()> {
     let given = a.outcome;
-    outcome(given);
-    text(b" ");
+    outcome(rt, given)?;
+    text(rt, b" ")?;
     let info = a.info;
-    id(&info.id);
+    id(rt, &info.id)?;
     let level = info.generation;
-    generation(level);
+    generation(rt, level)?;
     let time = info.time;
-    seconds(time);
-    numbers(a.admitted, a.struck, a.waiting);
-    parents_of(parents, info.parents);
+    seconds(rt, time)?;
+    numbers(rt, a.admitted, a.struck, a.waiting)?;
+    parents_of(rt, parents, info.parents)?;
     let beside = info.zone;
-    zone(beside);
-    text(b"\n");
+    zone(rt, beside)?;
+    text(rt, b"\n")
 }
 
 // That a walk was opened, and how.
-fn accepted(tested: bool) {
-    text(b"opened");
+fn accepted(rt: &impl Print, tested: bool) -> io::Result<()> {
+    text(rt, b"opened")?;
     if tested {
-        text(b" tested");
+        text(rt, b" tested")?;
     }
+    Ok(())
 }
 
 // An opening's answer on a line.
-fn print_opening(a: OpenAnswer, tested: bool) {
+fn print_opening(rt: &impl Print, a: OpenAnswer, tested: bool) -> io::Result<()> {
     let o = a.outcome;
     match o {
-        OpenOutcome::Accepted => accepted(tested),
-        OpenOutcome::NotOpened(r) => refusal(r),
+        OpenOutcome::Accepted => accepted(rt, tested)?,
+        OpenOutcome::NotOpened(r) => refusal(rt, r)?,
     }
-    numbers(a.admitted, a.struck, a.waiting);
-    text(b"\n");
+    numbers(rt, a.admitted, a.struck, a.waiting)?;
+    text(rt, b"\n")
 }
 
 // ---- a walk
@@ -216,6 +215,7 @@ fn left_after(o: Outcome, left: usize) -> usize
 
 // One call, printed.
 fn call(
+    rt: &impl Print,
     r: Record,
     store: &[u8],
     graph: &[u8],
@@ -228,16 +228,17 @@ fn call(
     times: &mut [i64],
     line: &mut [u32],
     parents: &mut [u8],
-) -> Out {
+) -> io::Result<Out> {
     let out = step(
         r, store, graph, hidden, excluded, settings, names, marks, levels, times, line, parents,
     );
-    print_answer(out.answer, parents);
-    out
+    print_answer(rt, out.answer, parents)?;
+    Ok(out)
 }
 
 // Calls until the walk said end twice, or the record is closed.
 fn calls(
+    rt: &impl Print,
     first: Record,
     store: &[u8],
     graph: &[u8],
@@ -250,18 +251,20 @@ fn calls(
     times: &mut [i64],
     line: &mut [u32],
     parents: &mut [u8],
-) {
+) -> io::Result<()> {
     let mut r = first;
     let mut left = MOST_CALLS;
     while 0 < left {
         let out = call(
-            r, store, graph, hidden, excluded, settings, names, marks, levels, times, line, parents,
-        );
+            rt, r, store, graph, hidden, excluded, settings, names, marks, levels, times, line,
+            parents,
+        )?;
         let answer = out.answer;
         let outcome = answer.outcome;
         left = left_after(outcome, left);
         r = out.record;
     }
+    Ok(())
 }
 
 // Opens a walk, tested or not.
@@ -293,6 +296,7 @@ fn opened(
 
 // Opens a walk and makes its calls.
 fn walk_all(
+    rt: &impl Print,
     tested: bool,
     store: &[u8],
     graph: &[u8],
@@ -306,16 +310,16 @@ fn walk_all(
     times: &mut [i64],
     line: &mut [u32],
     parents: &mut [u8],
-) {
+) -> io::Result<()> {
     let o = opened(
         tested, store, graph, tips, hidden, excluded, settings, names, marks, levels, times, line,
         parents,
     );
-    print_opening(o.answer, tested);
+    print_opening(rt, o.answer, tested)?;
     calls(
-        o.record, store, graph, hidden, excluded, settings, names, marks, levels, times, line,
+        rt, o.record, store, graph, hidden, excluded, settings, names, marks, levels, times, line,
         parents,
-    );
+    )
 }
 
 // ---- the cases
@@ -400,6 +404,7 @@ fn lent(lengths: &[u8], k: usize, most: usize) -> usize
 
 // Lends the buffers, each as long as the list says, to a walk.
 fn lend(
+    rt: &impl Print,
     tested: bool,
     store: &[u8],
     graph: &[u8],
@@ -414,7 +419,7 @@ fn lend(
     times: &mut [i64],
     line: &mut [u32],
     parents: &mut [u8],
-) {
+) -> io::Result<()> {
     let a = lent(lengths, 0, names.len());
     let b = lent(lengths, 4, marks.len());
     let c = lent(lengths, 8, levels.len());
@@ -422,6 +427,7 @@ fn lend(
     let e = lent(lengths, 16, line.len());
     let f = lent(lengths, 20, parents.len());
     walk_all(
+        rt,
         tested,
         store,
         graph,
@@ -435,11 +441,12 @@ fn lend(
         &mut times[..d],
         &mut line[..e],
         &mut parents[..f],
-    );
+    )
 }
 
 // Prints a case's title and runs its walk.
 fn run_case(
+    rt: &impl Print,
     case: &[u8],
     names: &mut [u8],
     marks: &mut [u8],
@@ -447,7 +454,7 @@ fn run_case(
     times: &mut [i64],
     line: &mut [u32],
     parents: &mut [u8],
-) {
+) -> io::Result<()> {
     let title = rest(case, 11);
     let store = after_front(title);
     let graph = after_front(store);
@@ -455,10 +462,11 @@ fn run_case(
     let hidden = after_front(tips);
     let excluded = after_front(hidden);
     let lengths = after_front(excluded);
-    text(b"# ");
-    text(front(title));
-    text(b"\n");
+    text(rt, b"# ")?;
+    text(rt, front(title))?;
+    text(rt, b"\n")?;
     lend(
+        rt,
         is_tested(case),
         front(store),
         front(graph),
@@ -473,36 +481,37 @@ fn run_case(
         times,
         line,
         parents,
-    );
+    )
 }
 
 // How many bytes the next case has, 0 where the input ends.
-fn next_size() -> usize {
+fn next_size(rt: &impl Input) -> io::Result<usize> {
     let mut head = [0u8; 4];
-    let got = io::read_full(libc::STDIN_FILENO, &mut head);
+    let got = host::read_input(rt, &mut head)?;
     if got < 4 {
-        return 0;
+        return Ok(0);
     }
-    size(hash::be32(&head, 0))
+    Ok(size(hash::be32(&head, 0)))
 }
 
 // Reads the next case, and answers its length, 0 where there is none.
-fn read_case(space: &mut [u8]) -> usize
-    ensures { IsPrefixLen result space.new }
+fn read_case(rt: &impl Input, space: &mut [u8]) -> io::Result<usize>
+    ensures { ReadsAtMost result space.new }
 {
-    let n = next_size();
+    let n = next_size(rt)?;
     if space.len() < n {
-        return 0;
+        return Ok(0);
     }
-    let got = io::read_full(libc::STDIN_FILENO, &mut space[..n]);
+    let got = host::read_input(rt, &mut space[..n])?;
     if got < n {
-        return 0;
+        return Ok(0);
     }
-    n
+    Ok(n)
 }
 
 // Reads and runs the next case, and answers whether there was one.
 fn run_next(
+    rt: &(impl Input + Print),
     space: &mut [u8],
     names: &mut [u8],
     marks: &mut [u8],
@@ -510,27 +519,27 @@ fn run_next(
     times: &mut [i64],
     line: &mut [u32],
     parents: &mut [u8],
-) -> bool {
-    let n = read_case(space);
+) -> io::Result<bool> {
+    let n = read_case(rt, space)?;
     if n == 0 {
-        return false;
+        return Ok(false);
     }
-    run_case(&space[..n], names, marks, levels, times, line, parents);
-    true
+    run_case(rt, &space[..n], names, marks, levels, times, line, parents)?;
+    Ok(true)
 }
 
-// A proved loop has to end, and nothing says that the input does. So the loop counts its turns down, from a number that no run uses up.
-fn main() {
-    let mut space = io::large_buffer();
+// A proved loop has to end, and nothing says that the input does. So the loop counts its turns, up to a number that no run uses up.
+fn main(rt: HostRuntime) -> io::Result<()> {
+    let mut space = host::large_buffer();
     let mut names = [0u8; 28000];
     let mut marks = [0u8; 1400];
     let mut levels = [0u32; 1400];
     let mut times = [0i64; 1400];
     let mut line = [0u32; 7000];
     let mut parents = [0u8; 5120];
-    let mut turns = u64::MAX;
-    while turns > 0
-        && run_next(
+    for _ in 0..u64::MAX {
+        if !run_next(
+            &rt,
             &mut space,
             &mut names,
             &mut marks,
@@ -538,8 +547,9 @@ fn main() {
             &mut times,
             &mut line,
             &mut parents,
-        )
-    {
-        turns -= 1;
+        )? {
+            break;
+        }
     }
+    Ok(())
 }

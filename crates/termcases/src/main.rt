@@ -6,55 +6,56 @@
 
 ghost use Rattle.std.specs.Prelude.{◌<◌};
 
-use libc::STDOUT_FILENO;
 use reports::Reported;
+use std::io;
 use termsreport::TermsReport;
 use walk::Settings;
 
-fn text(s: &[u8]) {
-    io::write_all(STDOUT_FILENO, s);
+fn text(rt: &impl Print, s: &[u8]) -> io::Result<()> {
+    host::write_all(rt, s)
 }
 
 // A number after a space.
-fn print_number(n: u64) {
-    text(b" ");
-    io::print_decimal(STDOUT_FILENO, n);
+fn print_number(rt: &impl Print, n: u64) -> io::Result<()> {
+    text(rt, b" ")?;
+    host::print_decimal(rt, n)
 }
 
 // The first day of every month, 12 a line.
-fn print_days() {
+fn print_days(rt: &impl Print) -> io::Result<()> {
     for m in 0..1561usize {
-        print_number(calendar::months::first_day(m));
+        print_number(rt, calendar::months::first_day(m))?;
         if m % 12 == 11 {
-            text(b"\n");
+            text(rt, b"\n")?;
         }
     }
-    text(b"\n");
+    text(rt, b"\n")
 }
 
-fn print_outcome(o: Reported) {
+fn print_outcome(rt: &impl Print, o: Reported) -> io::Result<()> {
     match o {
-        Reported::Whole => text(b"whole"),
+        Reported::Whole => text(rt, b"whole"),
         Reported::Refused(r) => {
-            text(b"refused");
-            print_number(walk::number(r) as u64);
+            text(rt, b"refused")?;
+            print_number(rt, walk::number(r) as u64)
         }
     }
 }
 
-fn print_counts(counts: &[u64]) {
+fn print_counts(rt: &impl Print, counts: &[u64]) -> io::Result<()> {
     for i in 0..counts.len() {
-        print_number(counts[i]);
+        print_number(rt, counts[i])?;
     }
+    Ok(())
 }
 
-fn print_report(r: TermsReport, counts: &[u64]) {
+fn print_report(rt: &impl Print, r: TermsReport, counts: &[u64]) -> io::Result<()> {
     let o = r.outcome;
-    print_outcome(o);
-    print_counts(counts);
-    text(b" outside");
-    print_number(r.outside);
-    text(b"\n");
+    print_outcome(rt, o)?;
+    print_counts(rt, counts)?;
+    text(rt, b" outside")?;
+    print_number(rt, r.outside)?;
+    text(rt, b"\n")
 }
 
 fn wide(x: u32) -> usize
@@ -100,6 +101,7 @@ fn read_months(part: &[u8], months: &mut [u32]) {
 
 // The report of a case.
 fn run_terms(
+    rt: &impl Print,
     input: &[u8],
     months: &[u32],
     names: &mut [u8],
@@ -109,7 +111,7 @@ fn run_terms(
     line: &mut [u32],
     parents: &mut [u8],
     counts: &mut [u64],
-) {
+) -> io::Result<()> {
     let s = number_at(input, 24);
     let g = number_at(input, 28);
     let t = number_at(input, 32);
@@ -131,11 +133,11 @@ fn run_terms(
         parents,
         counts,
     );
-    print_report(r, counts);
+    print_report(rt, r, counts)
 }
 
 // A case, in memory for 512 places of either kind.
-fn run_in_memory(input: &[u8], months: &[u32]) {
+fn run_in_memory(rt: &impl Print, input: &[u8], months: &[u32]) -> io::Result<()> {
     let mut names = [0u8; 16384];
     let mut marks = [0u8; 512];
     let mut levels = [0u32; 512];
@@ -144,6 +146,7 @@ fn run_in_memory(input: &[u8], months: &[u32]) {
     let mut parents = [0u8; 8192];
     let mut counts = [7u64; 26];
     run_terms(
+        rt,
         input,
         months,
         &mut names,
@@ -153,55 +156,58 @@ fn run_in_memory(input: &[u8], months: &[u32]) {
         &mut line,
         &mut parents,
         &mut counts,
-    );
+    )
 }
 
 // A case with the first n of these months, or with all.
-fn run_first(input: &[u8], months: &[u32], n: usize) {
+fn run_first(rt: &impl Print, input: &[u8], months: &[u32], n: usize) -> io::Result<()> {
     if n < months.len() {
-        run_in_memory(input, &months[..n]);
+        run_in_memory(rt, input, &months[..n])?;
     } else {
-        run_in_memory(input, months);
+        run_in_memory(rt, input, months)?;
     }
+    Ok(())
 }
 
 // The months stand at the case's end.
-fn run_case(input: &[u8]) {
+fn run_case(rt: &impl Print, input: &[u8]) -> io::Result<()> {
     let m = number_at(input, 44);
     let mut months = [0u32; 64];
     if input.len() < m {
-        return;
+        return Ok(());
     }
     let part = hash::part(input, input.len() - m, m);
     read_months(part, &mut months);
-    run_first(input, &months, m / 4);
+    run_first(rt, input, &months, m / 4)
 }
 
 // Reads and runs the next case, and answers whether there was one.
-fn run_next(space: &mut [u8]) -> bool {
+fn run_next(rt: &(impl Input + Print), space: &mut [u8]) -> io::Result<bool> {
     let mut head = [0u8; 4];
-    let got = io::read_full(libc::STDIN_FILENO, &mut head);
+    let got = host::read_input(rt, &mut head)?;
     if got < 4 {
-        return false;
+        return Ok(false);
     }
     let n = wide(hash::be32(&head, 0));
     if space.len() < n {
-        return false;
+        return Ok(false);
     }
-    let all = io::read_full(libc::STDIN_FILENO, &mut space[..n]);
+    let all = host::read_input(rt, &mut space[..n])?;
     if all < n {
-        return false;
+        return Ok(false);
     }
-    run_case(&space[..n]);
-    true
+    run_case(rt, &space[..n])?;
+    Ok(true)
 }
 
-// A proved loop has to end, and nothing says that the input does. So the loop counts its turns down, from a number that no run uses up.
-fn main() {
-    print_days();
-    let mut space = io::large_buffer();
-    let mut turns = u64::MAX;
-    while turns > 0 && run_next(&mut space) {
-        turns -= 1;
+// A proved loop has to end, and nothing says that the input does. So the loop counts its turns, up to a number that no run uses up.
+fn main(rt: HostRuntime) -> io::Result<()> {
+    print_days(&rt)?;
+    let mut space = host::large_buffer();
+    for _ in 0..u64::MAX {
+        if !run_next(&rt, &mut space)? {
+            break;
+        }
     }
+    Ok(())
 }

@@ -8,63 +8,62 @@ ghost use Rattle.std.specs.Prelude.{◌≤◌, length};
 use commititer::{Place, State, Token, TokenRead};
 use date::{Seconds, Stamp, Zone};
 use hash::Kind;
-use libc::STDOUT_FILENO;
+use std::io;
 
-fn text(s: &[u8]) {
-    io::write_all(STDOUT_FILENO, s);
+fn text(rt: &impl Print, s: &[u8]) -> io::Result<()> {
+    host::write_all(rt, s)
 }
 
-fn byte(b: u8) {
-    io::print_hex(STDOUT_FILENO, b as u64, 2);
+fn byte(rt: &impl Print, b: u8) -> io::Result<()> {
+    host::print_hex(rt, b as u64, 2)
 }
 
-fn hex(s: &[u8]) {
-    let mut i = 0;
-    while i < s.len() {
-        byte(s[i]);
-        i += 1;
+fn hex(rt: &impl Print, s: &[u8]) -> io::Result<()> {
+    for i in 0..s.len() {
+        byte(rt, s[i])?;
     }
+    Ok(())
 }
 
-fn seconds(s: Seconds) {
+fn seconds(rt: &impl Print, s: Seconds) -> io::Result<()> {
     if date::is_negative(s) {
-        text(b"-");
+        text(rt, b"-")?;
     }
-    io::print_decimal(STDOUT_FILENO, date::magnitude(s));
+    host::print_decimal(rt, date::magnitude(s))
 }
 
 // The committer's seconds, and its zone in signed minutes.
-fn stamp(s: Stamp) {
+fn stamp(rt: &impl Print, s: Stamp) -> io::Result<()> {
     let time = s.seconds;
-    seconds(time);
+    seconds(rt, time)?;
     let zone = s.zone;
     match zone {
         Zone::Minutes(m) => {
-            text(b" zone ");
-            seconds(Seconds(m));
+            text(rt, b" zone ")?;
+            seconds(rt, Seconds(m))
         }
-        Zone::NoZone => text(b" zone none"),
+        Zone::NoZone => text(rt, b" zone none"),
     }
 }
 
-fn print(kind: Kind, read: TokenRead) {
+fn print(rt: &impl Print, kind: Kind, read: TokenRead) -> io::Result<()> {
     let token = read.token;
     let id = read.id;
     match token {
-        Token::Tree => text(b"tree"),
+        Token::Tree => text(rt, b"tree")?,
         Token::Parent => {
-            text(b"parent ");
-            hex(hash::part(&id.bytes, 0, hash::width(kind)));
+            text(rt, b"parent ")?;
+            hex(rt, hash::part(&id.bytes, 0, hash::width(kind)))?;
         }
-        Token::Author => text(b"author"),
+        Token::Author => text(rt, b"author")?,
         Token::Committer(s) => {
-            text(b"committer ");
-            stamp(s);
+            text(rt, b"committer ")?;
+            stamp(rt, s)?;
         }
-        Token::Bad => text(b"bad"),
-        Token::End => text(b"end"),
+        Token::Bad => text(rt, b"bad")?,
+        Token::End => text(rt, b"end")?,
     }
-    text(b"\n");
+    text(rt, b"\n")
 }
 
 fn is_end(read: TokenRead) -> bool {
@@ -76,20 +75,20 @@ fn is_end(read: TokenRead) -> bool {
 }
 
 // Every token from the start on, the end included.
-fn tokens(kind: Kind, body: &[u8]) {
+fn tokens(rt: &impl Print, kind: Kind, body: &[u8]) -> io::Result<()> {
     let mut place = Place {
         at: 0,
         state: State::Tree,
     };
     while !commititer::is_done(place) {
         let read = commititer::read_token(kind, body, place);
-        print(kind, read);
+        print(rt, kind, read)?;
         if is_end(read) {
-            return;
+            return Ok(());
         }
         place = commititer::place_after(kind, body, place);
     }
-    print(kind, commititer::read_token(kind, body, place));
+    print(rt, kind, commititer::read_token(kind, body, place))
 }
 
 fn kind_of(b: u8) -> Kind {
@@ -101,32 +100,31 @@ fn zero_from(s: &[u8], at: usize) -> usize
     requires { at ≤ length s.now }
     ensures { (at ≤ result) × (result ≤ length s.now) }
 {
-    let mut i = at;
-    while i < s.len() {
+    for i in at..s.len() {
         if s[i] == 0 {
             return i;
         }
-        i += 1;
     }
-    i
+    s.len()
 }
 
-fn commits(s: &[u8]) {
+fn commits(rt: &impl Print, s: &[u8]) -> io::Result<()> {
     let mut at = 0;
     while at < s.len() {
         let kind = kind_of(s[at]);
         let end = zero_from(s, at + 1);
-        tokens(kind, &s[at + 1..end]);
-        text(b"\n");
+        tokens(rt, kind, &s[at + 1..end])?;
+        text(rt, b"\n")?;
         if end == s.len() {
-            return;
+            return Ok(());
         }
         at = end + 1;
     }
+    Ok(())
 }
 
-fn main() {
-    let mut space = io::large_buffer();
-    let n = io::read_full(libc::STDIN_FILENO, &mut space);
-    commits(&space[..n]);
+fn main(rt: HostRuntime) -> io::Result<()> {
+    let mut space = host::large_buffer();
+    let n = host::read_input(&rt, &mut space)?;
+    commits(&rt, &space[..n])
 }

@@ -6,50 +6,48 @@
 ghost use Rattle.std.specs.Prelude.{◌≤◌};
 
 use hash::Kind;
-use libc::STDOUT_FILENO;
+use std::io;
 use trace::{Prospect, Traced};
 use walk::Refusal;
 
-fn text(s: &[u8]) {
-    io::write_all(STDOUT_FILENO, s);
+fn text(rt: &impl Print, s: &[u8]) -> io::Result<()> {
+    host::write_all(rt, s)
 }
 
 // An id in hexadecimal digits, two for each byte of its width.
-fn id(kind: Kind, s: &[u8]) {
-    io::print_hex(STDOUT_FILENO, hash::be64(s, 0), 16);
-    io::print_hex(STDOUT_FILENO, hash::be64(s, 8), 16);
+fn id(rt: &impl Print, kind: Kind, s: &[u8]) -> io::Result<()> {
+    host::print_hex(rt, hash::be64(s, 0), 16)?;
+    host::print_hex(rt, hash::be64(s, 8), 16)?;
     match kind {
-        Kind::Sha1 => {
-            io::print_hex(STDOUT_FILENO, hash::be32(s, 16) as u64, 8);
-        }
+        Kind::Sha1 => { host::print_hex(rt, hash::be32(s, 16) as u64, 8) }
         Kind::Sha256 => {
-            io::print_hex(STDOUT_FILENO, hash::be64(s, 16), 16);
-            io::print_hex(STDOUT_FILENO, hash::be64(s, 24), 16);
+            host::print_hex(rt, hash::be64(s, 16), 16)?;
+            host::print_hex(rt, hash::be64(s, 24), 16)
         }
     }
 }
 
 // A refusal by its number.
-fn refusal(r: Refusal) {
-    text(b"refused ");
-    io::print_decimal(STDOUT_FILENO, walk::number(r) as u64);
+fn refusal(rt: &impl Print, r: Refusal) -> io::Result<()> {
+    text(rt, b"refused ")?;
+    host::print_decimal(rt, walk::number(r) as u64)
 }
 
 // An answer on a line.
-fn print_traced(kind: Kind, r: Traced) {
+fn print_traced(rt: &impl Print, kind: Kind, r: Traced) -> io::Result<()> {
     let o = r.outcome;
     let p = r.parent;
     match o {
-        Prospect::NotForced => text(b"not forced"),
-        Prospect::AtStart => text(b"at the start"),
+        Prospect::NotForced => text(rt, b"not forced")?,
+        Prospect::AtStart => text(rt, b"at the start")?,
         Prospect::Forced(i) => {
-            io::print_decimal(STDOUT_FILENO, i as u64);
-            text(b" ");
-            id(kind, &p.bytes);
+            host::print_decimal(rt, i as u64)?;
+            text(rt, b" ")?;
+            id(rt, kind, &p.bytes)?;
         }
-        Prospect::Refused(n) => refusal(n),
+        Prospect::Refused(n) => refusal(rt, n)?,
     }
-    text(b"\n");
+    text(rt, b"\n")
 }
 
 fn wide(x: u32) -> usize {
@@ -69,7 +67,13 @@ fn kind_of(b: u8) -> Kind {
 }
 
 // Lends the memo, as long as the case says, to the call.
-fn lend(kind: Kind, start: &[u8], input: &[u8], memo: &mut [u8]) {
+fn lend(
+    rt: &impl Print,
+    kind: Kind,
+    start: &[u8],
+    input: &[u8],
+    memo: &mut [u8],
+) -> io::Result<()> {
     let a = lent(hash::be32(input, 4), memo.len());
     let n = wide(hash::be32(input, 8));
     let rest = hash::part(input, 12, input.len());
@@ -81,54 +85,57 @@ fn lend(kind: Kind, start: &[u8], input: &[u8], memo: &mut [u8]) {
         wide(hash::be32(input, 0)),
         &mut memo[..a],
     );
-    print_traced(kind, traced);
+    print_traced(rt, kind, traced)
 }
 
 // A case, with a memo for 256 entries that nobody has cleared.
-fn run_case(input: &[u8]) {
+fn run_case(rt: &impl Print, input: &[u8]) -> io::Result<()> {
     let mut memo = [2u8; 6656];
     let kind = kind_of(hash::byte_at(input, 0));
     let rest = hash::part(input, 1, input.len());
     lend(
+        rt,
         kind,
         hash::nth(kind, rest, 0),
         hash::part(rest, hash::width(kind), rest.len()),
         &mut memo,
-    );
+    )
 }
 
 // How many bytes the next case has, 0 where the input ends.
-fn next_size() -> usize {
+fn next_size(rt: &impl Input) -> io::Result<usize> {
     let mut head = [0u8; 4];
-    let got = io::read_full(libc::STDIN_FILENO, &mut head);
+    let got = host::read_input(rt, &mut head)?;
     if got < 4 {
-        return 0;
+        return Ok(0);
     }
-    wide(hash::be32(&head, 0))
+    Ok(wide(hash::be32(&head, 0)))
 }
 
 // Reads and runs the next case, and answers whether there was one.
-fn run_next(space: &mut [u8]) -> bool {
-    let n = next_size();
+fn run_next(rt: &(impl Input + Print), space: &mut [u8]) -> io::Result<bool> {
+    let n = next_size(rt)?;
     if n == 0 {
-        return false;
+        return Ok(false);
     }
     if space.len() < n {
-        return false;
+        return Ok(false);
     }
-    let got = io::read_full(libc::STDIN_FILENO, &mut space[..n]);
+    let got = host::read_input(rt, &mut space[..n])?;
     if got < n {
-        return false;
+        return Ok(false);
     }
-    run_case(&space[..n]);
-    true
+    run_case(rt, &space[..n])?;
+    Ok(true)
 }
 
-// A proved loop has to end, and nothing says that the input does. So the loop counts its turns down, from a number that no run uses up.
-fn main() {
-    let mut space = io::large_buffer();
-    let mut turns = u64::MAX;
-    while turns > 0 && run_next(&mut space) {
-        turns -= 1;
+// A proved loop has to end, and nothing says that the input does. So the loop counts its turns, up to a number that no run uses up.
+fn main(rt: HostRuntime) -> io::Result<()> {
+    let mut space = host::large_buffer();
+    for _ in 0..u64::MAX {
+        if !run_next(&rt, &mut space)? {
+            break;
+        }
     }
+    Ok(())
 }

@@ -10,221 +10,224 @@ use commitgraph::rows::Position;
 use commitgraph::{Layout, parents, rows};
 use date::{Seconds, Stamp, Zone};
 use hash::Kind;
-use libc::STDOUT_FILENO;
 use object::{Line, Reading};
 use odb::Located;
+use std::io;
 
-fn text(s: &[u8]) {
-    io::write_all(STDOUT_FILENO, s);
+fn text(rt: &impl Print, s: &[u8]) -> io::Result<()> {
+    host::write_all(rt, s)
 }
 
-fn number(n: usize) {
-    io::print_decimal(STDOUT_FILENO, n as u64);
+fn number(rt: &impl Print, n: usize) -> io::Result<()> {
+    host::print_decimal(rt, n as u64)
 }
 
-fn spaced(n: usize) {
-    text(b" ");
-    number(n);
+fn spaced(rt: &impl Print, n: usize) -> io::Result<()> {
+    text(rt, b" ")?;
+    number(rt, n)
 }
 
-fn seconds(s: Seconds) {
+fn seconds(rt: &impl Print, s: Seconds) -> io::Result<()> {
     if date::is_negative(s) {
-        text(b"-");
+        text(rt, b"-")?;
     }
-    io::print_decimal(STDOUT_FILENO, date::magnitude(s));
+    host::print_decimal(rt, date::magnitude(s))
 }
 
 // A committer reading: the seconds, and the zone in signed minutes.
-fn zone(z: Zone) {
-    text(b" zone ");
+fn zone(rt: &impl Print, z: Zone) -> io::Result<()> {
+    text(rt, b" zone ")?;
     match z {
-        Zone::Minutes(m) => seconds(Seconds(m)),
-        Zone::NoZone => text(b"none"),
+        Zone::Minutes(m) => seconds(rt, Seconds(m)),
+        Zone::NoZone => text(rt, b"none"),
     }
 }
 
-fn stamp(s: Stamp) {
+fn stamp(rt: &impl Print, s: Stamp) -> io::Result<()> {
     let time = s.seconds;
     let beside = s.zone;
-    seconds(time);
-    zone(beside);
+    seconds(rt, time)?;
+    zone(rt, beside)
 }
 
-fn byte(b: u8) {
-    io::print_hex(STDOUT_FILENO, b as u64, 2);
+fn byte(rt: &impl Print, b: u8) -> io::Result<()> {
+    host::print_hex(rt, b as u64, 2)
 }
 
-fn hex(s: &[u8]) {
-    let mut i = 0;
-    while i < s.len() {
-        byte(s[i]);
-        i += 1;
+fn hex(rt: &impl Print, s: &[u8]) -> io::Result<()> {
+    for i in 0..s.len() {
+        byte(rt, s[i])?;
     }
-    text(b"\n");
+    text(rt, b"\n")
 }
 
 // ---- the commit store
 
-fn store_id(store: &[u8], id: &[u8]) {
+fn store_id(rt: &impl Print, store: &[u8], id: &[u8]) -> io::Result<()> {
     match odb::locate(Kind::Sha1, store, id) {
         Located::Body { start, end } => {
-            number(start);
+            number(rt, start)?;
             let mut found = false;
-            spaced(odb::try_find(Kind::Sha1, store, id, &mut found).len());
-            text(b"\n");
+            spaced(rt, odb::try_find(Kind::Sha1, store, id, &mut found).len())?;
+            text(rt, b"\n")
         }
-        Located::Absent => text(b"absent\n"),
+        Located::Absent => text(rt, b"absent\n"),
     }
 }
 
-fn store_ids(store: &[u8], ids: &[u8]) {
+fn store_ids(rt: &impl Print, store: &[u8], ids: &[u8]) -> io::Result<()> {
     let n = hash::ids_in(Kind::Sha1, ids.len());
-    let mut k = 0;
-    while k < n {
-        store_id(store, hash::nth(Kind::Sha1, ids, k));
-        k += 1;
+    for k in 0..n {
+        store_id(rt, store, hash::nth(Kind::Sha1, ids, k))?;
     }
+    Ok(())
 }
 
-fn store_case(store: &[u8], ids: &[u8]) {
+fn store_case(rt: &impl Print, store: &[u8], ids: &[u8]) -> io::Result<()> {
     if odb::is_good(Kind::Sha1, store) {
-        text(b"store good");
-        spaced(odb::count(Kind::Sha1, store));
-        text(b"\n");
-        store_ids(store, ids);
+        text(rt, b"store good")?;
+        spaced(rt, odb::count(Kind::Sha1, store))?;
+        text(rt, b"\n")?;
+        store_ids(rt, store, ids)?;
     } else {
-        text(b"store bad\n");
+        text(rt, b"store bad\n")?;
     }
+    Ok(())
 }
 
 // ---- one commit's header
 
-fn reading(body: &[u8]) {
+fn reading(rt: &impl Print, body: &[u8]) -> io::Result<()> {
     match object::readable(Kind::Sha1, body) {
         Reading::Readable { parents, stamp: s } => {
-            text(b"readable");
-            spaced(parents);
-            text(b" ");
-            stamp(s);
-            text(b"\n");
+            text(rt, b"readable")?;
+            spaced(rt, parents)?;
+            text(rt, b" ")?;
+            stamp(rt, s)?;
+            text(rt, b"\n")
         }
-        Reading::Bad => text(b"bad\n"),
-        Reading::Crowded => text(b"crowded\n"),
+        Reading::Bad => text(rt, b"bad\n"),
+        Reading::Crowded => text(rt, b"crowded\n"),
     }
 }
 
-fn parent_at(body: &[u8], at: usize) {
+fn parent_at(rt: &impl Print, body: &[u8], at: usize) -> io::Result<()> {
     let p = object::parent_line(Kind::Sha1, body, at);
     if p.good {
-        text(b"parent ");
-        hex(object::id_slice(Kind::Sha1, &p.id.bytes));
+        text(rt, b"parent ")?;
+        hex(rt, object::id_slice(Kind::Sha1, &p.id.bytes))?;
     }
+    Ok(())
 }
 
 // The first and the last parent line.
-fn parent_lines(body: &[u8]) {
+fn parent_lines(rt: &impl Print, body: &[u8]) -> io::Result<()> {
     let Line::Good(at) = object::tree_line(Kind::Sha1, body, 0) else {
-        return;
+        return Ok(());
     };
-    parent_at(body, at);
+    parent_at(rt, body, at)?;
     let after = object::after_parents(Kind::Sha1, body, at);
     let size = object::parent_size(Kind::Sha1);
     if at < after {
         if size <= after {
-            parent_at(body, after - size);
+            parent_at(rt, body, after - size)?;
         }
     }
+    Ok(())
 }
 
-fn header_case(body: &[u8]) {
-    reading(body);
-    parent_lines(body);
-    text(b"seconds ");
+fn header_case(rt: &impl Print, body: &[u8]) -> io::Result<()> {
+    reading(rt, body)?;
+    parent_lines(rt, body)?;
+    text(rt, b"seconds ")?;
     match object::stamp_only(Kind::Sha1, body) {
         StampRead::Good(s) => {
-            stamp(s);
-            text(b"\n");
+            stamp(rt, s)?;
+            text(rt, b"\n")
         }
-        StampRead::Bad => text(b"bad\n"),
+        StampRead::Bad => text(rt, b"bad\n"),
     }
 }
 
 // ---- the commit-graph file
 
-fn positions(graph: &[u8], l: Layout, p: usize, n: usize) {
-    number(n);
-    let mut k = 0;
-    while k < n {
-        spaced(parents::parent(Kind::Sha1, graph, l, p, k));
-        k += 1;
+fn positions(rt: &impl Print, graph: &[u8], l: Layout, p: usize, n: usize) -> io::Result<()> {
+    number(rt, n)?;
+    for k in 0..n {
+        spaced(rt, parents::parent(Kind::Sha1, graph, l, p, k))?;
     }
-    text(b"\n");
+    text(rt, b"\n")
 }
 
-fn row(graph: &[u8], l: Layout, p: usize) {
-    text(b"at");
-    spaced(p);
-    text(b" level ");
+fn row(rt: &impl Print, graph: &[u8], l: Layout, p: usize) -> io::Result<()> {
+    text(rt, b"at")?;
+    spaced(rt, p)?;
+    text(rt, b" level ")?;
     let level = rows::level(Kind::Sha1, graph, l, p);
-    io::print_decimal(STDOUT_FILENO, level.0 as u64);
-    text(b" seconds ");
-    seconds(rows::seconds(Kind::Sha1, graph, l, p));
-    text(b" parents ");
+    host::print_decimal(rt, level.0 as u64)?;
+    text(rt, b" seconds ")?;
+    seconds(rt, rows::seconds(Kind::Sha1, graph, l, p))?;
+    text(rt, b" parents ")?;
     match parents::parents(Kind::Sha1, graph, l, p) {
-        ParentList::Good(n) => positions(graph, l, p, n),
-        ParentList::Corrupt => text(b"corrupt\n"),
+        ParentList::Good(n) => positions(rt, graph, l, p, n),
+        ParentList::Corrupt => text(rt, b"corrupt\n"),
     }
 }
 
-fn graph_id(graph: &[u8], l: Layout, id: &[u8]) {
+fn graph_id(rt: &impl Print, graph: &[u8], l: Layout, id: &[u8]) -> io::Result<()> {
     match rows::lookup(Kind::Sha1, graph, l, id) {
-        Position::At(p) => row(graph, l, p),
-        Position::Absent => text(b"absent\n"),
+        Position::At(p) => row(rt, graph, l, p),
+        Position::Absent => text(rt, b"absent\n"),
     }
 }
 
-fn graph_ids(graph: &[u8], l: Layout, ids: &[u8]) {
+fn graph_ids(rt: &impl Print, graph: &[u8], l: Layout, ids: &[u8]) -> io::Result<()> {
     let n = hash::ids_in(Kind::Sha1, ids.len());
-    let mut k = 0;
-    while k < n {
-        graph_id(graph, l, hash::nth(Kind::Sha1, ids, k));
-        k += 1;
+    for k in 0..n {
+        graph_id(rt, graph, l, hash::nth(Kind::Sha1, ids, k))?;
     }
+    Ok(())
 }
 
-fn graph_case(graph: &[u8], ids: &[u8]) {
+fn graph_case(rt: &impl Print, graph: &[u8], ids: &[u8]) -> io::Result<()> {
     if !commitgraph::has_header(Kind::Sha1, graph) {
-        text(b"graph foreign\n");
-        return;
+        text(rt, b"graph foreign\n")?;
+        return Ok(());
     }
     if !commitgraph::is_good(Kind::Sha1, graph) {
-        text(b"graph torn\n");
-        return;
+        text(rt, b"graph torn\n")?;
+        return Ok(());
     }
     let l = commitgraph::parse(Kind::Sha1, graph);
-    text(b"graph good");
-    spaced(l.count);
-    text(b"\n");
-    graph_ids(graph, l, ids);
+    text(rt, b"graph good")?;
+    spaced(rt, l.count)?;
+    text(rt, b"\n")?;
+    graph_ids(rt, graph, l, ids)
 }
 
 // ---- find
 
-fn found<'a>(at: Either, graph: &'a [u8], store: &'a [u8]) {
+fn found<'a>(rt: &impl Print, at: Either, graph: &'a [u8], store: &'a [u8]) -> io::Result<()> {
     match at {
-        Either::CachedCommit { .. } => text(b"graph "),
-        Either::CommitRefIter { .. } => text(b"store "),
-        Either::Absent => text(b"absent"),
+        Either::CachedCommit { .. } => text(rt, b"graph ")?,
+        Either::CommitRefIter { .. } => text(rt, b"store ")?,
+        Either::Absent => text(rt, b"absent")?,
     }
-    hex(commit::part(at, graph, store));
+    hex(rt, commit::part(at, graph, store))
 }
 
 // Each id is looked for with another position tried first: the answer does not depend on it.
-fn find_ids<'a>(cache: Cache, graph: &'a [u8], store: &'a [u8], ids: &[u8]) {
+fn find_ids<'a>(
+    rt: &impl Print,
+    cache: Cache,
+    graph: &'a [u8],
+    store: &'a [u8],
+    ids: &[u8],
+) -> io::Result<()> {
     let n = hash::ids_in(Kind::Sha1, ids.len());
-    let mut k = 0;
-    while k < n {
+    for k in 0..n {
         found(
+            rt,
             commit::find(
                 Kind::Sha1,
                 cache,
@@ -235,18 +238,19 @@ fn find_ids<'a>(cache: Cache, graph: &'a [u8], store: &'a [u8], ids: &[u8]) {
             ),
             graph,
             store,
-        );
-        k += 1;
+        )?;
     }
+    Ok(())
 }
 
-fn find_case<'a>(graph: &'a [u8], store: &'a [u8], ids: &[u8]) {
+fn find_case<'a>(rt: &impl Print, graph: &'a [u8], store: &'a [u8], ids: &[u8]) -> io::Result<()> {
     let l = commitgraph::parse(Kind::Sha1, graph);
     if graph.len() == 0 {
-        find_ids(Cache::NoGraph, graph, store, ids);
+        find_ids(rt, Cache::NoGraph, graph, store, ids)?;
     } else {
-        find_ids(Cache::Graph(l), graph, store, ids);
+        find_ids(rt, Cache::Graph(l), graph, store, ids)?;
     }
+    Ok(())
 }
 
 // ---- the cases
@@ -269,54 +273,56 @@ fn after_front(s: &[u8]) -> &[u8] {
     rest(rest(s, 4), wide(hash::be32(s, 0)))
 }
 
-fn case<'a>(kind: u8, a: &'a [u8], b: &'a [u8], c: &[u8]) {
+fn case<'a>(rt: &impl Print, kind: u8, a: &'a [u8], b: &'a [u8], c: &[u8]) -> io::Result<()> {
     match kind {
-        1 => store_case(a, b),
-        2 => header_case(a),
-        3 => graph_case(a, b),
-        _ => find_case(a, b, c),
+        1 => store_case(rt, a, b),
+        2 => header_case(rt, a),
+        3 => graph_case(rt, a, b),
+        _ => find_case(rt, a, b, c),
     }
 }
 
-fn run_case(input: &[u8]) {
+fn run_case(rt: &impl Print, input: &[u8]) -> io::Result<()> {
     let a = rest(input, 1);
     let b = after_front(a);
     let c = after_front(b);
-    case(hash::byte_at(input, 0), front(a), front(b), front(c));
+    case(rt, hash::byte_at(input, 0), front(a), front(b), front(c))
 }
 
 // How many bytes the next case has, 0 where the input ends.
-fn next_size() -> usize {
+fn next_size(rt: &impl Input) -> io::Result<usize> {
     let mut head = [0u8; 4];
-    let got = io::read_full(libc::STDIN_FILENO, &mut head);
+    let got = host::read_input(rt, &mut head)?;
     if got < 4 {
-        return 0;
+        return Ok(0);
     }
-    wide(hash::be32(&head, 0))
+    Ok(wide(hash::be32(&head, 0)))
 }
 
 // Reads and runs the next case, and answers whether there was one.
-fn run_next(space: &mut [u8]) -> bool {
-    let n = next_size();
+fn run_next(rt: &(impl Input + Print), space: &mut [u8]) -> io::Result<bool> {
+    let n = next_size(rt)?;
     if n == 0 {
-        return false;
+        return Ok(false);
     }
     if space.len() < n {
-        return false;
+        return Ok(false);
     }
-    let got = io::read_full(libc::STDIN_FILENO, &mut space[..n]);
+    let got = host::read_input(rt, &mut space[..n])?;
     if got < n {
-        return false;
+        return Ok(false);
     }
-    run_case(&space[..n]);
-    true
+    run_case(rt, &space[..n])?;
+    Ok(true)
 }
 
-// A proved loop has to end, and nothing says that the input does. So the loop counts its turns down, from a number that no run uses up.
-fn main() {
-    let mut space = io::large_buffer();
-    let mut turns = u64::MAX;
-    while turns > 0 && run_next(&mut space) {
-        turns -= 1;
+// A proved loop has to end, and nothing says that the input does. So the loop counts its turns, up to a number that no run uses up.
+fn main(rt: HostRuntime) -> io::Result<()> {
+    let mut space = host::large_buffer();
+    for _ in 0..u64::MAX {
+        if !run_next(&rt, &mut space)? {
+            break;
+        }
     }
+    Ok(())
 }

@@ -1,0 +1,6 @@
+-- Each commit ends further on.
+use Rattle.std.proofs.Common.{length, ◌-◌}
+use Rattle.tokens.proofs.commits.Given as goal
+
+abbrev pub decreases-loop-at : goal.decreases-loop-at
+decreases-loop-at g l = length l.s - l.at
