@@ -1,18 +1,18 @@
 -- One cell: of two children the one with the lesser pair stands for both, since what lies below it lies below the other. Assumes nothing.
 use mathlib.Core.Path.{◌≡◌, refl, sym, ◌∙◌, ap}
 use mathlib.Core.Logic.{◌⊎◌, inl, inr, ⊎_elim}
-use Prim.Native.Nat.{ℕ, zero, suc, ◌+◌, ◌*◌, ◌≤◌, ◌<◌}
-use mathlib.Core.Bool.{Bool, true, false, cond}
+use Prim.Native.Nat.{ℕ, zero, suc, ◌+◌, ◌≤◌, ◌<◌}
+use mathlib.Core.Bool.{Bool, true, false}
 use mathlib.Core.List.{List}
 use native.Mathlib.Omega.{arith}
-use lib.ListN.{length, get_or}
+use lib.ListN.{get_or}
 use lib.IntN.{ℤ}
 use Rattle.hash.proofs.Tests.{by_cases, clash}
 use Rattle.walk.specs.Lookup.{Pair, lt_pair}
 use Rattle.walk.proofs.Laws.{lt_pair_trans}
 use Rattle.pending.proofs.Ahead.{pair_steady}
 use Rattle.reach.proofs.Growth.{last-place}
-use Rattle.falling.specs.Cells.{slot_pair, low_in, lowered, low_at, is_low, AllLow}
+use Rattle.falling.specs.Cells.{slot_pair, low_in, lowered, is_low, AllLow}
 
 -- below one that is not greater
 under-other : (q c a : Pair) → lt_pair q a ≡ true → lt_pair c a ≡ false → lt_pair q c ≡ true

@@ -2,7 +2,7 @@
 use mathlib.Core.Path.{◌≡◌, refl, sym, ◌∙◌, ap, subst}
 use mathlib.Core.Logic.{◌⊎◌, inl, inr, ⊎_elim}
 use Prim.Native.Nat.{ℕ, suc, ◌+◌, ◌*◌, ◌≤◌, ◌<◌}
-use mathlib.Core.Bool.{Bool, true, false}
+use mathlib.Core.Bool.{true, false}
 use mathlib.Core.List.Memᴰ
 use mathlib.Core.List.{List, [], ◌∷◌, ◌++◌}
 use native.Mathlib.Omega.{arith}
@@ -18,7 +18,7 @@ use Rattle.hashtable.specs.Table.{Finds}
 use Rattle.hashtable.specs.declared.table.Slot.{Slot}
 use Rattle.hashtable.specs.declared.table.Slot.TheVariants.{Found, Vacant, Full}
 use Rattle.hashtable.proofs.TableIds.{same?}
-use Rattle.walk.specs.Lookup.{Pair, lt_pair}
+use Rattle.walk.specs.Lookup.{Pair}
 use Rattle.walk.specs.Reach.{Mem}
 use Rattle.walk.proofs.Laws.{lt_pair_asym}
 use Rattle.reading.specs.Body.{parent_id_at}

@@ -1,20 +1,20 @@
 -- The waiting slots by rising id: slot by slot, in the order of the queue's places, each goes into the part of the line that has those
 -- before it. The part lies past the queue's memory, so the places stay as they were. Assumes nothing.
 use mathlib.Core.Path.{◌≡◌, refl, sym, ◌∙◌, ap, subst}
-use mathlib.Core.Logic.{◌⊎◌, inl, inr, ⊎_elim}
-use Prim.Native.Nat.{ℕ, zero, suc, ◌+◌, ◌≤◌, ◌<◌}
-use mathlib.Core.Bool.{Bool, true, false}
-use mathlib.Core.List.{List, [], ◌∷◌, map}
+use mathlib.Core.Logic.{⊎_elim}
+use Prim.Native.Nat.{ℕ, ◌+◌, ◌≤◌, ◌<◌}
+use mathlib.Core.Bool.{Bool}
+use mathlib.Core.List.{List, [], map}
 use native.Mathlib.Omega.{arith}
 use native.Mathlib.Numerals.{add-one}
 use lib.IntN.{ℤ}
-use lib.ListN.{length, take, get_or}
+use lib.ListN.{length, take}
 use lib.Seq.{slice}
 use Rattle.hash.specs.Bytes.{Id}
 use Rattle.hashtable.specs.Table.{id_of, wrap}
 use Rattle.revwalk.specs.Order.{at, insert_by, In}
 use Rattle.pending.specs.Pending.{not_above, Sorts}
-use Rattle.revwalk.specs.Queue.{ring_at, GoodQueue, place_of, turn_of, slots_of, ReadsSlot}
+use Rattle.revwalk.specs.Queue.{GoodQueue, place_of, turn_of, slots_of, ReadsSlot}
 use Rattle.revwalk.specs.declared.queue.Queue.{Queue}
 use Rattle.pending.proofs.Inserts.{slice_none}
 use Rattle.pending.proofs.Laws.{insert_ids}
@@ -22,8 +22,8 @@ use Rattle.revwalk.proofs.QueueSorts.{Place, in_insert}
 use Rattle.revwalk.proofs.QueueGood.{either, place-timed, place-ring, slots-in, good-size, good-room}
 use Rattle.revwalk.proofs.QueueRing.{wrap-in}
 use Rattle.revwalk.proofs.QueueSlots.{line-good, same-front}
-use Rattle.walk.specs.Painting.{insert_id, sorted}
-use Rattle.frontier.specs.Prepare.{Collected, Collects}
+use Rattle.walk.specs.Painting.{insert_id}
+use Rattle.frontier.specs.Prepare.{Collects}
 use Rattle.frontier.proofs.SortedIds.{insert_nil, insert_cons, ranked, sorted_ranked}
 
 -- the queue's places are as they were where its memory is

@@ -1,9 +1,9 @@
 -- Giving marks to an id: where it stands in a slot, the slot gets another live mark; where it is new, the table gains one slot. Either
 -- way the mark of one id changes and no other. Assumes nothing.
 use mathlib.Core.Path.{◌≡◌, refl, sym, ◌∙◌, ap, subst}
-use mathlib.Core.Logic.{◌⊎◌, inl, inr, ⊎_elim}
-use Prim.Native.Nat.{ℕ, ◌*◌, ◌≤◌, ◌<◌}
-use mathlib.Core.Bool.{Bool, true, false, not}
+use mathlib.Core.Logic.{⊎_elim}
+use Prim.Native.Nat.{ℕ, ◌*◌, ◌<◌}
+use mathlib.Core.Bool.{Bool, true, false}
 use mathlib.Core.List.{List}
 use native.Mathlib.Omega.{arith}
 use lib.Dec.{eqb}
@@ -11,9 +11,9 @@ use lib.ListN.{get_or, set}
 use lib.Seq.{get_or-set_other}
 use borrow.Author.Tests.{eqb-true, not-false}
 use Rattle.hash.specs.Bytes.{Id, set_down}
-use Rattle.hash.proofs.Tests.{by_cases, clash}
+use Rattle.hash.proofs.Tests.{clash}
 use Rattle.hashtable.specs.Marks.{live}
-use Rattle.hashtable.specs.Table.{id_of, live_at, Holds, Table, mark_for, Finds, Inserts}
+use Rattle.hashtable.specs.Table.{live_at, Holds, Table, mark_for, Finds, Inserts}
 use Rattle.hashtable.specs.declared.table.Slot.{Slot}
 use Rattle.hashtable.specs.declared.table.Slot.TheVariants.{Found, Vacant, Full as TableFull}
 use Rattle.hashtable.proofs.TableIds.{same?}
@@ -23,7 +23,7 @@ use Rattle.hashtable.proofs.TableView.{mark-held, remark-this, remark-other, vac
 use Rattle.frontier.specs.Bits.{is_painted, with_bits}
 use Rattle.frontier.specs.Slots.{most_slots, Gained, added_at, ToldAdded, AddsMark}
 use Rattle.frontier.specs.declared.slots.Added.{Added}
-use Rattle.frontier.specs.declared.slots.Added.TheVariants.{New, Known, Full}
+use Rattle.frontier.specs.declared.slots.Added.TheVariants.{Full}
 use Rattle.frontier.proofs.PaintBits.{painted-live, painted-with_bits, painted_0}
 
 -- a mark that is not live is 0, before painting ends

@@ -1,8 +1,8 @@
 -- The answers on the way to one commit's marks, put together: what was read, what the table says, and what the queue says. Assumes nothing.
-use mathlib.Core.Path.{◌≡◌, refl, sym, ◌∙◌, ap, subst}
-use mathlib.Core.Logic.{◌⊎◌, inl, inr}
-use Prim.Native.Nat.{ℕ, ◌+◌, ◌≤◌, ◌<◌}
-use mathlib.Core.Bool.{Bool, true, false}
+use mathlib.Core.Path.{◌≡◌, refl, sym, subst}
+use mathlib.Core.Logic.{inl, inr}
+use Prim.Native.Nat.{ℕ, ◌≤◌}
+use mathlib.Core.Bool.{true, false}
 use mathlib.Core.List.{List}
 use lib.IntN.{ℤ}
 use lib.ListN.{get_or, set}
@@ -10,10 +10,10 @@ use Rattle.hash.specs.Bytes.{Id}
 use Rattle.hash.proofs.Tests.{clash}
 use Rattle.commit.specs.declared.Cache.{Cache}
 use Rattle.hashtable.specs.Table.{Table}
-use Rattle.pending.specs.Pending.{Room, Pushes}
+use Rattle.pending.specs.Pending.{Pushes}
 use Rattle.pending.specs.declared.Pending.{Pending}
 use Rattle.pending.specs.declared.Pushed.{Pushed}
-use Rattle.walk.specs.Lookup.{World, Read, fail, read, pair_of}
+use Rattle.walk.specs.Lookup.{read, pair_of}
 use Rattle.walk.specs.Painting.{Paint, mark}
 use Rattle.walk.specs.declared.GenThenTime.{GenThenTime}
 use Rattle.walk.specs.declared.Refusal.{Refusal}
@@ -30,8 +30,8 @@ use Rattle.frontier.specs.declared.marking.Spot.{Spot}
 use Rattle.frontier.specs.declared.marking.Spot.TheVariants.{At, Unread, NoSlot}
 use Rattle.frontier.specs.Bits.{is_painted, marks_of}
 use Rattle.frontier.specs.Slots.{most_slots, Gained, ToldAdded, AddsMark}
-use Rattle.frontier.specs.Paint.{Lent, lent, Files, Ends}
-use Rattle.frontier.specs.Mark.{PairSet, ToldLearned, Learns, Paired, ToldPlaced, Places, Queues, MayStep, Takes}
+use Rattle.frontier.specs.Paint.{lent, Files, Ends}
+use Rattle.frontier.specs.Mark.{ToldLearned, Learns, Paired, ToldPlaced, Places, Queues, MayStep, Takes}
 use Rattle.frontier.proofs.MarkStep.{has-slot, stops-here, has_room, goes-here}
 
 -- ---- a commit is read

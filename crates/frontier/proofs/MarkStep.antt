@@ -3,19 +3,19 @@
 -- pairs are. Slots that were queued or read had a mark before, so nothing of theirs changes, nor the
 -- order in which the queued ones leave. Assumes nothing.
 use mathlib.Core.Path.{◌≡◌, refl, sym, ◌∙◌, ap, subst}
-use mathlib.Core.Logic.{◌⊎◌, inl, inr, ⊎_elim}
-use Prim.Native.Nat.{ℕ, suc, ◌-◌, ◌≤◌, ◌<◌}
+use mathlib.Core.Logic.{⊎_elim}
+use Prim.Native.Nat.{ℕ, ◌≤◌, ◌<◌}
 use mathlib.Core.Bool.{Bool, true, false, cond, ◌||◌}
 use mathlib.Core.List.{List, [], ◌∷◌, map, Memᴰ}
 use native.Mathlib.Omega.{arith}
 use lib.IntN.{ℤ, pos}
-use lib.ListN.{length, take, get_or, set, length-set, length-map}
+use lib.ListN.{length, take, get_or, length-set, length-map}
 use lib.Seq.{get_or-set_same, get_or-set_other}
 use Rattle.hash.specs.Bytes.{Id, eq_id}
 use Rattle.hash.proofs.Tests.{by_cases, clash}
 use Rattle.hash.proofs.Ids.{eq_id_eq, eq_id-same}
 use Rattle.hashtable.specs.Marks.{visible, hidden, stale, seen, live}
-use Rattle.hashtable.specs.Table.{id_of, live_at, Table, mark_for, Finds}
+use Rattle.hashtable.specs.Table.{id_of, live_at, mark_for, Finds}
 use Rattle.hashtable.specs.declared.table.Slot.TheVariants.{Full as TableFull}
 use Rattle.hashtable.proofs.TableIds.{same?}
 use Rattle.hashtable.proofs.TableView.{mark-held}
@@ -25,8 +25,8 @@ use Rattle.pending.specs.Pending.{level_of, pair_at, ahead, slots_in, Room, Ente
 use Rattle.pending.specs.declared.Pending.{Pending}
 use Rattle.pending.specs.declared.Pushed.{Pushed}
 use Rattle.pending.proofs.Laws.{few-room, map_agree, insert-map, pushed-all, slots_frame}
-use Rattle.walk.specs.Lookup.{World, Pair, lt_pair, Read, fail, good, read}
-use Rattle.walk.specs.Painting.{Paint, Painting, stop, going, add_pending, also, mark, mark_read}
+use Rattle.walk.specs.Lookup.{World, Pair, lt_pair, fail, good, read}
+use Rattle.walk.specs.Painting.{Paint, stop, going, add_pending, also, mark, mark_read}
 use Rattle.walk.specs.State.{add}
 use Rattle.walk.specs.declared.Refusal.{Refusal}
 use Rattle.walk.proofs.Laws.{also-other}
@@ -34,7 +34,7 @@ use Rattle.walk.proofs.Fuel.{length_add_pending}
 use Rattle.frontier.specs.Bits.{is_painted, marks_of, with_bits}
 use Rattle.frontier.specs.Slots.{Gained}
 use Rattle.frontier.specs.Paint.{Lent, lent, entry_at, IsKnown, PaintReads, Spares, Named, Goes, Stops}
-use Rattle.frontier.specs.Mark.{PairSet, Paired, MayStep}
+use Rattle.frontier.specs.Mark.{Paired, MayStep}
 use Rattle.frontier.proofs.PaintBits.{visible-withBits, hidden-withBits, stale-withBits, seen-withBits, painted-live, painted-with_bits}
 
 -- ---- nothing changed, and one change after another

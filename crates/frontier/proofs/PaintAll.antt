@@ -1,18 +1,18 @@
 -- All of painting: marks without painting's, the waiting commits by rising id, VISIBLE to these, HIDDEN to the hidden tips, and the turns;
 -- each part goes on where the one before it came to, and a refusal ends them all. Assumes nothing.
 use mathlib.Core.Path.{◌≡◌, refl, sym, ◌∙◌, ap, subst}
-use Prim.Native.Nat.{ℕ, ◌+◌, ◌-◌, ◌*◌, ◌≤◌, ◌<◌}
-use mathlib.Core.Bool.{Bool, true, false, ◌||◌}
+use Prim.Native.Nat.{ℕ, ◌+◌, ◌*◌, ◌≤◌, ◌<◌}
+use mathlib.Core.Bool.{true, false, ◌||◌}
 use mathlib.Core.List.{List, [], map, Memᴰ}
 use native.Mathlib.Omega.{arith}
 use lib.IntN.{ℤ}
 use lib.ListN.{length, take, get_or}
-use lib.Seq.{slice, take-take}
+use lib.Seq.{take-take}
 use Rattle.hash.specs.Bytes.{Id}
 use Rattle.hash.proofs.Tests.{clash, or_left, or_right, not_yes}
 use Rattle.commit.specs.declared.Cache.{Cache}
 use Rattle.hashtable.specs.Marks.{visible, hidden, stale, seen}
-use Rattle.hashtable.specs.Table.{id_of, mark_for}
+use Rattle.hashtable.specs.Table.{mark_for}
 use Rattle.hashtable.proofs.MarksBits.{seen-live}
 use Rattle.revwalk.specs.Order.{In}
 use Rattle.pending.specs.Pending.{slots_in, Right}
@@ -22,21 +22,17 @@ use Rattle.pending.proofs.Laws.{empty-slots, empty_right, lowered-right}
 use Rattle.revwalk.proofs.QueueGood.{good-size}
 use Rattle.revwalk.proofs.QueueSlots.{slots-low}
 use Rattle.walk.specs.Lookup.{World}
-use Rattle.walk.specs.Painting.{Paint, Painting, stop, going, then, VISIBLE, HIDDEN, Marks, mark_all, turns, unpainted, sorted, paint}
-use Rattle.walk.specs.declared.Refusal.{Refusal}
-use Rattle.walk.proofs.Loop.{then-going}
+use Rattle.walk.specs.Painting.{Paint, Painting, going, then, VISIBLE, HIDDEN, Marks, mark_all, turns, unpainted, sorted, paint}
 use Rattle.walk.proofs.Painted.{sorted-out}
-use Rattle.walk.proofs.Fuel.{length_sorted}
 use Rattle.reading.specs.Files.{world_under}
 use Rattle.frontier.specs.declared.marking.Marked.{Marked}
 use Rattle.frontier.specs.declared.marking.Marked.TheVariants.{Going, Stop, NoRoom}
 use Rattle.frontier.specs.Bits.{is_painted, marks_of}
 use Rattle.frontier.specs.Paint.{Lent, lent, Files, entry_at, PaintReads, Spares, Named, Goes, Stops, Ends}
-use Rattle.frontier.specs.Lists.{ids_in, RunBelow, MayTake, MarksRun, AllTakenAfter, TakesAllAfter}
-use Rattle.frontier.specs.Turns.{MayTurns, TurnsTakenAfter, TakesTurnsAfter}
+use Rattle.frontier.specs.Lists.{MarksRun, AllTakenAfter, TakesAllAfter}
+use Rattle.frontier.specs.Turns.{TurnsTakenAfter, TakesTurnsAfter}
 use Rattle.frontier.specs.Prepare.{washed, Collects}
-use Rattle.frontier.specs.Painted.{lowered_to, empty_in, start_of, Ample, waiting_ids, MayPaint, Paints, MayStart, inputs_marked, MarksInputs, PaintsFrom}
-use Rattle.frontier.proofs.PaintBits.{painted_0}
+use Rattle.frontier.specs.Painted.{lowered_to, empty_in, start_of, waiting_ids, MayPaint, Paints, MayStart, inputs_marked, MarksInputs, PaintsFrom}
 use Rattle.frontier.proofs.Steps.{ends-then, then_is, then-stop}
 use Rattle.frontier.proofs.PaintRoom.{paint-parts, turns-room, shown-room, hidden-room}
 use Rattle.frontier.proofs.Wash.{washed-low, high-painted, high-seen, high_zero, wash-table, wash-taken, wash-mark}

@@ -1,12 +1,12 @@
 -- Laws of painting's bits: a mark with bits has them and what it had, SEEN is as it was, and a mark that painting gave is not 0.
 -- Assumes nothing.
-use mathlib.Core.Path.{◌≡◌, refl, sym, ◌∙◌, ap}
+use mathlib.Core.Path.{◌≡◌, refl, ◌∙◌, ap}
 use mathlib.Core.Logic.{◌⊎◌, inl, inr, ⊎_elim}
 use Prim.Native.Nat.{ℕ, ◌%◌, ◌/◌}
 use mathlib.Core.Bool.{Bool, true, false, cond, not, ◌&&◌, ◌||◌}
 use native.Mathlib.Omega.{arith}
 use lib.Dec.{eqb}
-use Rattle.hash.proofs.Tests.{by_cases, clash, or_left, or_right, or_cases, and_both}
+use Rattle.hash.proofs.Tests.{or_left, or_right, or_cases}
 use Rattle.hashtable.specs.Marks.{visible, hidden, stale, seen, live, with_visible, with_hidden, with_stale}
 use Rattle.hashtable.proofs.MarksBits.{visible-with_visible, hidden-with_visible, stale-with_visible, seen-with_visible, visible-with_hidden, hidden-with_hidden, stale-with_hidden, seen-with_hidden, visible-with_stale, hidden-with_stale, stale-with_stale, seen-with_stale, visible-live, hidden-live, stale-live, visible_0, hidden_0, stale_0}
 use Rattle.frontier.specs.Bits.{is_painted, add_visible, add_hidden, add_stale, with_bits, passed_bits}

@@ -1,19 +1,18 @@
 -- Room for painting's queue: each state that painting comes to has at most three times as many queued as there are slots for the two
 -- lists and the parents, and that is room enough for every part of every turn. Assumes nothing.
 use mathlib.Core.Path.{◌≡◌, refl, sym, ◌∙◌, ap, subst}
-use Prim.Native.Nat.{ℕ, zero, suc, ◌+◌, ◌*◌, ◌≤◌, ◌<◌, min}
-use mathlib.Core.Bool.{Bool, true, false}
-use mathlib.Core.List.{List, [], ◌∷◌, Memᴰ}
+use Prim.Native.Nat.{ℕ, zero, suc, ◌*◌, ◌≤◌}
+use mathlib.Core.Bool.{true}
+use mathlib.Core.List.{List, [], ◌∷◌}
 use native.Mathlib.Omega.{arith}
 use lib.ListN.{length, take, drop, length-take}
 use Rattle.hash.specs.Bytes.{Id}
 use Rattle.hash.proofs.Tests.{by_cases}
-use Rattle.walk.specs.Lookup.{World, Pair, read, parents_of}
+use Rattle.walk.specs.Lookup.{World, read, parents_of}
 use Rattle.walk.specs.Painting.{Paint, Painting, going, then, Marks, VISIBLE, HIDDEN, mark, mark_all, lacks, pass, passed, with_pending, fresh, turns, unpainted, sorted, paint}
-use Rattle.walk.proofs.Comes.{Comes, turning, passing, takes, skips, gives}
+use Rattle.walk.proofs.Comes.{Comes, passing, takes, skips, gives}
 use Rattle.walk.proofs.Loop.{then-going, paint-comes, loop-bound}
 use Rattle.walk.proofs.Fuel.{mark_all_length, length_sorted}
-use Rattle.frontier.specs.Paint.{Short}
 use Rattle.frontier.specs.Turns.{TurnFits}
 use Rattle.frontier.specs.Painted.{Ample}
 use Rattle.frontier.proofs.Steps.{then-both, then_is}

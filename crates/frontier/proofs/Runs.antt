@@ -3,10 +3,10 @@
 use mathlib.Core.Path.{◌≡◌, refl, sym, ◌∙◌, ap, subst}
 use mathlib.Core.Logic.{inl, inr}
 use mathlib.Core.Bool.{false}
-use Prim.Native.Nat.{ℕ, zero, suc, ◌+◌, ◌-◌, ◌*◌, ◌≤◌, ◌<◌}
+use Prim.Native.Nat.{ℕ, zero, suc, ◌+◌, ◌-◌, ◌≤◌, ◌<◌}
 use mathlib.Core.List.{List, [], ◌∷◌, map}
 use native.Mathlib.Omega.{arith}
-use lib.ListN.{length, take, drop, get_or, length-map}
+use lib.ListN.{length, take, get_or, length-map}
 use lib.Seq.{slice, length-slice, get_or-take, get_or-drop}
 use Rattle.hash.specs.Bytes.{Id}
 use Rattle.commit.specs.declared.Cache.{Cache}
@@ -15,15 +15,13 @@ use Rattle.hashtable.proofs.TableIds.{width_of_lem}
 use Rattle.revwalk.specs.Order.{In}
 use Rattle.pending.specs.declared.Pending.{Pending}
 use Rattle.pending.proofs.Laws.{getD-below}
-use Rattle.walk.specs.Lookup.{World}
-use Rattle.walk.specs.Painting.{Paint, mark, mark_all}
+use Rattle.walk.specs.Painting.{mark, mark_all}
 use Rattle.reading.specs.Files.{world_under}
 use Rattle.object.specs.Ids.{id_room, padded, id_in}
 use Rattle.object.proofs.IdBytes.{id_in_lem}
 use Rattle.frontier.specs.declared.marking.Marked.{Marked}
 use Rattle.frontier.specs.declared.marking.Marked.TheVariants.{Going}
-use Rattle.frontier.specs.Bits.{marks_of}
-use Rattle.frontier.specs.Paint.{Lent, Files, PaintReads, Spares}
+use Rattle.frontier.specs.Paint.{Lent, Files, Spares}
 use Rattle.frontier.specs.Mark.{TakesAfter}
 use Rattle.frontier.specs.Lists.{ids_in, RunBelow, MarksRun}
 use Rattle.frontier.proofs.Steps.{Upto, Long, long-none, long-then, upto_first, upto_next, upto_last, mark_all_nil, mark_all_snoc}

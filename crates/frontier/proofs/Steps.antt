@@ -1,8 +1,8 @@
 -- Painting over a list of commits, step by step: after i steps the memory reads as the painting over the first i commits. Where painting
 -- is ended by a refusal, the steps that are left do nothing, in the memory and in the walk's painting alike. Assumes nothing.
 use mathlib.Core.Path.{◌≡◌, refl, sym, ◌∙◌, ap, subst}
-use Prim.Native.Nat.{ℕ, zero, suc, ◌+◌, ◌-◌, ◌≤◌, ◌<◌}
-use mathlib.Core.Bool.{Bool, true, false, cond}
+use Prim.Native.Nat.{ℕ, ◌+◌, ◌≤◌, ◌<◌}
+use mathlib.Core.Bool.{Bool, true, false}
 use mathlib.Core.List.{List, [], ◌∷◌, ◌++◌, Memᴰ}
 use native.Mathlib.Omega.{arith}
 use lib.ListN.{length, take, get_or}
@@ -26,11 +26,11 @@ use Rattle.object.specs.Ids.{id_in}
 use Rattle.object.specs.declared.ObjectId.{ObjectId}
 use Rattle.frontier.specs.declared.marking.Marked.{Marked}
 use Rattle.frontier.specs.declared.marking.Marked.TheVariants.{Going, Stop, NoRoom}
-use Rattle.frontier.specs.Bits.{is_painted, marks_of, lacks_bits}
-use Rattle.frontier.specs.Paint.{Lent, lent, Files, PaintReads, Spares, Named, Goes, Stops, Ends}
+use Rattle.frontier.specs.Bits.{marks_of, lacks_bits}
+use Rattle.frontier.specs.Paint.{Lent, Files, PaintReads, Spares, Named, Goes, Stops, Ends}
 use Rattle.frontier.specs.Mark.{Step, MayStep, Takes, TakenAfter, TakesAfter, pass_to, LacksMark}
 use Rattle.frontier.specs.Parents.{HasParents}
-use Rattle.frontier.specs.Lists.{Steps, MayTake, TakesAll, AllTakenAfter, TakesAllAfter, PassesAll}
+use Rattle.frontier.specs.Lists.{Steps, MayTake, AllTakenAfter, TakesAllAfter, PassesAll}
 use Rattle.frontier.proofs.MarkStep.{spares-none, spares_then}
 
 -- ---- a part that goes on, and a part after it

@@ -3,12 +3,12 @@
 -- left, more turns change nothing. Assumes nothing.
 use mathlib.Core.Path.{◌≡◌, refl, sym, ◌∙◌, ap, subst}
 use mathlib.Core.Logic.{◌⊎◌, inl, inr, ⊎_elim}
-use Prim.Native.Nat.{ℕ, zero, suc, ◌+◌, ◌-◌, ◌*◌, ◌≤◌, ◌<◌}
+use Prim.Native.Nat.{ℕ, zero, suc, ◌+◌, ◌-◌, ◌≤◌, ◌<◌}
 use mathlib.Core.Bool.{Bool, true, false, cond, ◌&&◌, ◌||◌}
 use mathlib.Core.List.{List, [], ◌∷◌, map}
 use native.Mathlib.Omega.{arith}
 use lib.Dec.{ltb}
-use lib.ListN.{length, take, get_or}
+use lib.ListN.{take, get_or}
 use borrow.Author.Tests.{ltb-true, ltb-false}
 use Rattle.hash.specs.Bytes.{Id}
 use Rattle.hash.proofs.Tests.{by_cases, clash, guard_test, guarded}
@@ -22,17 +22,16 @@ use Rattle.pending.specs.declared.Pending.{Pending}
 use Rattle.pending.specs.declared.Taken.{Taken}
 use Rattle.pending.proofs.Laws.{empty-slots, fresh-map, fresh-slots, taken_in}
 use Rattle.walk.specs.Lookup.{World, Pair, read, parents_of}
-use Rattle.walk.specs.Painting.{Paint, Painting, stop, going, then, Marks, pass, passed, with_pending, fresh, turn, turns}
-use Rattle.walk.specs.declared.Refusal.{Refusal}
+use Rattle.walk.specs.Painting.{Paint, Painting, going, then, Marks, pass, passed, with_pending, fresh, turn, turns}
 use Rattle.reading.specs.Files.{world_under}
 use Rattle.reading.specs.declared.Commit.{Commit}
 use Rattle.frontier.specs.declared.marking.Marked.{Marked}
 use Rattle.frontier.specs.declared.marking.Marked.TheVariants.{Going, Stop, NoRoom}
 use Rattle.frontier.specs.Bits.{is_painted, marks_of, passed_bits}
-use Rattle.frontier.specs.Paint.{Lent, Files, entry_at, PaintReads, Named, Goes, Stops, Ends}
+use Rattle.frontier.specs.Paint.{Lent, Files, entry_at, PaintReads, Goes, Ends}
 use Rattle.frontier.specs.Parents.{ReadsParents}
 use Rattle.frontier.specs.Lists.{PassesAll}
-use Rattle.frontier.specs.Turns.{TurnFits, MayTurn, TakesTurn, TurnTakenAfter, TakesTurnAfter, any_lacking, due_after, MayTurns, TakesTurns, TurnsTakenAfter, TakesTurnsAfter}
+use Rattle.frontier.specs.Turns.{TakesTurn, TurnTakenAfter, TakesTurnAfter, any_lacking, due_after, MayTurns, TurnsTakenAfter, TakesTurnsAfter}
 use Rattle.frontier.proofs.PaintBits.{painted-live, visible-passed, hidden-passed, stale-passed, painted-passed}
 use Rattle.frontier.proofs.MarkStep.{spares-none}
 use Rattle.frontier.proofs.ReadAgain.{has-parents}

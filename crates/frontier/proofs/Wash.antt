@@ -1,18 +1,18 @@
 -- Marks without painting's: a slot that is seen stays taken, with its id, and has no mark of painting's any more. Where every taken slot
 -- is a seen one, the table holds the same ids as before. Assumes nothing.
-use mathlib.Core.Path.{◌≡◌, refl, sym, ◌∙◌, ap, subst}
-use mathlib.Core.Logic.{◌⊎◌, inl, inr, ⊎_elim}
+use mathlib.Core.Path.{◌≡◌, refl, sym, ◌∙◌, ap}
+use mathlib.Core.Logic.{⊎_elim}
 use Prim.Native.Nat.{ℕ, zero, suc, ◌*◌, ◌/◌, ◌%◌, ◌≤◌, ◌<◌}
-use mathlib.Core.Bool.{Bool, true, false}
+use mathlib.Core.Bool.{true, false}
 use mathlib.Core.List.{List, [], ◌∷◌}
 use native.Mathlib.Omega.{arith}
 use lib.Dec.{eqb}
 use lib.ListN.{length, get_or, set}
-use borrow.Author.Tests.{eqb-true, ne_eqb}
+use borrow.Author.Tests.{ne_eqb}
 use Rattle.hash.specs.Bytes.{Id}
-use Rattle.hash.proofs.Tests.{by_cases, clash}
+use Rattle.hash.proofs.Tests.{clash}
 use Rattle.hashtable.specs.Marks.{visible, hidden, stale, seen, live}
-use Rattle.hashtable.specs.Table.{id_of, live_at, Holds, Sized, Table, mark_for}
+use Rattle.hashtable.specs.Table.{live_at, Table, mark_for}
 use Rattle.hashtable.proofs.MarksBits.{seen-live, live-none, not_0_live}
 use Rattle.hashtable.proofs.TableKept.{Keeps, table_kept, holds-was}
 use Rattle.hashtable.proofs.TableView.{look, mark-held, mark-absent}

@@ -1,5 +1,5 @@
 -- Painting's marks as bits of one byte (document 01: VISIBLE, HIDDEN, STALE). Assumes nothing.
-use Rattle.std.specs.Prelude.{ℕ, ◌%◌, Bool, true, false, cond, not, ◌&&◌, ◌||◌}
+use Rattle.std.specs.Prelude.{ℕ, ◌%◌, Bool, cond, not, ◌&&◌, ◌||◌}
 use Rattle.hashtable.specs.Marks.{visible, hidden, stale, with_visible, with_hidden, with_stale}
 use Rattle.walk.specs.Painting.{Marks}
 

@@ -1,6 +1,6 @@
 -- Painting in lent memory (document 01: Painting): which marks and which queue the memory reads as, and how a part of painting ends.
 -- Assumes nothing.
-use Rattle.std.specs.Prelude.{ℕ, ◌-◌, ◌≤◌, ◌<◌, ◌≡◌, Bool, true, false, length, take, get_or, ℤ}
+use Rattle.std.specs.Prelude.{ℕ, ◌≤◌, ◌<◌, ◌≡◌, true, false, length, take, get_or, ℤ}
 use mathlib.Core.List.{List, map, Memᴰ}
 use Rattle.hash.specs.Bytes.{Id}
 use Rattle.object.specs.Ids.{id_room}

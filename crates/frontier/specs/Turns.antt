@@ -6,7 +6,7 @@ use Rattle.commit.specs.declared.Cache.{Cache}
 use Rattle.pending.specs.Pending.{stale_at, older_in, younger_in, fresh as anyFresh}
 use Rattle.pending.specs.declared.Pending.{Pending}
 use Rattle.walk.specs.Lookup.{World, Pair, read, parents_of}
-use Rattle.walk.specs.Painting.{Paint, Painting, going, pass, passed, with_pending, fresh, turn, turns}
+use Rattle.walk.specs.Painting.{Paint, going, pass, passed, with_pending, fresh, turn, turns}
 use Rattle.reading.specs.Files.{world_under}
 use Rattle.frontier.specs.declared.marking.Marked.{Marked}
 use Rattle.frontier.specs.declared.marking.Marked.TheVariants.{Going, Stop, NoRoom}

@@ -2,8 +2,8 @@
 -- before k are true; what it finds is false, and every name before it is true. Assumes nothing.
 use mathlib.Core.Path.{◌≡◌, refl, sym, ◌∙◌, subst}
 use Prim.Native.Nat.{ℕ, zero, suc, ◌+◌, ◌-◌, ◌≤◌, ◌<◌}
-use mathlib.Core.Bool.{Bool, true, false, cond}
-use mathlib.Core.Option.{Option, none, some}
+use mathlib.Core.Bool.{true, false}
+use mathlib.Core.Option.{none, some}
 use mathlib.Core.List.{List}
 use mathlib.Core.Logic.{⊎_elim}
 use native.Mathlib.Omega.{arith}
@@ -11,8 +11,7 @@ use native.Mathlib.Nat.{eq-or-lt_of_le}
 use Rattle.hash.specs.Bytes.{eq_id, width_of}
 use Rattle.hash.specs.declared.Kind.{Kind}
 use Rattle.hash.proofs.Tests.{by_cases, some_in, no-some}
-use Rattle.idlist.specs.IdList.{id_of}
-use Rattle.odb.specs.Store.{entry_ids, entries, body, store_is_ok}
+use Rattle.odb.specs.Store.{entries, store_is_ok}
 use Rattle.odb.specs.Lookup.{entry_id, entry_body}
 use Rattle.odb.proofs.Nth.{good-id, good-body}
 use Rattle.commitid.specs.Name.{commit_id}

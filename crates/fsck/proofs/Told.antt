@@ -1,24 +1,23 @@
 -- What a report means, both ways: 0 exactly where all is true, 16 exactly with the first false name, 17 exactly where all names are true and the
 -- checksum is false. The files' own refusals are 6 at most, so none of them is taken for 16 or 17. Assumes nothing.
 use mathlib.Core.Path.{◌≡◌, refl, sym, ◌∙◌, ap}
-use Prim.Native.Nat.{ℕ, zero, suc, ◌+◌, ◌≤◌, ◌<◌}
+use Prim.Native.Nat.{ℕ, ◌≤◌, ◌<◌}
 use mathlib.Core.Bool.{Bool, true, false, cond, ◌||◌}
 use mathlib.Core.Option.{Option, none, some}
-use mathlib.Core.List.{List, []}
+use mathlib.Core.List.{List}
 use native.Mathlib.Omega.{arith}
 use Rattle.hash.specs.declared.Kind.{Kind}
-use Rattle.hash.proofs.Tests.{by_cases, some_in, no-some}
+use Rattle.hash.proofs.Tests.{some_in, no-some}
 use Rattle.odb.specs.Store.{entries, store_is_ok}
 use Rattle.commitgraph.specs.Graph.{hash_version, graph_head, graph_ok}
 use Rattle.walk.specs.State.{is_empty}
 use Rattle.walk.specs.Opening.{Input, sizes_ok, whole_ids, refusal, width_in}
 use Rattle.walk.specs.Refusals.{number_of}
 use Rattle.walk.specs.declared.Refusal.{Refusal}
-use Rattle.walk.specs.declared.Refusal.TheVariants.{InputTooLarge, PartialId, CorruptStore, UnknownGraph, CorruptGraph, FalseName, FalseChecksum}
-use Rattle.opening.specs.declared.Checked.{Checked}
+use Rattle.walk.specs.declared.Refusal.TheVariants.{InputTooLarge, PartialId, CorruptStore, UnknownGraph, CorruptGraph, FalseChecksum}
 use Rattle.opening.specs.declared.Checked.TheVariants.{Fine, Refused}
 use Rattle.fsck.specs.declared.Report.{Report}
-use Rattle.fsck.specs.Names.{true_name, first_false, sum_ok, report_of, sum_report, names_report, files_refusal, report_after, check_names, AllTrue, FirstFalse, SumFalse, Means, refused_files, false_name, false_sum, no_fault}
+use Rattle.fsck.specs.Names.{true_name, first_false, sum_ok, report_of, sum_report, names_report, files_refusal, report_after, check_names, AllTrue, Means, refused_files, false_name, false_sum, no_fault}
 use Rattle.fsck.proofs.Entries.{false-at, all_true, true-all, at_first}
 use Rattle.fsck.proofs.Steps.{after-refused, after-fine}
 

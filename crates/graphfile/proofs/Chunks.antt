@@ -1,17 +1,17 @@
 -- The table of the written file: the reader finds the chunks where they stand. Assumes nothing.
-use mathlib.Core.Path.{◌≡◌, refl, sym, ◌∙◌, ap, subst}
-use mathlib.Core.Bool.{Bool, true, false, cond, ◌&&◌}
-use mathlib.Core.Option.{Option, none, some}
+use mathlib.Core.Path.{◌≡◌, refl, sym, ◌∙◌, subst}
+use mathlib.Core.Bool.{true}
+use mathlib.Core.Option.{none, some}
 use mathlib.Core.List.{List, [], ◌∷◌, ◌++◌}
-use Prim.Native.Nat.{ℕ, zero, suc, ◌+◌, ◌*◌, ◌-◌, ◌/◌, ◌%◌, ◌≤◌, ◌<◌}
+use Prim.Native.Nat.{ℕ, suc, ◌+◌, ◌*◌, ◌-◌, ◌≤◌, ◌<◌}
 use native.Mathlib.Omega.{arith}
 use native.Mathlib.Nat.{zero-add}
-use lib.ListN.{length, take, drop, get_or, length-append}
-use lib.Dec.{eqb, leb}
+use lib.ListN.{length, take, get_or, length-append}
+use lib.Dec.{eqb}
 use borrow.Author.Tests.{eq-eqb, le-leb}
 use Rattle.hash.proofs.Ids.{eq_id_refl}
 use Rattle.hash.proofs.Widths.{times-most}
-use Rattle.hash.specs.Bytes.{at, u32_at, u64_at, eq_id, if_some}
+use Rattle.hash.specs.Bytes.{u32_at, u64_at}
 use Rattle.commitgraph.specs.Graph.{OIDF, OIDL, CDAT, EDGE, row_size, graph_head, chunk_count, chunk_id, chunk_offset, offsets_rise, chunks_of, chunk_in, chunk_start, chunk_size, table_ok}
 use Rattle.commitgraph.proofs.Table.{RightTable}
 use Rattle.graphfile.specs.GraphFile.{u32, ids_end, rows_end, three_chunks, four_chunks}

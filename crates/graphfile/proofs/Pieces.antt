@@ -1,13 +1,11 @@
 -- Laws of what a file is made of: numbers, parts of equal width one after another, and where a part of a joined list stands. Assumes nothing.
-use mathlib.Core.Path.{◌≡◌, refl, sym, ◌∙◌, ap, subst}
-use mathlib.Core.Logic.{⊎_elim}
-use mathlib.Core.Bool.{Bool, true, false, cond}
+use mathlib.Core.Path.{◌≡◌, refl, sym, ◌∙◌, ap}
 use mathlib.Core.List.{List, [], ◌∷◌, ◌++◌, append_assoc}
-use Prim.Native.Nat.{ℕ, zero, suc, ◌+◌, ◌*◌, ◌-◌, ◌/◌, ◌%◌, ◌≤◌, ◌<◌}
+use Prim.Native.Nat.{ℕ, zero, suc, ◌+◌, ◌*◌, ◌/◌, ◌%◌, ◌≤◌, ◌<◌}
 use native.Mathlib.Omega.{arith}
 use native.Mathlib.Nat.{mul-suc, mul-zero}
 use lib.ListN.{length, take, drop, get_or, length-append, get_or-append}
-use lib.Seq.{get_or-append-add, drop-append-add, take_at, take-append-le}
+use lib.Seq.{get_or-append-add, drop-append-add, take_at}
 use lib.Dec.{leb}
 use Rattle.hash.specs.Bytes.{at, u32_at}
 use Rattle.hash.proofs.Bytes.{get_d_at}

@@ -1,25 +1,24 @@
 -- The reader takes the written file, and reads back each row. Assumes nothing.
 use mathlib.Core.Path.{◌≡◌, refl, sym, ◌∙◌, ap, subst}
-use mathlib.Core.Logic.{⊎_elim}
-use mathlib.Core.Bool.{Bool, true, false, cond, ◌&&◌}
-use mathlib.Core.Option.{Option, none, some}
+use mathlib.Core.Bool.{true, false, cond}
+use mathlib.Core.Option.{some}
 use mathlib.Core.List.{List, [], ◌∷◌, ◌++◌}
-use Prim.Native.Nat.{ℕ, zero, suc, ◌+◌, ◌*◌, ◌-◌, ◌/◌, ◌%◌, ◌≤◌, ◌<◌}
+use Prim.Native.Nat.{ℕ, zero, suc, ◌+◌, ◌*◌, ◌/◌, ◌%◌, ◌≤◌, ◌<◌}
 use native.Mathlib.Omega.{arith}
-use lib.ListN.{length, take, drop, get_or, length-append}
-use lib.Dec.{eqb, ltb, leb}
-use lib.IntN.{ℤ, pos}
-use borrow.Author.Tests.{eq-eqb, le-leb, eqb-true, eqb-false}
-use Rattle.hash.specs.Bytes.{Id, at, u32_at, lt_id}
+use lib.ListN.{length, get_or, length-append}
+use lib.Dec.{eqb, leb}
+use lib.IntN.{pos}
+use borrow.Author.Tests.{eq-eqb, le-leb, eqb-true}
+use Rattle.hash.specs.Bytes.{Id, u32_at, lt_id}
 use Rattle.hash.proofs.Tests.{by_cases, guard_of}
-use Rattle.idlist.specs.IdList.{IdList, id_of, rises_at, rising}
-use Rattle.commitgraph.specs.Graph.{row_size, places_of, stated_level, levelled, OIDF, OIDL, CDAT, EDGE, no_parent, top_bit, graph_head, graph_ok, table_ok, chunks_ok, chunk_start, chunk_size, fan_at, fan_ok, graph_count, graph_ids, graph_id, first_byte, at_most, layout_of, row_in, edge_in, level_in, seconds_in, graph_parents, parents_in, generation, graph_seconds}
+use Rattle.idlist.specs.IdList.{id_of, rises_at, rising}
+use Rattle.commitgraph.specs.Graph.{row_size, places_of, stated_level, levelled, OIDF, OIDL, CDAT, EDGE, graph_ok, table_ok, chunks_ok, chunk_start, chunk_size, fan_at, fan_ok, graph_count, graph_ids, graph_id, first_byte, at_most, layout_of, row_in, edge_in, seconds_in, graph_parents, generation, graph_seconds}
 use Rattle.commitgraph.specs.declared.Layout.{Layout}
 use Rattle.commitgraph.proofs.Levels.{levels-all, level-used}
 use Rattle.commitgraph.proofs.Table.{graph-count}
 use Rattle.commitgraph.proofs.Fan.{first_of-id}
-use Rattle.graphfile.specs.GraphFile.{ids_end, rows_end, Row, row_at, u32, flat, words, at_most_in, fan_from, ids_in, marked, edges_of, edges_in, first_of, second_of, row_bytes, data_from, three_chunks, four_chunks, front_of, file_with, graph_file, file_length, RowRight, RowsRight, RowRead, ReadBack}
-use Rattle.graphfile.proofs.Pieces.{back32, past32, past-at, nth, Wide, length_flat, stride, length_words, nth_words, wide-words, word_there, length_fan, fan_there, at_most_le, length_ids, nth_ids, edges_before, length_data, nth_data, edges-there}
+use Rattle.graphfile.specs.GraphFile.{rows_end, Row, row_at, u32, flat, words, at_most_in, fan_from, ids_in, marked, edges_of, edges_in, first_of, second_of, row_bytes, data_from, three_chunks, four_chunks, front_of, file_with, graph_file, file_length, RowRight, RowsRight, ReadBack}
+use Rattle.graphfile.proofs.Pieces.{back32, past32, past-at, Wide, length_flat, stride, length_words, wide-words, word_there, length_fan, fan_there, at_most_le, length_ids, nth_ids, edges_before, length_data, nth_data, edges-there}
 use Rattle.graphfile.proofs.Chunks.{Chunks, three, four}
 use Rattle.graphfile.proofs.Parents.{length_marked, parents-read}
 

@@ -1,8 +1,8 @@
 -- The commit-graph file that is written (document 02, card 4): "OIDF, OIDL, CDAT, then EDGE only if some commit has over two parents, its lists in row
 -- order", over rows alone. Ids are w bytes wide, and v is the hash version (card 13). The checksum is a function that is handed in. Assumes nothing.
-use Rattle.std.specs.Prelude.{◌≡◌, ℕ, zero, suc, ◌+◌, ◌*◌, ◌-◌, ◌/◌, ◌%◌, ◌≤◌, ◌<◌, Bool, true, false, cond, length, take, drop, get_or, eqb, ltb, leb, ℤ, pos}
-use Rattle.std.proofs.Math.Option.{Option, none, some}
-use mathlib.Core.List.{List, [], ◌∷◌, ◌++◌, Memᴰ}
+use Rattle.std.specs.Prelude.{◌≡◌, ℕ, zero, suc, ◌+◌, ◌*◌, ◌/◌, ◌%◌, ◌≤◌, ◌<◌, true, cond, length, get_or, eqb, leb, pos}
+use Rattle.std.proofs.Math.Option.{some}
+use mathlib.Core.List.{List, [], ◌∷◌, ◌++◌}
 use Rattle.hash.specs.Bytes.{Id, lt_id}
 use Rattle.commitgraph.specs.Graph.{OIDF, OIDL, CDAT, EDGE, no_parent, top_bit, row_size, graph_head, graph_ok, graph_count, graph_id, graph_parents, generation, graph_seconds}
 

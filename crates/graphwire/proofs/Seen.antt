@@ -1,8 +1,7 @@
 -- The result tells what stands in the output: 0 is no refusal's number, and 101 neither. Assumes nothing.
-use mathlib.Core.Path.{◌≡◌, refl, sym, ◌∙◌, ap}
+use mathlib.Core.Path.{◌≡◌, ◌∙◌, ap}
 use Prim.Native.Nat.{ℕ}
 use native.Mathlib.Omega.{arith}
-use mathlib.Core.Bool.{Bool, true, false}
 use mathlib.Core.Option.{Option, none, some}
 use mathlib.Core.List.{List, [], ◌∷◌}
 use lib.ListN.{length}
@@ -15,7 +14,7 @@ use Rattle.walk.specs.declared.Refusal.{Refusal}
 use Rattle.walk.proofs.Outcomes.{refusal_number_between}
 use Rattle.graphwrite.specs.declared.Written.{Written}
 use Rattle.graphwrite.specs.Writing.{length_answer, output_after, write_refusal}
-use Rattle.graphwire.specs.Wire.{no_room_number, written_number, bytes_of, PutsLength, Writing, LibraryWrites}
+use Rattle.graphwire.specs.Wire.{written_number, bytes_of, PutsLength, Writing, LibraryWrites}
 use Rattle.graphwire.specs.Seen.{WritingSeen}
 
 of_answer : {kind : Kind} {store out out' numbers numbers' : List ℕ} {n : ℕ} (q : Option Refusal) (w : Written) → w ≡ length_answer (width_of kind) store q

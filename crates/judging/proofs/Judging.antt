@@ -12,7 +12,7 @@ use lib.ListN.{length, get_or, length-map}
 use lib.IntN.{ℤ, pos}
 use lib.Signed.{lt_z}
 use Rattle.hash.specs.Bytes.{Id, if_some, eq_id}
-use Rattle.hash.proofs.Tests.{by_cases, clash, not_yes, and_first, and_second, guard_of}
+use Rattle.hash.proofs.Tests.{clash, not_yes, and_second, guard_of}
 use Rattle.hash.proofs.Ids.{eq_id-same}
 use Rattle.date.specs.declared.Stamp.{Stamp}
 use Rattle.object.specs.Header.{Header, header}
@@ -27,7 +27,7 @@ use Rattle.odb.specs.declared.Located.{Located}
 use Rattle.odb.specs.declared.Located.TheVariants.{Body as BodyAt, Absent as Nowhere}
 use Rattle.commitgraph.specs.Graph.{layout_of, graph_parents, generation, graph_seconds}
 use Rattle.commitgraph.specs.declared.Layout.{Layout}
-use Rattle.commit.specs.Find.{GoodCache, found_in}
+use Rattle.commit.specs.Find.{GoodCache}
 use Rattle.commit.specs.declared.Cache.{Cache}
 use Rattle.commit.specs.declared.Cache.TheVariants.{NoGraph}
 use Rattle.walk.specs.declared.GenThenTime.{GenThenTime}
@@ -38,7 +38,7 @@ use Rattle.walk.specs.Reach.{links}
 use Rattle.walk.specs.Demand.{Readable, row_generation, pair_at}
 use Rattle.reading.specs.declared.Commit.{Commit}
 use Rattle.reading.specs.declared.Commit.TheVariants.{Row as RowOf, Body as BodyOf, Failed}
-use Rattle.reading.specs.Files.{cache_of, layout_under, world_under}
+use Rattle.reading.specs.Files.{layout_under, world_under}
 use Rattle.reading.specs.Row.{row_parent}
 use Rattle.reading.specs.Body.{parent_id_at}
 use Rattle.reading.specs.Stored.{GivesBody}
@@ -52,7 +52,7 @@ use Rattle.reach.specs.Tested.{same_ids, same_time, same_seconds, row_agrees, ag
 use Rattle.reach.proofs.Growth.{last-place}
 use Rattle.reach.proofs.Verdicts.{same_ids_eq, same_time_eq}
 use Rattle.judging.specs.declared.Judged.TheVariants.{Pair as PairOf, AtOdds}
-use Rattle.judging.specs.Judge.{Files, ComparesParents, ComparesRow, ToldJudged, Judges}
+use Rattle.judging.specs.Judge.{Files, ComparesParents, ComparesRow, Judges}
 
 -- ---- the same seconds
 

@@ -1,7 +1,7 @@
 -- The call step by step: after both searches and the stains the choice is right; the second search begins where the first has ended, and the
 -- first in cleared memory. Assumes nothing.
 use mathlib.Core.Path.{◌≡◌, refl, sym, ◌∙◌, ap, subst}
-use mathlib.Core.Logic.{◌⊎◌, ⊎_elim}
+use mathlib.Core.Logic.{⊎_elim}
 use Prim.Native.Nat.{ℕ}
 use mathlib.Core.Bool.{true, false}
 use mathlib.Core.List.Memᴰ

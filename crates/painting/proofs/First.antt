@@ -2,16 +2,14 @@
 -- walk's painting, and what ends it leaves the walk's state after painting, or its refusal. Assumes nothing.
 use mathlib.Core.Path.{◌≡◌, refl, sym, ap, ap₂, ◌∙◌, subst, subst₂, subst₃}
 use mathlib.Core.Logic.{◌⊎◌, inl, ⊎_elim}
-use Prim.Native.Nat.{ℕ, ◌*◌, ◌/◌, ◌≤◌, ◌<◌}
+use Prim.Native.Nat.{ℕ, ◌*◌, ◌/◌}
 use mathlib.Core.Bool.{Bool, true, false, cond, ◌&&◌, ◌||◌}
 use mathlib.Core.List.{List, [], ◌∷◌}
 use native.Mathlib.Omega.{arith}
-use lib.Dec.{ltb}
 use lib.ListN.{length}
 use lib.IntN.{ℤ}
-use borrow.Author.Tests.{ltb-true, ltb-false}
 use Rattle.hash.specs.Bytes.{Id}
-use Rattle.hash.proofs.Tests.{by_cases, and_first, clash, or_left, or_right}
+use Rattle.hash.proofs.Tests.{and_first, clash, or_left, or_right}
 use Rattle.hashtable.specs.Marks.{frontier}
 use Rattle.hashtable.specs.Table.{mark_for}
 use Rattle.commit.specs.declared.Cache.{Cache}

@@ -17,7 +17,7 @@ use Rattle.walk.specs.declared.Refusal.TheVariants.{TipNotFound, TipUnreadable}
 use Rattle.walk.specs.Settings.{timed, only_first, by_time, goes_before, cutoff_of, not_before}
 use Rattle.walk.specs.Lookup.{World, world_of, store_seconds, seconds_for}
 use Rattle.walk.specs.State.{Walk, State, empty_state, queued, enter, sees, waits}
-use Rattle.walk.specs.Opening.{Input, P, walk_of, list_ids, distinct, Opening, closed, opened, tips_in, open_walk, width_in}
+use Rattle.walk.specs.Opening.{Input, walk_of, list_ids, distinct, Opening, closed, opened, tips_in, open_walk, width_in}
 use Rattle.walk.specs.Reach.{Mem}
 use Rattle.walk.proofs.Tips.{opened_test, open_keep, open_tips_lem}
 use Rattle.state.specs.Shapes.{shape_of}

@@ -6,7 +6,7 @@ use mathlib.Core.Bool.{cond}
 use mathlib.Core.List.{List}
 use native.Mathlib.Omega.{arith}
 use Rattle.hash.specs.Bytes.{u32_at}
-use Rattle.commitgraph.specs.Graph.{level_in, no_generation, no_parent, parent_list_of, parents_in, row_in, stated_level, top_bit, with_parent}
+use Rattle.commitgraph.specs.Graph.{level_in, no_generation, no_parent, parent_list_of, parents_in, row_in, stated_level, with_parent}
 use Rattle.commitgraph.specs.declared.Layout.{Layout}
 use Rattle.commitgraph.specs.declared.parents.ParentList.TheVariants.{Good}
 use Rattle.commitgraph.proofs.Edges.{after_none, after_one, parents-some}

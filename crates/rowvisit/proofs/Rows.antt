@@ -14,7 +14,7 @@ use Rattle.commitgraph.specs.Graph.{graph_ok, graph_parents, layout_of, id_in, s
 use Rattle.commitgraph.specs.declared.Layout.{Layout}
 use Rattle.commitgraph.specs.declared.Level.{Level}
 use Rattle.walk.specs.declared.Settings.{Settings}
-use Rattle.walk.specs.Settings.{only_first, followed}
+use Rattle.walk.specs.Settings.{only_first}
 use Rattle.walk.specs.Lookup.{row, row_at}
 use Rattle.reading.specs.Row.{level_of, row_read_of}
 use Rattle.reading.specs.declared.row.RowRead.{RowRead}

@@ -1,13 +1,10 @@
 -- What the call in place promises of a plain row: the first of the queue leaves, and the parents of the row are visited as those of any row; where the row is not
 -- plain, or nothing waits, nothing is changed. Assumes nothing.
 use Rattle.std.specs.Prelude.{ℕ, ◌≡◌, true, false, List, ℤ}
-use Rattle.date.specs.declared.Seconds.{Seconds}
 use Rattle.commitgraph.specs.declared.Layout.{Layout}
-use Rattle.commitgraph.specs.declared.Level.{Level}
 use Rattle.walk.specs.declared.Settings.{Settings}
 use Rattle.revwalk.specs.declared.queue.Popped.{Popped}
 use Rattle.state.specs.declared.Record.{Record}
-use Rattle.state.specs.declared.Waiting.{Waiting}
 use Rattle.state.specs.Reads.{Memory}
 use Rattle.state.specs.Shapes.{waiting_in}
 use Rattle.state.specs.Steps.{mem}

@@ -1,17 +1,16 @@
 -- The end of the pass: all that is reached is readable and the file agrees on it, and each pair falls exactly where each lies below its cell. Assumes nothing.
 use mathlib.Core.Path.{◌≡◌, refl, sym, ◌∙◌, ap, subst}
-use Prim.Native.Nat.{ℕ, ◌+◌, ◌≤◌, ◌<◌}
+use Prim.Native.Nat.{ℕ, ◌≤◌, ◌<◌}
 use mathlib.Core.Bool.{Bool, true, false}
 use mathlib.Core.List.{List, []}
 use native.Mathlib.Omega.{arith}
 use lib.ListN.{length, get_or}
 use Rattle.hash.specs.Bytes.{Id}
 use Rattle.hash.proofs.Tests.{clash, not_yes}
-use Rattle.odb.specs.Store.{store_is_ok}
 use Rattle.commit.specs.declared.Cache.{Cache}
 use Rattle.walk.specs.declared.Refusal.TheVariants.{UnreadableReach, GraphAtOdds, PairNotFalling}
 use Rattle.walk.specs.Lookup.{World, world_of, Pair, lt_pair}
-use Rattle.walk.specs.Reach.{Mem, links}
+use Rattle.walk.specs.Reach.{links}
 use Rattle.walk.specs.Demand.{pair_at}
 use Rattle.opening.specs.declared.Checked.{Checked}
 use Rattle.opening.specs.declared.Checked.TheVariants.{Fine, Refused}
@@ -25,7 +24,6 @@ use Rattle.reach.specs.Seek.{ToldSought, Seeks}
 use Rattle.reach.specs.Tested.{each, agrees_in, falls_in, judged}
 use Rattle.reach.proofs.Growth.{place_of, grow-done, grow-readable}
 use Rattle.reach.proofs.Verdicts.{each-mem, each_all, each-places, each_broken}
-use Rattle.judging.specs.Judge.{Files}
 use Rattle.falling.specs.Cells.{AllLow}
 use Rattle.tested.specs.declared.along.Gone.{Gone}
 use Rattle.tested.specs.declared.along.Gone.TheVariants.{Whole, Unreadable, AtOdds, NoRoom}

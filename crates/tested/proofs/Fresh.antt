@@ -1,8 +1,8 @@
 -- Parents that were all new to the line: as many slots came as the commit has parents, so the new slots hold the parents and no others, and no commit
 -- that was read leads to them, so their cells are empty. Assumes nothing.
-use mathlib.Core.Path.{◌≡◌, refl, sym, ◌∙◌, ap, subst}
+use mathlib.Core.Path.{◌≡◌, sym, ◌∙◌, subst}
 use mathlib.Core.Logic.{⊎_elim}
-use Prim.Native.Nat.{ℕ, zero, suc, ◌+◌, ◌*◌, ◌-◌, ◌≤◌, ◌<◌}
+use Prim.Native.Nat.{ℕ, zero, suc, ◌+◌, ◌*◌, ◌<◌}
 use mathlib.Core.Bool.{true, false}
 use mathlib.Core.List.Memᴰ
 use mathlib.Core.List.{List, [], ◌∷◌, ◌++◌}
@@ -14,7 +14,7 @@ use Rattle.hash.specs.Bytes.{Id}
 use Rattle.hash.proofs.Tests.{clash}
 use Rattle.object.specs.Header.{Header}
 use Rattle.walk.specs.Lookup.{World, Pair, lt_pair}
-use Rattle.walk.specs.Reach.{Mem, NoDup, empty, more}
+use Rattle.walk.specs.Reach.{Mem, NoDup, more}
 use Rattle.walk.proofs.Laws.{lt_pair_asym}
 use Rattle.walk.proofs.Named.{fits}
 use Rattle.reading.proofs.IdLists.{mem-at}

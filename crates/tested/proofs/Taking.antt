@@ -1,9 +1,9 @@
 -- One commit of the line is taken: its pair stands in its slot, what it leads to is in the line, and the cells of its parents stand for it too. Cells
 -- name commits that were read, so no pair that is set down later moves what they say. Assumes nothing.
-use mathlib.Core.Path.{◌≡◌, refl, sym, ◌∙◌, ap, subst}
-use mathlib.Core.Logic.{◌⊎◌, inl, inr, ⊎_elim}
+use mathlib.Core.Path.{◌≡◌, sym, ◌∙◌, ap, subst}
+use mathlib.Core.Logic.{inl, inr, ⊎_elim}
 use Prim.Native.Nat.{ℕ, suc, ◌+◌, ◌*◌, ◌≤◌, ◌<◌}
-use mathlib.Core.Bool.{Bool, true, false}
+use mathlib.Core.Bool.{true, false}
 use mathlib.Core.List.{List, []}
 use native.Mathlib.Omega.{arith}
 use lib.ListN.{length, get_or, set, length-set}
@@ -18,14 +18,13 @@ use Rattle.walk.specs.Reach.{Mem, links}
 use Rattle.walk.specs.Demand.{Readable, pair_at}
 use Rattle.reading.proofs.IdLists.{mem-at}
 use Rattle.reach.specs.Search.{ReachedBy, Growing}
-use Rattle.reach.specs.Memory.{Lent, lent, In, Lists, Named, Went}
+use Rattle.reach.specs.Memory.{Lent, lent, In, Lists, Went}
 use Rattle.reach.specs.Seek.{Seeking}
 use Rattle.reach.proofs.Growth.{last-place, place_of, grow-more, grow-read, reached-on, readable-more, readable-read}
 use Rattle.reach.specs.Tested.{agrees_in}
-use Rattle.falling.specs.Cells.{most_child, slot_pair, low_in, low_at, slots_in, Right, Lowered, LowersFrom}
+use Rattle.falling.specs.Cells.{slot_pair, low_in, low_at, slots_in, Right, Lowered}
 use Rattle.falling.proofs.Lowest.{low-empty, low-some}
-use Rattle.tested.specs.declared.step.Step.TheVariants.{Count, NoRoom}
-use Rattle.tested.specs.Passes.{Held, held, slot_at, pair_in, low_of, UnderAll, Roomy, Going, InHand, Takes}
+use Rattle.tested.specs.Passes.{Held, held, slot_at, pair_in, low_of, UnderAll, Going, InHand}
 
 module _ {width : ℕ} {w : World} {u roots : List Id} {cap from : ℕ} {m : Held} {n : ℕ} {l : List Id} {k : ℕ} (v : Going width w u roots cap from m n l k) (h : k < n)
     {slot : ℕ} {q : Pair} {hd : Header} {c : ℕ} (a : InHand w from m l k slot q hd c)

@@ -11,10 +11,10 @@ use Rattle.walk.specs.Lookup.{World, world_of, Pair, lt_pair}
 use Rattle.walk.specs.Reach.{Mem, links}
 use Rattle.walk.specs.Demand.{Readable, pair_at}
 use Rattle.reading.specs.Stored.{GivesBody}
-use Rattle.reach.specs.Search.{ReachedBy, Reached, AllReadable, Stuck}
+use Rattle.reach.specs.Search.{ReachedBy, Stuck}
 use Rattle.reach.specs.Memory.{Lent, lent, In}
 use Rattle.reach.specs.Seek.{Seeking}
-use Rattle.reach.specs.Tested.{agrees_in, falls_in, each}
+use Rattle.reach.specs.Tested.{agrees_in}
 use Rattle.judging.specs.Judge.{Files}
 use Rattle.falling.specs.Cells.{most_child, slot_pair, low_at}
 use Rattle.tested.specs.declared.step.Step.{Step}

@@ -5,7 +5,7 @@ use Prim.Native.Nat.{ℕ, ◌≤◌}
 use mathlib.Core.List.{List}
 use native.Mathlib.Omega.{arith}
 use lib.ListN.{length}
-use Rattle.hash.specs.Bytes.{Id, at}
+use Rattle.hash.specs.Bytes.{Id}
 use Rattle.object.specs.Header.{most}
 use Rattle.walk.specs.declared.Outcome.TheVariants.{End, Refused}
 use Rattle.walk.specs.declared.Refusal.{Refusal}

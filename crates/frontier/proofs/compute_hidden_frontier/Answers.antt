@@ -1,11 +1,6 @@
 -- `paint` meets its contract: the marks are washed and the waiting commits sorted, and then the painting is the walk's. Assumes nothing.
 -- HEAD-END
 use Rattle.frontier.proofs.PaintAll.{paints, too_many}
-use borrow.Author.Rules.{rules}
-use Rattle.frontier.proofs.compute_hidden_frontier.Reads as reads
-use Rattle.frontier.proofs.paint_from.Reads as paint-from-reads
-use Rattle.frontier.proofs.prepare.visible_inputs_sorted.Reads as collect-reads
-use Rattle.frontier.proofs.prepare.wash.Reads as wash-reads
 use Rattle.frontier.proofs.compute_hidden_frontier.Goals as goal
 
 -- src/lib.rt:93:9

@@ -1,8 +1,5 @@
 -- `lowered` meets its contract, case by case. Assumes nothing.
 -- HEAD-END
-use mathlib.Core.Path.{refl}
-use borrow.Author.Rules.{rules}
-use Rattle.frontier.proofs.lowered.Reads as reads
 use Rattle.frontier.proofs.lowered.Goals as goal
 
 -- src/lib.rt:26:1

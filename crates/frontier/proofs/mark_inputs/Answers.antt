@@ -1,6 +1,5 @@
 -- `mark_inputs` meets its contract: the waiting commits, then the hidden tips from where these came to. Assumes nothing.
 use Rattle.frontier.proofs.PaintAll.{marks_inputs}
-use borrow.Author.Rules.{rules}
 use Rattle.frontier.proofs.mark_inputs.Goals as goal
 
 pub returns : goal.returns

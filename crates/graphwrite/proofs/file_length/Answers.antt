@@ -1,14 +1,10 @@
 -- `graphwrite::file_length` meets its contract: whether there are entries of EDGE decides which table stands in front. Assumes nothing.
 use mathlib.Core.Path.{sym, ◌∙◌, ap}
 use mathlib.Core.Bool.{Bool, cond}
-use Prim.Native.Nat.{ℕ, ◌+◌, ◌*◌, ◌-◌}
+use Prim.Native.Nat.{ℕ, ◌+◌, ◌*◌}
 use Rattle.hash.specs.Bytes.{width_of}
 use borrow.Author.Tests.{eq-eqb, ne_eqb}
 use Rattle.graphfile.specs.GraphFile.{rows_end, file_length}
-use borrow.Author.Rules.{rules}
-use Rattle.graphwrite.proofs.file_length.Reads as reads
-use Rattle.graphwrite.proofs.rows_end.Reads as rows-end-reads
-use Rattle.hash.proofs.width.Reads as width-reads
 use Rattle.graphwrite.proofs.file_length.Goals as goal
 
 pub returns-then-e-eq0 : goal.returns-then-e-eq0

@@ -1,7 +1,6 @@
 -- `graphwrite::front_length` meets its contract: the test is the definition's own. Assumes nothing.
 use mathlib.Core.Path.{sym, ap}
 use mathlib.Core.Bool.{Bool, cond}
-use Prim.Native.Nat.{◌-◌}
 use native.Mathlib.Omega.{arith}
 use borrow.Author.Tests.{eq-eqb, ne_eqb}
 use Rattle.graphwrite.proofs.front_length.Goals as goal

@@ -1,14 +1,9 @@
 -- `graphwrite::graph_length` meets its contract: a plan tells the length. Assumes nothing.
-use Prim.Native.Nat.{◌-◌}
 use native.Mathlib.Omega.{arith}
 use Rattle.hash.specs.Bytes.{width_of}
 use Rattle.hash.proofs.Widths.{width_least}
 use Rattle.graphwrite.proofs.Measured.{measures-not, measures-rows}
 use Rattle.graphplan.proofs.Planning.{plan-small}
-use borrow.Author.Rules.{rules}
-use Rattle.graphwrite.proofs.graph_length.Reads as reads
-use Rattle.graphwrite.proofs.file_length.Reads as file-length-reads
-use Rattle.graphplan.proofs.judge.Reads as judge-reads
 use Rattle.graphwrite.proofs.graph_length.Goals as goal
 
 pub file_length-requires : goal.file_length-requires

@@ -1,11 +1,8 @@
 -- `graphwrite::rows_end` meets its contract: the products are small, and the width is the kind's. Assumes nothing.
 use mathlib.Core.Path.{ap}
-use Prim.Native.Nat.{ℕ, ◌+◌, ◌*◌, ◌-◌}
+use Prim.Native.Nat.{ℕ, ◌+◌, ◌*◌}
 use native.Mathlib.Omega.{arith}
 use Rattle.hash.proofs.Widths.{times-most}
-use borrow.Author.Rules.{rules}
-use Rattle.graphwrite.proofs.rows_end.Reads as reads
-use Rattle.hash.proofs.width.Reads as width-reads
 use Rattle.graphwrite.proofs.rows_end.Goals as goal
 
 pub overflow_mul-result : goal.overflow_mul-result

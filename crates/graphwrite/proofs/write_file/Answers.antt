@@ -1,6 +1,6 @@
 -- `graphwrite::write_file` meets its contract: the parts stand one after another, each where the one before it ends. Assumes nothing.
 use mathlib.Core.Path.{◌≡◌, ◌∙◌, ap, subst}
-use Prim.Native.Nat.{ℕ, ◌+◌, ◌*◌, ◌-◌, ◌≤◌}
+use Prim.Native.Nat.{ℕ, ◌+◌, ◌*◌, ◌≤◌}
 use native.Mathlib.Omega.{arith}
 use lib.ListN.{length}
 use Rattle.hash.specs.Bytes.{width_of}
@@ -8,17 +8,6 @@ use Rattle.hash.proofs.Widths.{times-most}
 use Rattle.graphfile.specs.GraphFile.{rows_end}
 use Rattle.graphbytes.specs.Words.{front_length}
 use Rattle.graphwrite.proofs.Laid.{length_is, front_least, file-laid}
-use borrow.Author.Rules.{rules}
-use Rattle.graphwrite.proofs.write_file.Reads as reads
-use Rattle.graphwrite.proofs.front_length.Reads as front-length-reads
-use Rattle.graphwrite.proofs.parts.write_fan.Reads as write-fan-reads
-use Rattle.graphwrite.proofs.parts.write_front.Reads as write-front-reads
-use Rattle.graphwrite.proofs.parts.write_ids.Reads as write-ids-reads
-use Rattle.graphbytes.proofs.write_sum.Reads as write-sum-reads
-use Rattle.graphwrite.proofs.rows.write_edges.Reads as write-edges-reads
-use Rattle.graphwrite.proofs.rows.write_rows.Reads as write-rows-reads
-use Rattle.graphwrite.proofs.rows_end.Reads as rows-end-reads
-use Rattle.hash.proofs.width.Reads as width-reads
 use Rattle.graphwrite.proofs.write_file.Goals as goal
 
 pub write_front-requires : goal.write_front-requires

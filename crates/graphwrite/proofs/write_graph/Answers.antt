@@ -1,15 +1,9 @@
 -- `graphwrite::write_graph` meets its contract: a plan tells what is written, and the output's length is tested before a byte is. Assumes nothing.
-use Prim.Native.Nat.{◌-◌}
 use native.Mathlib.Omega.{arith}
 use Rattle.hash.specs.Bytes.{width_of}
 use Rattle.hash.proofs.Widths.{width_least}
 use Rattle.graphplan.proofs.Planning.{plan-small}
 use Rattle.graphwrite.proofs.Laid.{writes-not, writes_short, writes-file, file-from}
-use borrow.Author.Rules.{rules}
-use Rattle.graphwrite.proofs.write_graph.Reads as reads
-use Rattle.graphwrite.proofs.file_length.Reads as file-length-reads
-use Rattle.graphplan.proofs.judge.Reads as judge-reads
-use Rattle.graphwrite.proofs.write_file.Reads as write-file-reads
 use Rattle.graphwrite.proofs.write_graph.Goals as goal
 
 pub file_length-len-requires : goal.file_length-len-requires

@@ -12,5 +12,4 @@ pub returns : goal.returns
 returns c = record {
   untimed = λ u. clash (sym c.is_timed.ensures ∙ c.if-not-is_timed.false) u;
   by-time = λ t. c.read_tips.ensures;
-
 }

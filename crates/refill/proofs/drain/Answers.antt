@@ -1,8 +1,7 @@
 -- `refill::drain` meets its contract: what was taken out stands in order, and with what is left it is the whole list. Assumes nothing.
 use mathlib.Core.Path.{refl}
-use Prim.Native.Nat.{◌-◌}
 use native.Mathlib.Omega.{arith}
-use Rattle.refill.proofs.Draining.{Draining, drain_none, drain_more, drain_all}
+use Rattle.refill.proofs.Draining.{drain_none, drain_more, drain_all}
 use borrow.Author.Rules.{rules}
 use Rattle.refill.proofs.drain.Goals as goal
 

@@ -1,9 +1,6 @@
 -- `refill::drain` meets its contract: what was taken out stands in order, and with what is left it is the whole list. Assumes nothing.
-use mathlib.Core.Path.{refl}
 use Prim.Native.Nat.{◌-◌}
-use native.Mathlib.Omega.{arith}
-use Rattle.refill.proofs.Draining.{Draining, drain_none, drain_more, drain_all}
-use borrow.Author.Rules.{rules}
+use Rattle.refill.proofs.Draining.{Draining}
 use Rattle.refill.proofs.drain.Given as goal
 
 abbrev pub invariant-loop-i : goal.invariant-loop-i

@@ -1,6 +1,5 @@
 -- `refill::enter` meets its contract: a slot in the frontier is passed over, another one is pushed. Assumes nothing.
 use Rattle.refill.proofs.Refilling.{told-front, enters_out, enters_in}
-use borrow.Author.Rules.{rules}
 use Rattle.refill.proofs.enter.Goals as goal
 
 pub returns-then-in_frontier : goal.returns-then-in_frontier

@@ -1,6 +1,5 @@
 -- `refill::fail_painting` meets its contract: nothing waits, and the frontier reads empty. Assumes nothing.
 use Rattle.refill.proofs.Ending.{fails}
-use borrow.Author.Rules.{rules}
 use Rattle.refill.proofs.fail_painting.Goals as goal
 
 pub returns : goal.returns

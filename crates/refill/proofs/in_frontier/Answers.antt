@@ -1,6 +1,5 @@
 -- `refill::in_frontier` meets its contract: the frontier has both marks. Assumes nothing.
 use Rattle.refill.proofs.Refilling.{frontier-yes, frontier-no}
-use borrow.Author.Rules.{rules}
 use Rattle.refill.proofs.in_frontier.Goals as goal
 
 pub returns-then-has_visible : goal.returns-then-has_visible

@@ -1,6 +1,5 @@
 -- `refill::leave_frontier` meets its contract: the seconds are read again, the frontier leaves the queue, and what left is struck. Assumes nothing.
 use Rattle.refill.proofs.Ending.{leaves}
-use borrow.Author.Rules.{rules}
 use Rattle.refill.proofs.leave_frontier.Goals as goal
 
 pub returns : goal.returns

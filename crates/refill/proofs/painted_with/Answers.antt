@@ -1,6 +1,5 @@
 -- `refill::painted_with` meets its contract: what left the queue is struck. Assumes nothing.
 use Rattle.refill.proofs.Ending.{ends}
-use borrow.Author.Rules.{rules}
 use Rattle.refill.proofs.painted_with.Goals as goal
 
 pub returns : goal.returns

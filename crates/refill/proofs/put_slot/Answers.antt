@@ -2,7 +2,6 @@
 use mathlib.Core.Path.{sym}
 use native.Mathlib.Omega.{arith}
 use lib.Seq.{set_out}
-use borrow.Author.Rules.{rules}
 use Rattle.refill.proofs.put_slot.Goals as goal
 
 pub returns-else-k-line : goal.returns-else-k-line

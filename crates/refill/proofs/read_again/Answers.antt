@@ -1,9 +1,7 @@
 -- `refill::read_again` meets its contract: the first places of the queue have the seconds of their ids. Assumes nothing.
 use mathlib.Core.Path.{refl}
-use Prim.Native.Nat.{◌-◌}
-use Rattle.refill.proofs.Rereading.{Rereading, reread_none, reread_more, reread_all}
+use Rattle.refill.proofs.Rereading.{reread_none, reread_more, reread_all}
 use borrow.Author.Rules.{rules}
-use Rattle.hash.specs.Bytes.{width_of}
 use Rattle.refill.proofs.read_again.Goals as goal
 
 pub loop-i-init : goal.loop-i-init

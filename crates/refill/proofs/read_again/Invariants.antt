@@ -1,8 +1,6 @@
 -- `refill::read_again` meets its contract: the first places of the queue have the seconds of their ids. Assumes nothing.
-use mathlib.Core.Path.{refl}
 use Prim.Native.Nat.{◌-◌}
-use Rattle.refill.proofs.Rereading.{Rereading, reread_none, reread_more, reread_all}
-use borrow.Author.Rules.{rules}
+use Rattle.refill.proofs.Rereading.{Rereading}
 use Rattle.hash.specs.Bytes.{width_of}
 use Rattle.refill.proofs.read_again.Given as goal
 

@@ -4,7 +4,6 @@ use Rattle.hashtable.specs.Table.{id_of}
 use Rattle.walk.specs.Lookup.{world_of, seconds_for}
 use Rattle.reading.proofs.Tips.{seconds-right}
 use Rattle.refill.proofs.Rereading.{rereads_slot}
-use borrow.Author.Rules.{rules}
 use Rattle.hash.specs.Bytes.{width_of}
 use Rattle.refill.proofs.read_slot.Goals as goal
 

@@ -1,6 +1,5 @@
 -- `refill::refill` meets its contract: the queue holds what is left of the slots passed. Assumes nothing.
-use Prim.Native.Nat.{◌-◌}
-use Rattle.refill.proofs.Refilling.{Refilling, refill_none, refill-more, refill_all}
+use Rattle.refill.proofs.Refilling.{refill_none, refill-more, refill_all}
 use borrow.Author.Rules.{rules}
 use Rattle.refill.proofs.refill.Goals as goal
 

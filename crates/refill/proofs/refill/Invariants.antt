@@ -1,7 +1,6 @@
 -- `refill::refill` meets its contract: the queue holds what is left of the slots passed. Assumes nothing.
 use Prim.Native.Nat.{◌-◌}
-use Rattle.refill.proofs.Refilling.{Refilling, refill_none, refill-more, refill_all}
-use borrow.Author.Rules.{rules}
+use Rattle.refill.proofs.Refilling.{Refilling}
 use Rattle.refill.proofs.refill.Given as goal
 
 abbrev pub invariant-loop-i : goal.invariant-loop-i

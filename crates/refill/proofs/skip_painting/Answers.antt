@@ -1,6 +1,5 @@
 -- `refill::skip_painting` meets its contract: no id has both marks, so the frontier is empty. Assumes nothing.
 use Rattle.refill.proofs.Ending.{skips}
-use borrow.Author.Rules.{rules}
 use Rattle.refill.proofs.skip_painting.Goals as goal
 
 pub returns : goal.returns

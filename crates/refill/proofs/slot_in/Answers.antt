@@ -1,7 +1,6 @@
 -- `refill::slot_in` meets its contract: past the end stands 0. Assumes nothing.
 use mathlib.Core.Path.{sym}
 use lib.ListN.{get_or-eq_default}
-use borrow.Author.Rules.{rules}
 use Rattle.refill.proofs.slot_in.Goals as goal
 
 pub returns-else-k-line : goal.returns-else-k-line

@@ -2,7 +2,6 @@
 use mathlib.Core.Path.{refl}
 use native.Mathlib.Omega.{arith}
 use Rattle.refill.proofs.Refilling.{sifts, sifts_not}
-use borrow.Author.Rules.{rules}
 use Rattle.refill.proofs.without_frontier.Goals as goal
 
 pub returns-then-line-cap : goal.returns-then-line-cap

@@ -2,10 +2,6 @@
 -- HEAD-END
 use mathlib.Core.Path.{sym, ◌∙◌}
 use Rattle.frontier.specs.Bits.{add_hidden}
-use borrow.Author.Rules.{rules}
-use Rattle.frontier.proofs.bits.add_hidden.Reads as reads
-use Rattle.hashtable.proofs.marks.has_hidden.Reads as has-hidden-reads
-use Rattle.hashtable.proofs.marks.with_hidden.Reads as with-hidden-reads
 use Rattle.frontier.proofs.bits.add_hidden.Goals as goal
 
 -- src/bits.rt:30:1

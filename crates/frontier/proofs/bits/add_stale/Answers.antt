@@ -2,10 +2,6 @@
 -- HEAD-END
 use mathlib.Core.Path.{sym, ◌∙◌}
 use Rattle.frontier.specs.Bits.{add_stale}
-use borrow.Author.Rules.{rules}
-use Rattle.frontier.proofs.bits.add_stale.Reads as reads
-use Rattle.hashtable.proofs.marks.has_stale.Reads as has-stale-reads
-use Rattle.hashtable.proofs.marks.with_stale.Reads as with-stale-reads
 use Rattle.frontier.proofs.bits.add_stale.Goals as goal
 
 -- src/bits.rt:36:1

@@ -2,10 +2,6 @@
 -- HEAD-END
 use mathlib.Core.Path.{sym, ◌∙◌}
 use Rattle.frontier.specs.Bits.{add_visible}
-use borrow.Author.Rules.{rules}
-use Rattle.frontier.proofs.bits.add_visible.Reads as reads
-use Rattle.hashtable.proofs.marks.has_visible.Reads as has-visible-reads
-use Rattle.hashtable.proofs.marks.with_visible.Reads as with-visible-reads
 use Rattle.frontier.proofs.bits.add_visible.Goals as goal
 
 -- src/bits.rt:24:1

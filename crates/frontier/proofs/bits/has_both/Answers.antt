@@ -1,10 +1,6 @@
 -- `bits::has_both` meets its contract: the tests are those of the definition. Assumes nothing.
 -- HEAD-END
 use mathlib.Core.Path.{sym, ◌∙◌}
-use borrow.Author.Rules.{rules}
-use Rattle.frontier.proofs.bits.has_both.Reads as reads
-use Rattle.hashtable.proofs.marks.has_hidden.Reads as has-hidden-reads
-use Rattle.hashtable.proofs.marks.has_visible.Reads as has-visible-reads
 use Rattle.frontier.proofs.bits.has_both.Goals as goal
 
 -- src/bits.rt:72:1

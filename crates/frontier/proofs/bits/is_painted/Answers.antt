@@ -2,11 +2,6 @@
 -- HEAD-END
 use mathlib.Core.Path.{sym, ◌∙◌}
 use Rattle.frontier.specs.Bits.{is_painted}
-use borrow.Author.Rules.{rules}
-use Rattle.frontier.proofs.bits.is_painted.Reads as reads
-use Rattle.hashtable.proofs.marks.has_hidden.Reads as has-hidden-reads
-use Rattle.hashtable.proofs.marks.has_stale.Reads as has-stale-reads
-use Rattle.hashtable.proofs.marks.has_visible.Reads as has-visible-reads
 use Rattle.frontier.proofs.bits.is_painted.Goals as goal
 
 -- src/bits.rt:16:9

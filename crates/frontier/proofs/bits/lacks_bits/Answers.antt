@@ -3,12 +3,6 @@
 use mathlib.Core.Path.{sym, ◌∙◌}
 use Rattle.frontier.specs.Bits.{lacks_bits}
 use Rattle.frontier.proofs.PaintBits.{told}
-use borrow.Author.Rules.{rules}
-use Rattle.frontier.proofs.bits.lacks_bits.Reads as reads
-use Rattle.frontier.proofs.bits.is_missing.Reads as is-missing-reads
-use Rattle.hashtable.proofs.marks.has_hidden.Reads as has-hidden-reads
-use Rattle.hashtable.proofs.marks.has_stale.Reads as has-stale-reads
-use Rattle.hashtable.proofs.marks.has_visible.Reads as has-visible-reads
 use Rattle.frontier.proofs.bits.lacks_bits.Goals as goal
 
 -- src/bits.rt:63:9

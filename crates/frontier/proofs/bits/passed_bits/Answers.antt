@@ -2,10 +2,6 @@
 -- HEAD-END
 use mathlib.Core.Path.{sym, ◌∙◌}
 use Rattle.frontier.specs.Bits.{passed_bits}
-use borrow.Author.Rules.{rules}
-use Rattle.frontier.proofs.bits.passed_bits.Reads as reads
-use Rattle.frontier.proofs.bits.has_both.Reads as has-both-reads
-use Rattle.hashtable.proofs.marks.with_stale.Reads as with-stale-reads
 use Rattle.frontier.proofs.bits.passed_bits.Goals as goal
 
 -- src/bits.rt:79:1

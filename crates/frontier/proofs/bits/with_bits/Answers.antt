@@ -1,14 +1,8 @@
 -- `bits::with_bits` meets its contract: bit by bit, as in the definition. Assumes nothing.
 -- HEAD-END
-use mathlib.Core.Path.{sym, ◌∙◌}
+use mathlib.Core.Path.{◌∙◌}
 use mathlib.Core.Path.{ap}
 use Rattle.frontier.specs.Bits.{with_bits, add_hidden, add_stale}
-use Prim.Native.Nat.{ℕ}
-use borrow.Author.Rules.{rules}
-use Rattle.frontier.proofs.bits.with_bits.Reads as reads
-use Rattle.frontier.proofs.bits.add_hidden.Reads as add-hidden-reads
-use Rattle.frontier.proofs.bits.add_stale.Reads as add-stale-reads
-use Rattle.frontier.proofs.bits.add_visible.Reads as add-visible-reads
 use Rattle.frontier.proofs.bits.with_bits.Goals as goal
 
 -- src/bits.rt:43:1

@@ -1,7 +1,6 @@
 -- `lists::id_in` meets its contract: the id in the slot, by value. Assumes nothing.
 use mathlib.Core.Path.{◌∙◌, ap}
 use Rattle.object.specs.Ids.{padded}
-use borrow.Author.Rules.{rules}
 use Rattle.frontier.proofs.lists.id_in.Goals as goal
 
 pub returns : goal.returns

@@ -1,6 +1,5 @@
 -- `lists::is_lacking` meets its contract: the mark of the slot that holds the id is the id's, and an id without a slot has none. Assumes nothing.
 use Rattle.frontier.proofs.Steps.{lacks-found, lacks-vacant, lacks-full}
-use borrow.Author.Rules.{rules}
 use Rattle.frontier.proofs.lists.is_lacking.Goals as goal
 
 pub returns-in-Found : goal.returns-in-Found

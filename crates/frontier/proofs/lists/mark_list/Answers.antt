@@ -1,15 +1,13 @@
 -- `lists::mark_list` meets its contract: after i turns the memory reads as the painting of the first i ids. What is left of the list grows shorter. Assumes nothing.
 use mathlib.Core.Path.{sym, ap, ◌∙◌}
 use native.Mathlib.Omega.{arith}
-use Prim.Native.Nat.{◌-◌, ◌/◌, ◌<◌}
+use Prim.Native.Nat.{◌/◌, ◌<◌}
 use lib.ListN.{length}
 use Rattle.walk.specs.Opening.{list_ids}
 use Rattle.walk.specs.Painting.{mark, mark_all}
 use Rattle.walk.proofs.Whole.{length_list}
-use Rattle.frontier.specs.Paint.{lent}
 use Rattle.reading.proofs.IdLists.{list_at, list-width}
-use Rattle.frontier.proofs.Steps.{Turning, on-first, on-next, on-last, mark_all_nil, mark_all_snoc}
-use borrow.Author.Rules.{rules}
+use Rattle.frontier.proofs.Steps.{on-first, on-next, on-last, mark_all_nil, mark_all_snoc}
 use Rattle.hash.specs.Bytes.{width_of}
 use Rattle.frontier.proofs.lists.mark_list.Goals as goal
 
@@ -22,7 +20,7 @@ loop-i-preserved c = let l = c in
     let n = c.id_count-n.ensures in
     let h : l.loop-i.i < length b / width_of c.args.kind = omega (arith, n, c.loop-i-test.true) in
     let e = c.nth-id.ensures in
-    on-next (width_of c.args.kind) mark mark_all mark_all_nil mark_all_snoc l.loop-i.invariant c.loop-i-test.true (n ∙ sym (length_list (width_of c.args.kind) b)) (ap length e ∙ list-width (width_of c.args.kind) b l.loop-i.i h) (e ∙ list_at (width_of c.args.kind) b l.loop-i.i h) (record { names = c.mark_next-r.auto.1.0; marks = c.mark_next-r.auto.1.1.0; levels = c.mark_next-r.auto.1.1.1.0; times = c.mark_next-r.auto.1.1.1.1.0; line = c.mark_next-r.auto.1.1.1.1.1.0 }) c.mark_next-r.ensures
+    on-next (width_of c.args.kind) mark mark_all mark_all_nil mark_all_snoc l.loop-i.invariant c.loop-i-test.true (n ∙ sym (length_list (width_of c.args.kind) b)) (ap length e ∙ list-width (width_of c.args.kind) b l.loop-i.i h) (e ∙ list_at (width_of c.args.kind) b l.loop-i.i h) (record { names = c.mark_next-r.auto.names; marks = c.mark_next-r.auto.marks; levels = c.mark_next-r.auto.levels; times = c.mark_next-r.auto.times; line = c.mark_next-r.auto.line }) c.mark_next-r.ensures
 
 pub shape_of-names : goal.shape_of-names
 shape_of-names c = c.loop-i.invariant.long.names

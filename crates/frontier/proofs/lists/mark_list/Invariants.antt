@@ -1,15 +1,9 @@
 -- `lists::mark_list` meets its contract: after i turns the memory reads as the painting of the first i ids. What is left of the list grows shorter. Assumes nothing.
-use mathlib.Core.Path.{sym, ap, ◌∙◌}
-use native.Mathlib.Omega.{arith}
-use Prim.Native.Nat.{◌-◌, ◌/◌, ◌<◌}
-use lib.ListN.{length}
+use Prim.Native.Nat.{◌-◌}
 use Rattle.walk.specs.Opening.{list_ids}
-use Rattle.walk.specs.Painting.{mark, mark_all}
-use Rattle.walk.proofs.Whole.{length_list}
+use Rattle.walk.specs.Painting.{mark_all}
 use Rattle.frontier.specs.Paint.{lent}
-use Rattle.reading.proofs.IdLists.{list_at, list-width}
-use Rattle.frontier.proofs.Steps.{Turning, on-first, on-next, on-last, mark_all_nil, mark_all_snoc}
-use borrow.Author.Rules.{rules}
+use Rattle.frontier.proofs.Steps.{Turning}
 use Rattle.hash.specs.Bytes.{width_of}
 use Rattle.frontier.proofs.lists.mark_list.Given as goal
 

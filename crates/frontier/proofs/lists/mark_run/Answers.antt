@@ -1,14 +1,11 @@
 -- `lists::mark_run` meets its contract: after i turns the memory reads as the painting of the commits in the first i slots. What is left of them grows fewer. Assumes nothing.
-use mathlib.Core.Path.{sym, ap, ◌∙◌}
-use Prim.Native.Nat.{◌-◌}
+use mathlib.Core.Path.{ap, ◌∙◌}
 use native.Mathlib.Omega.{arith}
-use Rattle.frontier.specs.Paint.{lent}
 use lib.ListN.{length}
 use Rattle.object.specs.Ids.{id_in}
 use Rattle.object.proofs.IdBytes.{padded_length}
 use Rattle.reading.proofs.ByValue.{id_in-kind}
-use Rattle.frontier.proofs.Runs.{Running, running_first, running_next, running_last}
-use borrow.Author.Rules.{rules}
+use Rattle.frontier.proofs.Runs.{running_first, running_next, running_last}
 use Rattle.hash.specs.Bytes.{width_of}
 use Rattle.frontier.proofs.lists.mark_run.Goals as goal
 
@@ -20,7 +17,7 @@ overflow_add-i c = omega (arith, c.ranges.n)
 
 pub loop-i-preserved : goal.loop-i-preserved
 loop-i-preserved c = let l = c in
-    running_next c.slot_after-slot.result l.loop-i.invariant c.loop-i-test.true c.slot_after-slot.ensures (c.id_slice.ensures ∙ ap (id_in _) c.id_in-id.ensures) (ap length (c.id_slice.ensures ∙ ap (id_in _) c.id_in-id.ensures) ∙ id_in-kind c.args.kind _ (padded_length _)) (record { names = c.mark_next-r.auto.1.0; marks = c.mark_next-r.auto.1.1.0; levels = c.mark_next-r.auto.1.1.1.0; times = c.mark_next-r.auto.1.1.1.1.0; line = c.mark_next-r.auto.1.1.1.1.1.0 }) c.mark_next-r.ensures
+    running_next c.slot_after-slot.result l.loop-i.invariant c.loop-i-test.true c.slot_after-slot.ensures (c.id_slice.ensures ∙ ap (id_in _) c.id_in-id.ensures) (ap length (c.id_slice.ensures ∙ ap (id_in _) c.id_in-id.ensures) ∙ id_in-kind c.args.kind _ (padded_length _)) (record { names = c.mark_next-r.auto.names; marks = c.mark_next-r.auto.marks; levels = c.mark_next-r.auto.levels; times = c.mark_next-r.auto.times; line = c.mark_next-r.auto.line }) c.mark_next-r.ensures
 
 pub shape_of-names : goal.shape_of-names
 shape_of-names c = c.loop-i.invariant.long.names

@@ -1,14 +1,7 @@
 -- `lists::mark_run` meets its contract: after i turns the memory reads as the painting of the commits in the first i slots. What is left of them grows fewer. Assumes nothing.
-use mathlib.Core.Path.{sym, ap, ◌∙◌}
 use Prim.Native.Nat.{◌-◌}
-use native.Mathlib.Omega.{arith}
 use Rattle.frontier.specs.Paint.{lent}
-use lib.ListN.{length}
-use Rattle.object.specs.Ids.{id_in}
-use Rattle.object.proofs.IdBytes.{padded_length}
-use Rattle.reading.proofs.ByValue.{id_in-kind}
-use Rattle.frontier.proofs.Runs.{Running, running_first, running_next, running_last}
-use borrow.Author.Rules.{rules}
+use Rattle.frontier.proofs.Runs.{Running}
 use Rattle.hash.specs.Bytes.{width_of}
 use Rattle.frontier.proofs.lists.mark_run.Given as goal
 

@@ -1,8 +1,5 @@
 -- `lists::parent_count` meets its contract, case by case. Assumes nothing.
 -- HEAD-END
-use mathlib.Core.Path.{refl}
-use borrow.Author.Rules.{rules}
-use Rattle.frontier.proofs.lists.parent_count.Reads as reads
 use Rattle.frontier.proofs.lists.parent_count.Goals as goal
 
 -- src/lists.rt:108:1

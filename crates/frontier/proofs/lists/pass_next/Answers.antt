@@ -1,9 +1,6 @@
 -- `lists::pass_next` meets its contract: the step is taken where painting goes on. Assumes nothing.
 -- HEAD-END
 use mathlib.Core.Path.{refl}
-use borrow.Author.Rules.{rules}
-use Rattle.frontier.proofs.lists.pass_next.Reads as reads
-use Rattle.frontier.proofs.lists.pass_one.Reads as pass-one-reads
 use Rattle.frontier.proofs.lists.pass_next.Goals as goal
 
 -- src/lists.rt:84:1

@@ -1,7 +1,6 @@
 -- `lists::pass_one` meets its contract: the test is whether a passed mark is lacking, by the slot that gains it then. Assumes nothing.
 use mathlib.Core.Path.{refl}
 use Rattle.frontier.proofs.Steps.{passes-mark, passes_none}
-use borrow.Author.Rules.{rules}
 use Rattle.frontier.proofs.lists.pass_one.Goals as goal
 
 pub returns-then-is_lacking : goal.returns-then-is_lacking

@@ -1,12 +1,9 @@
 -- `lists::pass_to_parents` meets its contract: after i turns the memory reads as the painting with i parents looked at. What is left of the list grows shorter. Assumes nothing.
-use mathlib.Core.Path.{sym, ap, ◌∙◌}
-use Prim.Native.Nat.{◌-◌}
+use mathlib.Core.Path.{ap, ◌∙◌}
 use native.Mathlib.Omega.{arith}
-use Rattle.frontier.specs.Paint.{lent}
 use lib.ListN.{length}
 use Rattle.reading.proofs.ByValue.{id_in-kind, gives_length}
-use Rattle.frontier.proofs.Steps.{Passing, passing_first, passing_next, passing_last}
-use borrow.Author.Rules.{rules}
+use Rattle.frontier.proofs.Steps.{passing_first, passing_next, passing_last}
 use Rattle.hash.specs.Bytes.{width_of}
 use Rattle.frontier.proofs.lists.pass_to_parents.Goals as goal
 
@@ -15,7 +12,7 @@ loop-i-init c = let x = c.args in passing_first (width_of x.kind) x.cache x.grap
 
 pub loop-i-preserved : goal.loop-i-preserved
 loop-i-preserved c = let n = c.parent_count-n.ensures in
-    passing_next c.loop-i.invariant (omega (arith, n, c.loop-i-test.true)) c.id_slice.ensures (ap length c.id_slice.ensures ∙ id_in-kind c.args.kind _ (gives_length _ c.parent_of-id.ensures)) c.parent_of-id.ensures (record { names = c.pass_next-r.auto.1.0; marks = c.pass_next-r.auto.1.1.0; levels = c.pass_next-r.auto.1.1.1.0; times = c.pass_next-r.auto.1.1.1.1.0; line = c.pass_next-r.auto.1.1.1.1.1.0 }) c.pass_next-r.ensures
+    passing_next c.loop-i.invariant (omega (arith, n, c.loop-i-test.true)) c.id_slice.ensures (ap length c.id_slice.ensures ∙ id_in-kind c.args.kind _ (gives_length _ c.parent_of-id.ensures)) c.parent_of-id.ensures (record { names = c.pass_next-r.auto.names; marks = c.pass_next-r.auto.marks; levels = c.pass_next-r.auto.levels; times = c.pass_next-r.auto.times; line = c.pass_next-r.auto.line }) c.pass_next-r.ensures
 
 pub shape_of-names : goal.shape_of-names
 shape_of-names c = c.loop-i.invariant.long.names

@@ -1,12 +1,7 @@
 -- `lists::pass_to_parents` meets its contract: after i turns the memory reads as the painting with i parents looked at. What is left of the list grows shorter. Assumes nothing.
-use mathlib.Core.Path.{sym, ap, ◌∙◌}
 use Prim.Native.Nat.{◌-◌}
-use native.Mathlib.Omega.{arith}
 use Rattle.frontier.specs.Paint.{lent}
-use lib.ListN.{length}
-use Rattle.reading.proofs.ByValue.{id_in-kind, gives_length}
-use Rattle.frontier.proofs.Steps.{Passing, passing_first, passing_next, passing_last}
-use borrow.Author.Rules.{rules}
+use Rattle.frontier.proofs.Steps.{Passing}
 use Rattle.hash.specs.Bytes.{width_of}
 use Rattle.frontier.proofs.lists.pass_to_parents.Given as goal
 

@@ -3,8 +3,6 @@
 use mathlib.Core.Path.{sym}
 use native.Mathlib.Omega.{arith}
 use lib.ListN.{get_or-eq_default}
-use borrow.Author.Rules.{rules}
-use Rattle.frontier.proofs.lists.slot_after.Reads as reads
 use Rattle.frontier.proofs.lists.slot_after.Goals as goal
 
 -- src/lists.rt:64:9

@@ -1,10 +1,6 @@
 -- `marking::learn` meets its contract: the pair that was read is the one set down. Assumes nothing.
 -- HEAD-END
 use Rattle.frontier.proofs.MarkAnswers.{learned-row, learned-body, not-learned}
-use borrow.Author.Rules.{rules}
-use Rattle.frontier.proofs.marking.learn.Reads as reads
-use Rattle.frontier.proofs.slots.set_pair.Reads as set-pair-reads
-use Rattle.reading.proofs.read_commit.Reads as read-commit-reads
 use Rattle.frontier.proofs.marking.learn.Goals as goal
 
 -- src/marking.rt:28:1

@@ -1,9 +1,6 @@
 -- `marking::mark_next` meets its contract: the step is taken where painting goes on. Assumes nothing.
 -- HEAD-END
 use mathlib.Core.Path.{refl}
-use borrow.Author.Rules.{rules}
-use Rattle.frontier.proofs.marking.mark_next.Reads as reads
-use Rattle.frontier.proofs.marking.mark_one.Reads as mark-one-reads
 use Rattle.frontier.proofs.marking.mark_next.Goals as goal
 
 -- src/marking.rt:102:1

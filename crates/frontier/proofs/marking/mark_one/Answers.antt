@@ -1,5 +1,4 @@
 -- `marking::mark_one` meets its contract: the slot is the one that the search answered. Assumes nothing.
-use borrow.Author.Rules.{rules}
 use Rattle.frontier.proofs.marking.mark_one.Goals as goal
 
 pub returns : goal.returns

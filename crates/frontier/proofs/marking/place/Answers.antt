@@ -1,6 +1,5 @@
 -- `marking::place` meets its contract: a commit is read where its slot had no mark of painting's. Assumes nothing.
 use Rattle.frontier.proofs.MarkAnswers.{place-new, place-known, place-full}
-use borrow.Author.Rules.{rules}
 use Rattle.frontier.proofs.marking.place.Goals as goal
 
 pub returns-in-New : goal.returns-in-New

@@ -1,6 +1,5 @@
 -- `marking::queue_added` meets its contract: the slot has gained the marks and is queued, and what that makes of the memory is a law. Assumes nothing.
 use Rattle.frontier.proofs.MarkAnswers.{marks-at, marks-unread, marks-none}
-use borrow.Author.Rules.{rules}
 use Rattle.frontier.proofs.marking.queue_added.Goals as goal
 
 pub returns-in-At : goal.returns-in-At

@@ -1,9 +1,6 @@
 -- `marking::queue_slot` meets its contract: a queue with room says that it took the slot. Assumes nothing.
 -- HEAD-END
 use Rattle.frontier.proofs.MarkAnswers.{was-queued, not-queued}
-use borrow.Author.Rules.{rules}
-use Rattle.frontier.proofs.marking.queue_slot.Reads as reads
-use Rattle.pending.proofs.push.Reads as push-reads
 use Rattle.frontier.proofs.marking.queue_slot.Goals as goal
 
 -- src/marking.rt:69:1

@@ -5,7 +5,6 @@ use lib.ListN.{length, drop}
 use Rattle.hash.specs.Bytes.{width_of}
 use Rattle.object.specs.Header.{parent_lines, most}
 use Rattle.reading.specs.declared.Commit.TheVariants.{Body}
-use borrow.Author.Rules.{rules}
 use Rattle.frontier.proofs.parents.body_parents.Goals as goal
 
 pub returns : goal.returns

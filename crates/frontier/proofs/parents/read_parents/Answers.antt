@@ -2,7 +2,6 @@
 use mathlib.Core.Path.{refl, sym, ◌∙◌}
 use Rattle.commit.proofs.Parts.{found-slice}
 use Rattle.frontier.proofs.ReadAgain.{found-again, body_lines}
-use borrow.Author.Rules.{rules}
 use Rattle.frontier.proofs.parents.read_parents.Goals as goal
 
 pub returns-in-CachedCommit : goal.returns-in-CachedCommit

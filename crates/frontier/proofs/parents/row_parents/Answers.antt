@@ -4,7 +4,6 @@ use Rattle.commitgraph.specs.Graph.{parents_in}
 use Rattle.walk.specs.declared.GenThenTime.{GenThenTime}
 use Rattle.reading.proofs.Whole.{row-good, row-bad}
 use Rattle.frontier.specs.Parents.{no_pair}
-use borrow.Author.Rules.{rules}
 use Rattle.frontier.proofs.parents.row_parents.Goals as goal
 
 pub returns-in-Good : goal.returns-in-Good

@@ -1,13 +1,8 @@
 -- `prepare::visible_inputs_sorted` meets its contract: after i turns the first i slots of the queue's places stand by rising id. What is left of them grows fewer. Assumes nothing.
 -- HEAD-END
-use mathlib.Core.Path.{◌≡◌, refl}
+use mathlib.Core.Path.{◌≡◌}
 use Prim.Native.Nat.{◌-◌}
-use native.Mathlib.Omega.{arith}
-use Rattle.frontier.proofs.Collect.{Collecting, collect_first, collect_next, collect_last}
-use borrow.Author.Rules.{rules}
-use Rattle.frontier.proofs.prepare.visible_inputs_sorted.Reads as reads
-use Rattle.pending.proofs.insert_by_id.Reads as insert-by-id-reads
-use Rattle.revwalk.proofs.queue.slot_at.Reads as slot-at-reads
+use Rattle.frontier.proofs.Collect.{Collecting}
 use Rattle.hash.specs.Bytes.{width_of}
 use Rattle.frontier.proofs.prepare.visible_inputs_sorted.Given as goal
 

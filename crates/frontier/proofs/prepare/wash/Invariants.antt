@@ -1,14 +1,9 @@
 -- `prepare::wash` meets its contract: after n turns the first n marks lack painting's bits and the others are as they were. Assumes nothing.
 -- HEAD-END
-use mathlib.Core.Path.{◌≡◌, refl, ◌∙◌, ap}
-use Prim.Native.Nat.{ℕ, ◌-◌, ◌≤◌}
-use native.Mathlib.Omega.{arith}
-use native.Mathlib.Numerals.{add-one}
-use lib.ListN.{length, length-set}
+use mathlib.Core.Path.{◌≡◌}
+use Prim.Native.Nat.{◌-◌, ◌≤◌}
+use lib.ListN.{length}
 use Rattle.frontier.specs.Prepare.{washed}
-use Rattle.frontier.proofs.Wash.{washed-more, washed-all}
-use borrow.Author.Rules.{rules}
-use Rattle.frontier.proofs.prepare.wash.Reads as reads
 use Rattle.frontier.proofs.prepare.wash.Given as goal
 
 abbrev pub invariant-loop-slot : goal.invariant-loop-slot

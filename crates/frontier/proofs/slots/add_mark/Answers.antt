@@ -1,6 +1,5 @@
 -- `slots::add_mark` meets its contract: what the search answered says which slot the id has, and whether it is new. Assumes nothing.
 use Rattle.frontier.proofs.Gains.{as-found, as-vacant, as-full}
-use borrow.Author.Rules.{rules}
 use Rattle.frontier.proofs.slots.add_mark.Goals as goal
 
 pub returns-in-Found : goal.returns-in-Found

@@ -1,16 +1,9 @@
 -- `slots::raise` meets its contract: the mark is read before it is set. Assumes nothing.
 -- HEAD-END
-use mathlib.Core.Path.{sym, ◌∙◌, ap}
+use mathlib.Core.Path.{◌∙◌, ap}
 use Prim.Native.Nat.{ℕ}
-use mathlib.Core.List.{List}
 use lib.ListN.{set}
 use Rattle.frontier.specs.Bits.{is_painted, with_bits}
-use borrow.Author.Rules.{rules}
-use Rattle.frontier.proofs.slots.raise.Reads as reads
-use Rattle.frontier.proofs.bits.is_painted.Reads as is-painted-reads
-use Rattle.frontier.proofs.bits.with_bits.Reads as with-bits-reads
-use Rattle.hashtable.proofs.table.mark_of.Reads as mark-of-reads
-use Rattle.hashtable.proofs.table.set_mark.Reads as set-mark-reads
 use Rattle.frontier.proofs.slots.raise.Goals as goal
 
 -- src/slots.rt:36:1

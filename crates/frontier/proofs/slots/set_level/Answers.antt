@@ -1,10 +1,8 @@
 -- `slots::set_level` meets its contract: a store past the end changes nothing. Assumes nothing.
 -- HEAD-END
-use mathlib.Core.Path.{sym, ◌∙◌, ap}
+use mathlib.Core.Path.{sym}
 use native.Mathlib.Omega.{arith}
 use lib.Seq.{set_out}
-use borrow.Author.Rules.{rules}
-use Rattle.frontier.proofs.slots.set_level.Reads as reads
 use Rattle.frontier.proofs.slots.set_level.Goals as goal
 
 -- src/slots.rt:57:1

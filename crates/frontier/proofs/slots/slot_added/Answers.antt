@@ -1,11 +1,7 @@
 -- `slots::slot_added` meets its contract: the slot number is below the bound, so it is kept. Assumes nothing.
 -- HEAD-END
-use mathlib.Core.Path.{sym, ◌∙◌, ap}
-use mathlib.Core.Bool.{Bool, true, false}
+use mathlib.Core.Path.{ap}
 use Rattle.frontier.specs.declared.slots.Added.TheVariants.{New, Known}
-use borrow.Author.Rules.{rules}
-use Rattle.frontier.proofs.slots.slot_added.Reads as reads
-use Rattle.frontier.proofs.slots.narrow.Reads as narrow-reads
 use Rattle.frontier.proofs.slots.slot_added.Goals as goal
 
 -- src/slots.rt:28:1

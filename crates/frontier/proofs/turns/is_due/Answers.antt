@@ -1,10 +1,6 @@
 -- `turns::is_due` meets its contract, case by case. Assumes nothing.
 -- HEAD-END
-use mathlib.Core.Path.{◌≡◌, sym, ◌∙◌}
 use borrow.Author.Tests.{lt-ltb, le-ltb}
-use borrow.Author.Rules.{rules}
-use Rattle.frontier.proofs.turns.is_due.Reads as reads
-use Rattle.pending.proofs.any_lacking.Reads as any-lacking-reads
 use Rattle.frontier.proofs.turns.is_due.Goals as goal
 
 -- src/turns.rt:70:17

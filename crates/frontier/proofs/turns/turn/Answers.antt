@@ -1,6 +1,5 @@
 -- `turns::turn` meets its contract: the slot that leaves has the first commit of the queue, and what it passes are that commit's marks. Assumes nothing.
 use Rattle.frontier.proofs.TurnLaws.{turn-some, turn-none}
-use borrow.Author.Rules.{rules}
 use Rattle.frontier.proofs.turns.turn.Goals as goal
 
 pub returns-then-t : goal.returns-then-t

@@ -1,9 +1,6 @@
 -- `turns::turn_next` meets its contract: a turn is taken where painting goes on. Assumes nothing.
 -- HEAD-END
 use mathlib.Core.Path.{refl}
-use borrow.Author.Rules.{rules}
-use Rattle.frontier.proofs.turns.turn_next.Reads as reads
-use Rattle.frontier.proofs.turns.turn.Reads as turn-reads
 use Rattle.frontier.proofs.turns.turn_next.Goals as goal
 
 -- src/turns.rt:42:1

@@ -1,13 +1,7 @@
 -- `turns::turns` meets its contract: the memory reads as the painting after the turns that were taken, and once none is due more change nothing. The number of turns left falls. Assumes nothing.
 -- HEAD-END
-use mathlib.Core.Path.{sym, ◌∙◌}
 use native.Mathlib.Omega.{arith}
-use Rattle.frontier.specs.Paint.{lent}
-use Rattle.frontier.proofs.TurnLaws.{Taking, taking_first, taking_next, taking_last, taking_left}
-use borrow.Author.Rules.{rules}
-use Rattle.frontier.proofs.turns.turns.Reads as reads
-use Rattle.frontier.proofs.turns.is_due.Reads as is-due-reads
-use Rattle.frontier.proofs.turns.turn_next.Reads as turn-next-reads
+use Rattle.frontier.proofs.TurnLaws.{taking_first, taking_next, taking_last, taking_left}
 use Rattle.hash.specs.Bytes.{width_of}
 use Rattle.frontier.proofs.turns.turns.Goals as goal
 
@@ -25,7 +19,7 @@ loop-due-smaller c = omega (arith, taking_left c.loop-due.invariant c.loop-due-t
 
 -- src/turns.rt:98:5
 pub loop-due-preserved : goal.loop-due-preserved
-loop-due-preserved c = taking_next c.loop-due.invariant c.loop-due-test.true (record { names = c.turn_next-r.auto.1.0; marks = c.turn_next-r.auto.1.1.0; levels = c.turn_next-r.auto.1.1.1.0; times = c.turn_next-r.auto.1.1.1.1.0; line = c.turn_next-r.auto.1.1.1.1.1.0 }) c.turn_next-r.ensures c.is_due-due-in-loop-due.ensures
+loop-due-preserved c = taking_next c.loop-due.invariant c.loop-due-test.true (record { names = c.turn_next-r.auto.names; marks = c.turn_next-r.auto.marks; levels = c.turn_next-r.auto.levels; times = c.turn_next-r.auto.times; line = c.turn_next-r.auto.line }) c.turn_next-r.ensures c.is_due-due-in-loop-due.ensures
 
 -- src/turns.rt:80:1
 pub shape_of-names : goal.shape_of-names

@@ -1,16 +1,9 @@
 -- `graphwrite::parts::put_front` meets its contract: the rows of the table stand one after another. Assumes nothing.
-use Prim.Native.Nat.{◌-◌}
 use native.Mathlib.Omega.{arith}
 use Rattle.hash.specs.Bytes.{width_of}
 use Rattle.commitgraph.specs.Graph.{hash_version}
 use Rattle.hash.proofs.Widths.{times-most}
 use Rattle.graphbytes.proofs.Fronts.{front_laid}
-use borrow.Author.Rules.{rules}
-use Rattle.graphwrite.proofs.parts.put_front.Reads as reads
-use Rattle.graphbytes.proofs.put_chunk.Reads as put-chunk-reads
-use Rattle.graphwrite.proofs.parts.version.Reads as version-reads
-use Rattle.hash.proofs.set_down.Reads as set-down-reads
-use Rattle.hash.proofs.width.Reads as width-reads
 use Rattle.graphwrite.proofs.parts.put_front.Goals as goal
 
 pub overflow_mul-width : goal.overflow_mul-width

@@ -1,13 +1,7 @@
 -- `graphwrite::parts::write_front` meets its contract: without entries of EDGE the table has three chunks, else four. Assumes nothing.
-use Prim.Native.Nat.{◌-◌}
 use Rattle.hash.specs.Bytes.{width_of}
 use Rattle.commitgraph.specs.Graph.{hash_version}
 use Rattle.graphbytes.proofs.Fronts.{three_laid, four_laid}
-use borrow.Author.Rules.{rules}
-use Rattle.graphwrite.proofs.parts.write_front.Reads as reads
-use Rattle.graphbytes.proofs.put_chunk.Reads as put-chunk-reads
-use Rattle.graphwrite.proofs.parts.put_front.Reads as put-front-reads
-use Rattle.graphwrite.proofs.rows_end.Reads as rows-end-reads
 use Rattle.graphwrite.proofs.parts.write_front.Goals as goal
 
 pub returns-then-e-eq0 : goal.returns-then-e-eq0

@@ -1,6 +1,6 @@
 -- `graphwrite::parts::write_ids` meets its contract: after k ids the first k parts stand there. Assumes nothing.
-use mathlib.Core.Path.{◌≡◌, refl, ◌∙◌, ap}
-use Prim.Native.Nat.{ℕ, ◌+◌, ◌*◌, ◌-◌, ◌≤◌}
+use mathlib.Core.Path.{refl, ◌∙◌, ap}
+use Prim.Native.Nat.{ℕ, ◌+◌, ◌*◌, ◌≤◌}
 use native.Mathlib.Omega.{arith}
 use lib.ListN.{length}
 use Rattle.hash.specs.Bytes.{width_of}
@@ -8,12 +8,8 @@ use borrow.Author.Rules.{rules}
 use Rattle.hash.proofs.Widths.{apart}
 use Rattle.graphfile.specs.GraphFile.{ids_in}
 use Rattle.graphplan.specs.StoreRows.{rows_of}
-use Rattle.graphbytes.proofs.Fill.{Filled, fill_none, fill_next, fill_all}
+use Rattle.graphbytes.proofs.Fill.{fill_none, fill_next, fill_all}
 use Rattle.graphplan.proofs.Wides.{wide-ids, id-part, ids-many}
-use Rattle.graphwrite.proofs.parts.write_ids.Reads as reads
-use Rattle.hash.proofs.set_down.Reads as set-down-reads
-use Rattle.hash.proofs.width.Reads as width-reads
-use Rattle.odb.proofs.entry_id.Reads as entry-id-reads
 use Rattle.graphwrite.proofs.parts.write_ids.Goals as goal
 
 pub loop-k-init : goal.loop-k-init

@@ -1,6 +1,5 @@
 -- `graphwrite::rows::edge_of` meets its contract: the last of the list has the top bit. Assumes nothing.
 use mathlib.Core.Path.{sym, ◌∙◌}
-use Prim.Native.Nat.{◌-◌}
 use native.Mathlib.Omega.{arith}
 use Rattle.hash.specs.Bytes.{width_of}
 use Rattle.graphplan.specs.StoreRows.{row_of}
@@ -8,9 +7,6 @@ use Rattle.graphplan.proofs.Planning.{few-entries}
 use Rattle.hash.proofs.Widths.{width_least}
 use Rattle.graphplan.proofs.StoreLinks.{number_read, number-low}
 use Rattle.graphbytes.proofs.Lists.{edge_last, edge_more}
-use borrow.Author.Rules.{rules}
-use Rattle.graphwrite.proofs.rows.edge_of.Reads as reads
-use Rattle.levels.proofs.parent_at.Reads as parent-at-reads
 use Rattle.graphwrite.proofs.rows.edge_of.Goals as goal
 
 pub overflow_add-result : goal.overflow_add-result

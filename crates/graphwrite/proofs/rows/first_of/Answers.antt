@@ -1,15 +1,12 @@
 -- `graphwrite::rows::first_of` meets its contract: the number of parents decides. Assumes nothing.
 use mathlib.Core.Path.{sym, ◌∙◌}
-use Prim.Native.Nat.{◌-◌, ◌<◌}
+use Prim.Native.Nat.{◌<◌}
 use native.Mathlib.Omega.{arith}
 use lib.ListN.{length}
 use Rattle.hash.specs.Bytes.{width_of}
 use Rattle.graphplan.specs.StoreRows.{row_of}
 use Rattle.graphplan.proofs.StoreLinks.{number_read}
 use Rattle.graphbytes.proofs.Lists.{first-none, first_some}
-use borrow.Author.Rules.{rules}
-use Rattle.graphwrite.proofs.rows.first_of.Reads as reads
-use Rattle.levels.proofs.parent_at.Reads as parent-at-reads
 use Rattle.graphwrite.proofs.rows.first_of.Goals as goal
 
 pub returns-then-c-eq0 : goal.returns-then-c-eq0

@@ -1,6 +1,6 @@
 -- `graphwrite::rows::put_row` meets its contract: the tree, the two parents, the level and the seconds stand one after another. Assumes nothing.
 use mathlib.Core.Path.{sym, ◌∙◌, ap}
-use Prim.Native.Nat.{◌+◌, ◌-◌, ◌≤◌}
+use Prim.Native.Nat.{◌+◌, ◌≤◌}
 use native.Mathlib.Omega.{arith}
 use lib.ListN.{length}
 use Rattle.hash.specs.Bytes.{width_of}
@@ -13,15 +13,6 @@ use Rattle.graphplan.proofs.RowLaws.{entry-edges}
 use Rattle.graphplan.proofs.Wides.{row-tree-long, readable-at}
 use Rattle.graphplan.proofs.StoreLinks.{parents-count}
 use Rattle.graphbytes.proofs.Lists.{row_laid}
-use Rattle.graphwrite.proofs.rows.put_row.Reads as reads
-use Rattle.graphbytes.proofs.put_four.Reads as put-four-reads
-use Rattle.graphplan.proofs.entry.edges_of.Reads as edges-of-reads
-use Rattle.graphwrite.proofs.rows.first_of.Reads as first-of-reads
-use Rattle.graphplan.proofs.entry.head_of.Reads as head-of-reads
-use Rattle.graphplan.proofs.entry.level_at.Reads as level-at-reads
-use Rattle.graphwrite.proofs.rows.put_tree.Reads as put-tree-reads
-use Rattle.graphwrite.proofs.rows.second_of.Reads as second-of-reads
-use Rattle.hash.proofs.width.Reads as width-reads
 use Rattle.graphwrite.proofs.rows.put_row.Goals as goal
 
 pub put_tree-requires : goal.put_tree-requires

@@ -1,7 +1,7 @@
 -- `graphwrite::rows::put_tree` meets its contract: the tree line names the tree. Assumes nothing.
 use mathlib.Core.Path.{◌∙◌, ap}
 use mathlib.Core.List.{List}
-use Prim.Native.Nat.{ℕ, ◌-◌}
+use Prim.Native.Nat.{ℕ}
 use Rattle.hash.specs.Bytes.{width_of, set_down}
 use Rattle.hash.proofs.Widths.{width-most}
 use Rattle.object.specs.Ids.{id_in}
@@ -9,12 +9,6 @@ use Rattle.object.specs.Read.{tree_id_at}
 use Rattle.object.specs.declared.ParentLine.{ParentLine}
 use Rattle.odb.specs.Lookup.{entry_body}
 use Rattle.graphplan.proofs.Wides.{tree-read}
-use borrow.Author.Rules.{rules}
-use Rattle.graphwrite.proofs.rows.put_tree.Reads as reads
-use Rattle.hash.proofs.set_down.Reads as set-down-reads
-use Rattle.object.proofs.id_slice.Reads as id-slice-reads
-use Rattle.object.proofs.tree_id.Reads as tree-id-reads
-use Rattle.odb.proofs.entry_bytes.Reads as entry-bytes-reads
 use Rattle.graphwrite.proofs.rows.put_tree.Goals as goal
 
 pub returns : goal.returns

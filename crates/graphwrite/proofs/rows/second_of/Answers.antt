@@ -1,14 +1,10 @@
 -- `graphwrite::rows::second_of` meets its contract: the number of parents decides. Assumes nothing.
 use mathlib.Core.Path.{sym, ◌∙◌}
-use Prim.Native.Nat.{◌-◌}
 use native.Mathlib.Omega.{arith}
 use Rattle.hash.specs.Bytes.{width_of}
 use Rattle.graphplan.specs.StoreRows.{row_of}
 use Rattle.graphplan.proofs.StoreLinks.{number_read}
 use Rattle.graphbytes.proofs.Lists.{second_none, second-one, second-list}
-use borrow.Author.Rules.{rules}
-use Rattle.graphwrite.proofs.rows.second_of.Reads as reads
-use Rattle.levels.proofs.parent_at.Reads as parent-at-reads
 use Rattle.graphwrite.proofs.rows.second_of.Goals as goal
 
 pub returns-then-c-lt2 : goal.returns-then-c-lt2

@@ -1,19 +1,16 @@
 -- `graphwrite::rows::write_edges` meets its contract: after k entries the lists of the first k rows stand there. Assumes nothing.
 use mathlib.Core.Path.{◌≡◌, refl, sym, ◌∙◌, ap}
-use Prim.Native.Nat.{◌+◌, ◌*◌, ◌-◌, ◌≤◌, ◌<◌}
+use Prim.Native.Nat.{◌<◌}
 use native.Mathlib.Omega.{arith}
 use lib.ListN.{length}
 use Rattle.hash.specs.Bytes.{width_of}
-use borrow.Author.Rules.{rules}
 use Rattle.graphfile.specs.GraphFile.{Row, row_at, edges_of}
 use Rattle.graphfile.proofs.Pieces.{edges_before}
 use Rattle.graphplan.specs.StoreRows.{row_of, rows_of}
 use Rattle.graphplan.proofs.RowLaws.{length_rows, row-at}
 use Rattle.graphbytes.proofs.Lists.{edges_before_none}
-use Rattle.graphbytes.proofs.Lists.{Listed, listed-none, listed_next, listed-all, before_next_most}
+use Rattle.graphbytes.proofs.Lists.{listed-none, listed_next, listed-all, before_next_most}
 use Rattle.graphplan.proofs.StoreLinks.{edges_step}
-use Rattle.graphwrite.proofs.rows.write_edges.Reads as reads
-use Rattle.graphwrite.proofs.rows.put_edges.Reads as put-edges-reads
 use Rattle.graphwrite.proofs.rows.write_edges.Goals as goal
 
 pub loop-k-init : goal.loop-k-init

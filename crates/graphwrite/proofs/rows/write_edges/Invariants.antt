@@ -1,19 +1,11 @@
 -- `graphwrite::rows::write_edges` meets its contract: after k entries the lists of the first k rows stand there. Assumes nothing.
-use mathlib.Core.Path.{◌≡◌, refl, sym, ◌∙◌, ap}
-use Prim.Native.Nat.{◌+◌, ◌*◌, ◌-◌, ◌≤◌, ◌<◌}
-use native.Mathlib.Omega.{arith}
+use mathlib.Core.Path.{◌≡◌}
+use Prim.Native.Nat.{◌+◌, ◌*◌, ◌-◌, ◌≤◌}
 use lib.ListN.{length}
 use Rattle.hash.specs.Bytes.{width_of}
-use borrow.Author.Rules.{rules}
-use Rattle.graphfile.specs.GraphFile.{Row, row_at, edges_of}
 use Rattle.graphfile.proofs.Pieces.{edges_before}
-use Rattle.graphplan.specs.StoreRows.{row_of, rows_of}
-use Rattle.graphplan.proofs.RowLaws.{length_rows, row-at}
-use Rattle.graphbytes.proofs.Lists.{edges_before_none}
-use Rattle.graphbytes.proofs.Lists.{Listed, listed-none, listed_next, listed-all, before_next_most}
-use Rattle.graphplan.proofs.StoreLinks.{edges_step}
-use Rattle.graphwrite.proofs.rows.write_edges.Reads as reads
-use Rattle.graphwrite.proofs.rows.put_edges.Reads as put-edges-reads
+use Rattle.graphplan.specs.StoreRows.{rows_of}
+use Rattle.graphbytes.proofs.Lists.{Listed}
 use Rattle.graphwrite.proofs.rows.write_edges.Given as goal
 
 abbrev pub invariant-loop-k : goal.invariant-loop-k

@@ -1,6 +1,6 @@
 -- `graphwrite::rows::write_rows` meets its contract: after k rows the first k parts stand there, and e counts their entries of EDGE. Assumes nothing.
-use mathlib.Core.Path.{◌≡◌, refl, sym, ◌∙◌, ap}
-use Prim.Native.Nat.{ℕ, ◌+◌, ◌*◌, ◌-◌, ◌≤◌}
+use mathlib.Core.Path.{refl, sym, ◌∙◌, ap}
+use Prim.Native.Nat.{ℕ, ◌+◌, ◌*◌, ◌≤◌}
 use native.Mathlib.Omega.{arith}
 use lib.ListN.{length}
 use Rattle.hash.specs.Bytes.{width_of}
@@ -12,16 +12,12 @@ use Rattle.commitgraph.specs.Graph.{row_size}
 use Rattle.levels.specs.StoreGraph.{lines_in}
 use Rattle.levels.proofs.Lines.{lines_few}
 use Rattle.graphfile.specs.GraphFile.{data_from, row_bytes}
-use Rattle.graphfile.proofs.Pieces.{edges_before}
 use Rattle.graphplan.proofs.Planning.{few-entries}
 use Rattle.graphplan.proofs.RowLaws.{edges-up_to, edges_few, entry-edges, count-few}
 use Rattle.graphbytes.proofs.Lists.{edges_before_none}
-use Rattle.graphbytes.proofs.Fill.{Filled, fill_none, fill_next, fill_all}
+use Rattle.graphbytes.proofs.Fill.{fill_none, fill_next, fill_all}
 use Rattle.graphplan.proofs.Wides.{wide-data, data-part, data-many}
 use Rattle.graphplan.proofs.StoreLinks.{edges_step}
-use Rattle.graphwrite.proofs.rows.write_rows.Reads as reads
-use Rattle.graphwrite.proofs.rows.put_row.Reads as put-row-reads
-use Rattle.hash.proofs.width.Reads as width-reads
 use Rattle.graphwrite.proofs.rows.write_rows.Goals as goal
 
 pub loop-k-init : goal.loop-k-init

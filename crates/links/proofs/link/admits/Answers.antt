@@ -1,6 +1,5 @@
 -- `links::link::admits` meets its contract: the tests decide in the order of the definition. Assumes nothing.
 use Rattle.links.proofs.Links.{not-admitted, first-admitted, timed-admitted}
-use borrow.Author.Rules.{rules}
 use Rattle.links.proofs.link.admits.Goals as goal
 
 pub returns-then-is_among : goal.returns-then-is_among

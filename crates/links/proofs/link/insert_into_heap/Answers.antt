@@ -1,7 +1,6 @@
 -- `links::link::insert_into_heap` meets its contract: a link that is not admitted changes nothing, and another parent waits in its queue, which is by time. Assumes
 -- nothing.
 use Rattle.links.proofs.Links.{enters-admitted, enters-turned}
-use borrow.Author.Rules.{rules}
 use Rattle.links.proofs.link.insert_into_heap.Goals as goal
 
 pub returns-then-admits : goal.returns-then-admits

@@ -1,6 +1,5 @@
 -- `links::link::insert_into_queue` meets its contract: a link that is not admitted changes nothing, and another parent waits. Assumes nothing.
 use Rattle.links.proofs.Links.{enters-admitted, enters-turned}
-use borrow.Author.Rules.{rules}
 use Rattle.links.proofs.link.insert_into_queue.Goals as goal
 
 pub returns-then-admits : goal.returns-then-admits

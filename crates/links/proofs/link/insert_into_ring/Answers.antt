@@ -2,7 +2,6 @@
 -- nothing.
 use lib.IntN.{pos}
 use Rattle.links.proofs.Links.{enters-admitted, enters-turned}
-use borrow.Author.Rules.{rules}
 use Rattle.links.proofs.link.insert_into_ring.Goals as goal
 
 pub returns-then-admits : goal.returns-then-admits

@@ -6,7 +6,6 @@ use Rattle.hash.specs.Bytes.{width_of}
 use Rattle.hash.proofs.Tests.{clash}
 use Rattle.commitgraph.specs.Graph.{seconds_in}
 use Rattle.links.proofs.Links.{not_true, not_false, sees_as, visits, visits-known}
-use borrow.Author.Rules.{rules}
 use Rattle.links.proofs.link.insert_into_seen_and_next_or_queue.Goals as goal
 
 pub returns-then-not-seen : goal.returns-then-not-seen

@@ -7,7 +7,6 @@ use Rattle.hash.proofs.Tests.{clash}
 use Rattle.walk.specs.Lookup.{world_of, seconds_for}
 use Rattle.reading.proofs.Tips.{seconds-right}
 use Rattle.links.proofs.Links.{not_true, not_false, sees_as, visits, visits-known, enters-admitted, enters-turned}
-use borrow.Author.Rules.{rules}
 use Rattle.links.proofs.link.insert_into_seen_and_next_or_queue_stored.Goals as goal
 
 pub returns-then-not-seen : goal.returns-then-not-seen

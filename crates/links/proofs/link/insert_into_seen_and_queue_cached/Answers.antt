@@ -3,7 +3,6 @@
 use Rattle.commitgraph.specs.Graph.{seconds_in}
 use Rattle.links.proofs.Links.{not_true, not_false}
 use Rattle.links.proofs.Links.{sees_as, visits, visits-known}
-use borrow.Author.Rules.{rules}
 use Rattle.hash.specs.Bytes.{width_of}
 use Rattle.links.proofs.link.insert_into_seen_and_queue_cached.Goals as goal
 
@@ -11,7 +10,7 @@ pub returns-then-not-seen : goal.returns-then-not-seen
 returns-then-not-seen c = let x = c.args in visits-known (sees_as c.with_waiting.ensures c.see-seen.ensures) (not_true c.see-seen.result.fresh c.if-not-seen.true) (seconds_in (width_of x.settings.kind) x.graph.now x.l x.parent)
 
 pub shape_of-names : goal.shape_of-names
-shape_of-names c = c.see-seen.auto.1.0
+shape_of-names c = c.see-seen.auto.names
 
 pub returns : goal.returns
 returns c = let x = c.args in

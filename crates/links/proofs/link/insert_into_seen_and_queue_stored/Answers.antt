@@ -3,7 +3,6 @@ use Rattle.walk.specs.Lookup.{world_of, seconds_for}
 use Rattle.reading.proofs.Tips.{seconds-right}
 use Rattle.links.proofs.Links.{not_true, not_false}
 use Rattle.links.proofs.Links.{sees_as, visits, visits-known}
-use borrow.Author.Rules.{rules}
 use Rattle.hash.specs.Bytes.{width_of}
 use Rattle.links.proofs.link.insert_into_seen_and_queue_stored.Goals as goal
 

@@ -1,6 +1,5 @@
 -- `links::link::new_row_seconds` meets its contract: the row is asked where commits wait by time. Assumes nothing.
 use Rattle.hash.proofs.Tests.{clash}
-use borrow.Author.Rules.{rules}
 use Rattle.links.proofs.link.new_row_seconds.Goals as goal
 
 pub returns-then-timed : goal.returns-then-timed

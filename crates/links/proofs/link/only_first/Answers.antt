@@ -1,6 +1,5 @@
 -- `links::link::only_first` meets its contract: it goes by the same cases. Assumes nothing.
 use Rattle.walk.specs.Settings.{only_first}
-use borrow.Author.Rules.{rules}
 use Rattle.links.proofs.link.only_first.Goals as goal
 
 pub returns-in-All : goal.returns-in-All

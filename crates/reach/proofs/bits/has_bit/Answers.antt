@@ -1,6 +1,5 @@
 -- `bits::has_bit` meets its contract: the bit of the search that is asked for. Assumes nothing.
 use Rattle.reach.specs.Memory.{has_bit}
-use borrow.Author.Rules.{rules}
 use Rattle.reach.proofs.bits.has_bit.Goals as goal
 
 pub returns-then-second : goal.returns-then-second

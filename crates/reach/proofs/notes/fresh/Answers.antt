@@ -1,6 +1,5 @@
 -- `notes::fresh` meets its contract: a slot number that fits is kept as it is. Assumes nothing.
 use native.Mathlib.Omega.{arith}
-use borrow.Author.Rules.{rules}
 use Rattle.reach.proofs.notes.fresh.Goals as goal
 
 pub returns : goal.returns

@@ -1,6 +1,5 @@
 -- `notes::mark_id` meets its contract: by the three answers of the table. Assumes nothing.
 use Rattle.reach.proofs.Marked.{as-found, as-vacant, as-full}
-use borrow.Author.Rules.{rules}
 use Rattle.reach.proofs.notes.mark_id.Goals as goal
 
 pub returns-in-Found : goal.returns-in-Found

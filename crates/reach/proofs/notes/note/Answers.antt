@@ -1,6 +1,5 @@
 -- `notes::note` meets its contract: by what came of the id; a new one enters the line. Assumes nothing.
 use Rattle.reach.proofs.Noting.{on-fresh, on-known, on-full}
-use borrow.Author.Rules.{rules}
 use Rattle.hash.specs.Bytes.{width_of}
 use Rattle.reach.proofs.notes.note.Goals as goal
 

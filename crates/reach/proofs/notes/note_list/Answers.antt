@@ -1,14 +1,12 @@
 -- `notes::note_list` meets its contract: after i turns the first i ids of the list are noted. What is left of the list grows shorter. Assumes nothing.
 use mathlib.Core.Path.{◌∙◌, ap}
 use native.Mathlib.Omega.{arith}
-use Prim.Native.Nat.{◌-◌, ◌/◌, ◌<◌}
+use Prim.Native.Nat.{◌/◌, ◌<◌}
 use lib.ListN.{length}
 use Rattle.walk.specs.Opening.{list_ids}
 use Rattle.walk.proofs.Whole.{length_list}
 use Rattle.reading.proofs.IdLists.{list_at, list-width}
-use Rattle.reach.specs.Memory.{lent}
-use Rattle.reach.proofs.Noting.{Listing, listing-first, listing-next, listing-last}
-use borrow.Author.Rules.{rules}
+use Rattle.reach.proofs.Noting.{listing-first, listing-next, listing-last}
 use Rattle.hash.specs.Bytes.{width_of}
 use Rattle.reach.proofs.notes.note_list.Goals as goal
 

@@ -1,7 +1,6 @@
 -- `notes::note_next` meets its contract: by the answer before. Assumes nothing.
 use Rattle.reach.specs.Memory.{lent}
 use Rattle.reach.proofs.Noting.{next-count, next-none}
-use borrow.Author.Rules.{rules}
 use Rattle.hash.specs.Bytes.{width_of}
 use Rattle.reach.proofs.notes.note_next.Goals as goal
 

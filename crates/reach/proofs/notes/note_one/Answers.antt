@@ -1,6 +1,5 @@
 -- `notes::note_one` meets its contract: the id of the line is decoded and noted. Assumes nothing.
 use Rattle.reach.proofs.Noting.{one_decoded}
-use borrow.Author.Rules.{rules}
 use Rattle.hash.proofs.Widths.{width-most}
 use Rattle.reach.proofs.notes.note_one.Goals as goal
 

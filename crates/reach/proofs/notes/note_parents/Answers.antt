@@ -1,10 +1,7 @@
 -- `notes::note_parents` meets its contract: after i turns the first i parents of the body are noted. What is left of them grows less. Assumes nothing.
-use Prim.Native.Nat.{◌-◌}
 use mathlib.Core.Path.{◌∙◌}
 use Rattle.object.specs.Header.{header}
-use Rattle.reach.specs.Memory.{lent}
-use Rattle.reach.proofs.Noting.{Passing, passing_first, passing_next, passing-short, passing_last}
-use borrow.Author.Rules.{rules}
+use Rattle.reach.proofs.Noting.{passing_first, passing_next, passing-short, passing_last}
 use Rattle.hash.specs.Bytes.{width_of}
 use Rattle.reach.proofs.notes.note_parents.Goals as goal
 

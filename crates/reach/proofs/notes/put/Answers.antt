@@ -1,6 +1,5 @@
 -- `notes::put` meets its contract: where there is room the slot is stored at the end. Assumes nothing.
 use native.Mathlib.Omega.{arith}
-use borrow.Author.Rules.{rules}
 use Rattle.reach.proofs.notes.put.Goals as goal
 
 pub returns-then-line-from : goal.returns-then-line-from

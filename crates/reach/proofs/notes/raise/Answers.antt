@@ -1,6 +1,5 @@
 -- `notes::raise` meets its contract: a mark that has the bit stays, and another gains it. Assumes nothing.
 use Rattle.reach.proofs.Marked.{raise-known, raise-given}
-use borrow.Author.Rules.{rules}
 use Rattle.reach.proofs.notes.raise.Goals as goal
 
 pub returns-then-has_bit : goal.returns-then-has_bit

@@ -1,6 +1,5 @@
 -- `seek::body_in` meets its contract: the id in the slot is looked up. Assumes nothing.
 use Rattle.reach.proofs.Seeking.{body_at}
-use borrow.Author.Rules.{rules}
 use Rattle.reach.proofs.seek.body_in.Goals as goal
 
 pub returns : goal.returns

@@ -1,5 +1,4 @@
 -- `seek::noted` meets its contract: by the two answers. Assumes nothing.
-use borrow.Author.Rules.{rules}
 use Rattle.reach.proofs.seek.noted.Goals as goal
 
 pub returns-in-Count : goal.returns-in-Count

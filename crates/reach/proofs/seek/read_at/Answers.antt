@@ -2,7 +2,6 @@
 use mathlib.Core.Path.{sym, ◌∙◌}
 use Rattle.reach.specs.Memory.{lent}
 use Rattle.reach.proofs.Seeking.{read-noted, read-bad, read-crowded}
-use borrow.Author.Rules.{rules}
 use Rattle.hash.specs.Bytes.{width_of}
 use Rattle.reach.proofs.seek.read_at.Goals as goal
 

@@ -1,10 +1,7 @@
 -- `seek::search` meets its contract: after k turns the first k of the line are read, and what they lead to is in the line. Slots that are left grow less. Assumes nothing.
-use mathlib.Core.Path.{◌∙◌}
 use Prim.Native.Nat.{◌-◌}
-use native.Mathlib.Omega.{arith}
-use borrow.Author.Rules.{rules}
 use Rattle.reach.specs.Memory.{lent}
-use Rattle.reach.proofs.Seeking.{Looping, loop_first, loop_next, loop-stuck, loop-small, loop-over, loop-last}
+use Rattle.reach.proofs.Seeking.{Looping}
 use Rattle.hash.specs.Bytes.{width_of}
 use Rattle.reach.proofs.seek.search.Given as goal
 

@@ -1,7 +1,6 @@
 -- `seek::search_from` meets its contract: the search begins with the roots noted. Assumes nothing.
 use mathlib.Core.Path.{◌∙◌}
 use Rattle.reach.proofs.Starting.{from-count, from-none}
-use borrow.Author.Rules.{rules}
 use Rattle.reach.proofs.seek.search_from.Goals as goal
 
 pub shape_of-names-in-Count : goal.shape_of-names-in-Count

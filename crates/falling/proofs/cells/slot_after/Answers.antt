@@ -1,0 +1,11 @@
+-- `cells::slot_after` meets its contract: past the end the slot is 0. Assumes nothing.
+use mathlib.Core.Path.{sym}
+use native.Mathlib.Omega.{arith}
+use lib.ListN.{get_or-eq_default}
+use Rattle.falling.proofs.cells.slot_after.Goals as goal
+
+pub returns-then-line-from : goal.returns-then-line-from
+returns-then-line-from c = let x = c.args in sym (get_or-eq_default x.line.now 0 (omega arith))
+
+pub returns-then-line-from-2 : goal.returns-then-line-from-2
+returns-then-line-from-2 c = let x = c.args in sym (get_or-eq_default x.line.now 0 (omega arith))

@@ -1,0 +1,12 @@
+-- `fsck::is_named` meets its contract: the entry is read by its number. Assumes nothing.
+use mathlib.Core.Path.{◌∙◌}
+use Rattle.hash.specs.Bytes.{eq_id}
+use Rattle.commitid.specs.Name.{commit_id}
+use Rattle.fsck.proofs.Entries.{name-told}
+use Rattle.fsck.proofs.is_named.Goals as goal
+
+pub returns : goal.returns
+returns c = let s = c in
+    c.is_commit_id.ensures
+    ∙ (λ i. eq_id (commit_id s.args.kind (c.entry_bytes-body.ensures i)) (c.entry_id.ensures i))
+    ∙ name-told s.args.kind s.args.store.now s.args.k s.requires.0 s.requires.1

@@ -1,0 +1,13 @@
+-- `graphwire::graph_length` meets its contract: without room nothing is done; else what the call says is set down. Assumes nothing.
+use Rattle.graphwire.proofs.Calls.{no_room_measures, made_measures}
+use Rattle.wire.specs.Words.{kind_of}
+use Rattle.graphwire.proofs.graph_length.Goals as goal
+
+pub returns-then-numbers-eq0 : goal.returns-then-numbers-eq0
+returns-then-numbers-eq0 c = let x = c.args in no_room_measures (kind_of x.width) x.store.now x.levels.now x.numbers.now c.if-numbers-eq0.true
+
+pub returns : goal.returns
+returns c = let p = c in
+    let g = p in
+    let k = g in
+    made_measures k.kind_of.ensures k.if-numbers-eq0.false g.graph_length-w.ensures p.put_length.ensures

@@ -1,0 +1,7 @@
+-- `graphwire::number` meets its contract: by its two cases; a refusal has the table's number. Assumes nothing.
+use mathlib.Core.Path.{sym, ◌∙◌, ap}
+use Rattle.graphwire.specs.Wire.{written_number}
+use Rattle.graphwire.proofs.number.Goals as goal
+
+pub returns-in-Refused : goal.returns-in-Refused
+returns-in-Refused c = c.wide.ensures ∙ c.number.ensures ∙ sym (ap written_number c.in-Refused.is)

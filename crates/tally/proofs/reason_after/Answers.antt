@@ -1,0 +1,6 @@
+-- `reason_after` meets its contract: by the cases of the outcome. Assumes nothing.
+use borrow.Author.Rules.{rules}
+use Rattle.tally.proofs.reason_after.Goals as goal
+
+pub returns-in-Refused : goal.returns-in-Refused
+returns-in-Refused c = rw c.in-Refused.is (rw c.in-Refused.is at c.reason_or.ensures)

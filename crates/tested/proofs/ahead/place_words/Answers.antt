@@ -1,0 +1,19 @@
+-- `ahead::place_words` meets its contract: the two tests tell whether the place is one of the line. Assumes nothing.
+use mathlib.Core.Path.{sym, ap, ◌∙◌}
+use mathlib.Core.Bool.{Bool, cond}
+use Prim.Native.Nat.{ℕ, ◌+◌}
+use native.Mathlib.Omega.{arith}
+use lib.ListN.{get_or}
+use borrow.Author.Tests.{lt-ltb, le-ltb}
+use Rattle.tested.specs.Ahead.{slot_words}
+use Rattle.hash.specs.Bytes.{width_of}
+use Rattle.tested.proofs.ahead.place_words.Goals as goal
+
+pub returns-then-n-k : goal.returns-then-n-k
+returns-then-n-k c = let x = c.args in ap (λ (t : Bool). cond t (slot_words (width_of x.kind) x.names.now x.line.now (get_or x.line.now (x.from + (x.k + x.d)) 0)) 0) (sym (le-ltb (x.k + x.d) x.n (omega arith)))
+
+pub returns-then-n-k-2 : goal.returns-then-n-k-2
+returns-then-n-k-2 c = let x = c.args in ap (λ (t : Bool). cond t (slot_words (width_of x.kind) x.names.now x.line.now (get_or x.line.now (x.from + (x.k + x.d)) 0)) 0) (sym (le-ltb (x.k + x.d) x.n (omega arith)))
+
+pub returns : goal.returns
+returns c = let x = c.args in c.slot_words.ensures ∙ ap (λ (s : ℕ). slot_words (width_of x.kind) x.names.now x.line.now s) c.slot_after.ensures ∙ ap (λ (t : Bool). cond t (slot_words (width_of x.kind) x.names.now x.line.now (get_or x.line.now (x.from + (x.k + x.d)) 0)) 0) (sym (lt-ltb (x.k + x.d) x.n (omega arith)))

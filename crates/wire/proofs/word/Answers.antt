@@ -1,0 +1,8 @@
+-- `wire::word` meets its contract: past the end of the words the list's default is 0. Assumes nothing.
+use mathlib.Core.Path.{sym}
+use lib.ListN.{get_or-eq_default}
+use borrow.Author.Rules.{rules}
+use Rattle.wire.proofs.word.Goals as goal
+
+pub returns-else-k-words : goal.returns-else-k-words
+returns-else-k-words c = sym (get_or-eq_default c.args.words.now 0 c.if-k-words.false)
