@@ -12,13 +12,12 @@ use Rattle.hash.specs.Bytes.{Id, width_of}
 use Rattle.object.specs.Header.{Header, header}
 use Rattle.object.specs.Ids.{padded, id_in}
 use Rattle.object.proofs.IdBytes.{padded_length}
-use Rattle.date.specs.declared.Seconds.{Seconds}
 use Rattle.date.specs.declared.Zone.{Zone}
 use Rattle.odb.specs.Lookup.{Locates, part_of}
 use Rattle.odb.specs.declared.Located.{Located}
 use Rattle.odb.specs.declared.Located.TheVariants.{Body}
 use Rattle.commitgraph.specs.declared.Layout.{Layout}
-use Rattle.commit.specs.Find.{FindsCommit, in_store, part_in_store}
+use Rattle.commit.specs.Find.{FindsCommit, in_store}
 use Rattle.commit.specs.declared.Cache.{Cache}
 use Rattle.commit.specs.declared.Cache.TheVariants.{NoGraph}
 use Rattle.commit.specs.declared.Either.TheVariants.{CommitRefIter}

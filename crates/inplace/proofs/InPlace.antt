@@ -9,7 +9,6 @@ use lib.ListN.{length}
 use lib.Dec.{eqb}
 use lib.IntN.{ℤ}
 use Rattle.hash.specs.Bytes.{Id, set_down, width_of}
-use Rattle.hash.proofs.Tests.{clash}
 use Rattle.hash.proofs.Widths.{width_least, width-most}
 use Rattle.hashtable.specs.Table.{id_of}
 use Rattle.object.specs.Ids.{padded, id_in}
@@ -31,7 +30,7 @@ use Rattle.walk.specs.declared.MaybeLevel.{MaybeLevel}
 use Rattle.walk.specs.declared.MaybeSeconds.{MaybeSeconds}
 use Rattle.walk.specs.State.{is_empty}
 use Rattle.walk.specs.Next.{level_shown}
-use Rattle.walk.specs.Given.{Given, level_given}
+use Rattle.walk.specs.Given.{level_given}
 use Rattle.revwalk.specs.declared.queue.Popped.{Popped}
 use Rattle.revwalk.specs.Queue.{place_of}
 use Rattle.state.specs.declared.Record.{Record}

@@ -1,0 +1,15 @@
+-- `list_call` meets its contract: a next call, and its line behind the others. Assumes nothing.
+use mathlib.Core.Path.{refl}
+use Rattle.swatch.proofs.Calls.{few-parents}
+use borrow.Author.Rules.{rules}
+use Rattle.swatch.proofs.list_call.Goals as goal
+
+pub returns : goal.returns
+returns c = let t = c in
+    record {
+      given = t.step-o.result;
+      says = rw t.breadth_all.ensures at t.step-o.ensures;
+      same_record = refl;
+      left_is = c.calls_after.ensures;
+      line = c.answer.ensures (few-parents t.step-o.ensures.of_paper);
+    }

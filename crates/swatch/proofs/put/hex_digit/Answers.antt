@@ -1,0 +1,13 @@
+-- `put::hex_digit` meets its contract: `0` to `9`, then `a` to `f`. Assumes nothing.
+use borrow.Author.Tests.{lt-ltb, le-ltb}
+use Rattle.swatch.specs.Text.{hex_digit}
+use borrow.Author.Rules.{rules}
+use Rattle.swatch.proofs.put.hex_digit.Goals as goal
+
+pub returns-then-d-lt10 : goal.returns-then-d-lt10
+unfolding hex_digit
+returns-then-d-lt10 c = simp (lt-ltb _ _ c.if-d-lt10.true)
+
+pub returns-else-d-lt10 : goal.returns-else-d-lt10
+unfolding hex_digit
+returns-else-d-lt10 c = simp (le-ltb _ _ c.if-d-lt10.false)
