@@ -1,7 +1,6 @@
 -- `list_call` meets its contract: a next call, and its line behind the others. Assumes nothing.
 use mathlib.Core.Path.{refl}
 use Rattle.swatch.proofs.Calls.{few-parents}
-use borrow.Author.Rules.{rules}
 use Rattle.swatch.proofs.list_call.Goals as goal
 
 pub returns : goal.returns

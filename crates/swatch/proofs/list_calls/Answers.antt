@@ -4,10 +4,7 @@ use borrow.Author.Rules.{rules}
 use native.Mathlib.Omega.{arith}
 use Rattle.walk.specs.Opening.{Lengths}
 use Rattle.traverse.specs.Contract.{lengths_of}
-use Rattle.traverse.specs.Next.{files_lent}
-use Rattle.traverse.specs.Open.{lent_of}
-use Rattle.swatch.specs.Text.{breadth_all}
-use Rattle.swatch.proofs.Listing.{Loop, loop_start, loop_next, loop_end}
+use Rattle.swatch.proofs.Listing.{loop_start, loop_next, loop_end}
 use Rattle.swatch.proofs.Calls.{left_less}
 use Rattle.swatch.proofs.list_calls.Goals as goal
 

@@ -1,14 +1,8 @@
 -- `list_calls` meets its contract: after each turn the lines so far stand in `out`, and the memory reads as the walk's state. Assumes nothing.
-use mathlib.Core.Path.{ap}
-use borrow.Author.Rules.{rules}
-use native.Mathlib.Omega.{arith}
-use Rattle.walk.specs.Opening.{Lengths}
-use Rattle.traverse.specs.Contract.{lengths_of}
 use Rattle.traverse.specs.Next.{files_lent}
 use Rattle.traverse.specs.Open.{lent_of}
 use Rattle.swatch.specs.Text.{breadth_all}
-use Rattle.swatch.proofs.Listing.{Loop, loop_start, loop_next, loop_end}
-use Rattle.swatch.proofs.Calls.{left_less}
+use Rattle.swatch.proofs.Listing.{Loop}
 use Rattle.swatch.proofs.list_calls.Given as goal
 
 abbrev pub invariant-loop-left : goal.invariant-loop-left

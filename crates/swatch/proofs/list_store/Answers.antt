@@ -17,13 +17,11 @@ overflow_add-calls c =
     omega (arith, c.capacity-calls.ensures [] breadth_all refl, no_lists_places x.store.now x.tips.now none, few-places x.store.now x.tips.now, low)
 
 pub returns-in-NotOpened : goal.returns-in-NotOpened
-returns-in-NotOpened c = let o = c in
-    store-refused (no_lists_open o.nothing-none.ensures o.breadth_all.ensures o.«open».ensures) c.in-NotOpened.is c.refusal.ensures
+returns-in-NotOpened c = store-refused (no_lists_open c.nothing-none.ensures c.breadth_all.ensures c.open-o.ensures) c.in-NotOpened.is c.refusal.ensures
 
 pub returns-in-Accepted : goal.returns-in-Accepted
-returns-in-Accepted c = let o = c in
-    let none = o.nothing-none.ensures in
-    let x = o.args in
-    let k = c in
-    let n : _ ≡ _ = ap (λ (j : ℕ). j + 2) (k.capacity-calls.ensures [] breadth_all refl ∙ no_lists_places x.store.now x.tips.now none) in
-    store-accepted (no_lists_open none o.breadth_all.ensures o.«open».ensures) k.in-Accepted.is n (no_lists_calls none c.list_calls.ensures)
+returns-in-Accepted c =
+    let none = c.nothing-none.ensures in
+    let x = c.args in
+    let n : _ ≡ _ = ap (λ (j : ℕ). j + 2) (c.capacity-calls.ensures [] breadth_all refl ∙ no_lists_places x.store.now x.tips.now none) in
+    store-accepted (no_lists_open none c.breadth_all.ensures c.open-o.ensures) c.in-Accepted.is n (no_lists_calls none c.list_calls.ensures)

@@ -5,7 +5,6 @@ use Prim.Native.Nat.{◌-◌}
 use lib.ListN.{length, drop, length-drop}
 use lib.Seq.{take_all}
 use Rattle.swatch.specs.Text.{store_in}
-use borrow.Author.Rules.{rules}
 use Rattle.swatch.proofs.store_in.Goals as goal
 
 pub returns-then-input-lt-TIP_BYTES : goal.returns-then-input-lt-TIP_BYTES

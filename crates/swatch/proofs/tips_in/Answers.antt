@@ -1,7 +1,6 @@
 -- `tips_in` meets its contract: the bytes from place 0. Assumes nothing.
 use Rattle.hash.specs.Bytes.{at}
 use Rattle.swatch.specs.Text.{tips_in}
-use borrow.Author.Rules.{rules}
 use Rattle.swatch.proofs.tips_in.Goals as goal
 
 pub returns : goal.returns

@@ -27,7 +27,7 @@ returns c = let p = c in
     let told : to_z w64 (of_z w64 x.cutoff) ≡ x.cutoff = to_z-of_z s.ranges.cutoff in
     let e = t.settings_of-settings.ensures ∙ ap (λ (z : ℤ). settings_of x.width x.sorting x.limited z x.first) told in
     counts-says {m = lent_of x.names.now x.marks.now x.levels.now x.times.now x.line.now x.parents.now}
-    {m' = lent_of l.1.1.1.1.1.1.1.0 l.1.1.1.1.1.1.1.1.0 l.1.1.1.1.1.1.1.1.1.0 l.1.1.1.1.1.1.1.1.1.1.0 l.1.1.1.1.1.1.1.1.1.1.1.0 l.1.1.1.1.1.1.1.1.1.1.1.1.0}
-    {counts' = l.1.1.1.1.1.1.1.1.1.1.1.1.1.0}
+    {m' = lent_of l.names l.marks l.levels l.times l.line l.parents}
+    {counts' = l.counts}
     (ap (input_of x.store.now x.graph.now x.tips.now x.hidden.now x.excluded.now) e)
     r.can_count.ensures (t.if-not-can_count.false) o.terms_report-r.ensures p.put_outside.ensures

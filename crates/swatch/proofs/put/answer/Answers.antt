@@ -1,7 +1,6 @@
 -- `put::answer` meets its contract: by its outcome. Assumes nothing.
 use Rattle.swatch.proofs.Puts.{puts_as}
 use Rattle.swatch.proofs.Lines.{commit-line, end_line_lem, refusal-line}
-use borrow.Author.Rules.{rules}
 use Rattle.swatch.proofs.put.answer.Goals as goal
 
 pub returns-in-Commit : goal.returns-in-Commit

@@ -2,7 +2,6 @@
 use native.Mathlib.Omega.{arith}
 use Rattle.swatch.specs.Text.{commit_line}
 use Rattle.swatch.proofs.Puts.{puts_then}
-use borrow.Author.Rules.{rules}
 use Rattle.swatch.proofs.put.commit.Goals as goal
 
 pub returns : goal.returns

@@ -1,7 +1,6 @@
 -- `put::end` meets its contract: four bytes, one behind the other. Assumes nothing.
 use Rattle.swatch.specs.Text.{end_line}
 use Rattle.swatch.proofs.Puts.{puts_then}
-use borrow.Author.Rules.{rules}
 use Rattle.swatch.proofs.put.end.Goals as goal
 
 pub returns : goal.returns

@@ -1,7 +1,6 @@
 -- `put::hex_byte` meets its contract: two digits, one behind the other. Assumes nothing.
 use Rattle.swatch.specs.Text.{hex}
 use Rattle.swatch.proofs.Puts.{puts_first, puts_one}
-use borrow.Author.Rules.{rules}
 use Rattle.swatch.proofs.put.hex_byte.Goals as goal
 
 pub returns : goal.returns

@@ -1,7 +1,6 @@
 -- `put::hex_digit` meets its contract: `0` to `9`, then `a` to `f`. Assumes nothing.
 use borrow.Author.Tests.{lt-ltb, le-ltb}
 use Rattle.swatch.specs.Text.{hex_digit}
-use borrow.Author.Rules.{rules}
 use Rattle.swatch.proofs.put.hex_digit.Goals as goal
 
 pub returns-then-d-lt10 : goal.returns-then-d-lt10

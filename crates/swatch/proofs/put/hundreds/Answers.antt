@@ -1,6 +1,5 @@
 -- `put::hundreds` meets its contract: a digit, and the last two behind it. Assumes nothing.
 use Rattle.swatch.proofs.Puts.{puts_first}
-use borrow.Author.Rules.{rules}
 use Rattle.swatch.proofs.put.hundreds.Goals as goal
 
 pub returns : goal.returns

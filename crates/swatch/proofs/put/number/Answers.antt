@@ -2,7 +2,6 @@
 use mathlib.Core.Path.{sym}
 use Rattle.swatch.proofs.Puts.{puts_as, puts_one}
 use Rattle.swatch.proofs.Words.{decimal-one, decimal_two, decimal_three}
-use borrow.Author.Rules.{rules}
 use Rattle.swatch.proofs.put.number.Goals as goal
 
 pub returns-then-n-lt10 : goal.returns-then-n-lt10

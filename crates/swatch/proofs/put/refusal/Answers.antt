@@ -4,7 +4,6 @@ use native.Mathlib.Omega.{arith}
 use Rattle.swatch.specs.Text.{decimal, refusal_line}
 use Rattle.swatch.proofs.Puts.{puts_then, puts_as}
 use Rattle.walk.proofs.Outcomes.{refusal_number_between}
-use borrow.Author.Rules.{rules}
 use Rattle.swatch.proofs.put.refusal.Goals as goal
 
 pub returns : goal.returns

@@ -1,6 +1,5 @@
 -- `put::tens` meets its contract: two digits, one behind the other. Assumes nothing.
 use Rattle.swatch.proofs.Puts.{puts_first, puts_one}
-use borrow.Author.Rules.{rules}
 use Rattle.swatch.proofs.put.tens.Goals as goal
 
 pub returns : goal.returns
