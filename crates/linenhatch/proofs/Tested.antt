@@ -1,6 +1,6 @@
 -- A tested opening through the library: one that is accepted is an opening that was accepted and whose premises hold, so the third demand for
 -- callers of the library is met; one that is refused gives back a closed record. Assumes nothing.
-use mathlib.Core.Path.{◌≡◌, refl, sym, ◌∙◌, ap, subst}
+use mathlib.Core.Path.{◌≡◌, sym, ◌∙◌, ap, subst}
 use Prim.Native.Nat.{ℕ}
 use mathlib.Core.Bool.{true}
 use mathlib.Core.List.{List}
@@ -20,8 +20,8 @@ use Rattle.traverse.specs.Demand.{Calls, CallIs}
 use Rattle.traverse.proofs.Calls.{calls-shut}
 use Rattle.opentested.proofs.Listing.{as-opened, tested-premises, refused-closed}
 use Rattle.wire.specs.Words.{open_words, room_to_open}
-use Rattle.linenhatch.specs.Library.{open_answer, Tried, LibraryOpens, tested_answer, TriedTested, LibraryOpensTested}
-use Rattle.linenhatch.specs.Listing.{LibraryCall, LibraryCalls, LibraryDelivered, LibraryShut, LibraryTestedDemand}
+use Rattle.linenhatch.specs.Library.{open_answer, Tried, tested_answer, TriedTested, LibraryOpensTested}
+use Rattle.linenhatch.specs.Listing.{LibraryCall, LibraryCalls, LibraryShut, LibraryTestedDemand}
 use Rattle.linenhatch.proofs.NoRoom.{no_room_open}
 use Rattle.linenhatch.proofs.Behind.{behind_all, each}
 use Rattle.linenhatch.proofs.Listing.{library_demand, shut-is}

@@ -1,9 +1,6 @@
 -- `linenhatch::linenhatch_check_names` meets its contract: no room for the number, or the check is made and its report set down. Assumes nothing.
-use borrow.Author.Rules.{rules}
-use mathlib.Core.Path.{◌≡◌, refl, sym, ◌∙◌, ap}
-use native.Mathlib.Omega.{arith}
-use mathlib.Core.List.{List, [], ◌∷◌}
-use Prim.Native.Nat.{ℕ}
+use mathlib.Core.Path.{refl, ◌∙◌, ap}
+use mathlib.Core.List.{[], ◌∷◌}
 use Rattle.hash.specs.Bytes.{set_down}
 use Rattle.fsck.specs.declared.Report.{Report}
 use Rattle.fsck.specs.Names.{checked_number}

@@ -5,12 +5,10 @@ use lib.IntN.{ℤ}
 use mir.Syntax.{w64}
 use mir.Val.{to_z, of_z}
 use mir.Facts.{to_z-of_z}
-use borrow.Author.Tests.{not-true, not-false}
 use Rattle.traverse.specs.Open.{lent_of}
 use Rattle.traverse.specs.Next.{files_lent}
 use Rattle.wire.specs.Numbers.{settings_of}
 use Rattle.linenhatch.proofs.Calls.{no_room-says, made_in_place, made_after, next_of}
-use borrow.Author.Rules.{rules}
 use Rattle.linenhatch.proofs.linenhatch_next.Goals as goal
 
 pub returns-then-not-can_call : goal.returns-then-not-can_call

@@ -1,15 +1,13 @@
 -- `linenhatch::linenhatch_open` meets its contract: what the opening says, with its record and answer set down. Assumes nothing.
-use mathlib.Core.Path.{◌≡◌, ◌∙◌, ap, refl}
+use mathlib.Core.Path.{◌≡◌, ◌∙◌, ap}
 use lib.IntN.{ℤ}
 use mir.Syntax.{w64}
 use mir.Val.{to_z, of_z}
 use mir.Facts.{to_z-of_z}
-use borrow.Author.Tests.{not-true, not-false}
 use Rattle.opening.specs.Checks.{input_of}
 use Rattle.traverse.specs.Open.{lent_of}
 use Rattle.wire.specs.Numbers.{settings_of}
 use Rattle.linenhatch.proofs.Opens.{no_room-says, tried-says}
-use borrow.Author.Rules.{rules}
 use Rattle.linenhatch.proofs.linenhatch_open.Goals as goal
 
 pub returns-then-not-can_open : goal.returns-then-not-can_open
