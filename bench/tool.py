@@ -79,7 +79,7 @@ def main():
     p.add_argument("folders", nargs="+")
     a = p.parse_args()
     if not os.path.isfile(TOOL):
-        sys.exit("build the tool first: rt staticlib linenhatch && (cd bindings/rust && cargo build --release --offline)")
+        sys.exit("build the tool first: tools/staticlib && (cd bindings/rust && cargo build --release --offline)")
     with open("/proc/loadavg") as f:
         print(f"{a.repetitions} repetitions; load average before the run: {' '.join(f.read().split()[:3])}\n")
     print("| history | commits | list | graph | listed | linenhatch | git rev-list | git rev-list and cat-file | linenhatch/rev-list | linenhatch/both |")

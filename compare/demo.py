@@ -1,5 +1,5 @@
 """demo.py: runs ./demo in every way that it can go and tells whether it ends as its help says: status, what it writes, nothing left running. Proves the
-program `history` first if that was not done (`rt check history`). Needs rt, python3 and a /proc. Ends with status 1 if anything is otherwise.
+program `history` first if that was not done (`tools/program history`). Needs rt, python3 and a /proc. Ends with status 1 if anything is otherwise.
 """
 import os
 import shutil

@@ -4,7 +4,7 @@ and the hidden commit does not, each once. Listed by the tool `linenhatch` as it
 and --no-graph, tested and with --untested, with no commit-graph file, with one of the older half (a stale one) and with one of all commits; and by
 `git rev-list` with no such file and with one of all commits. A list that the tool refuses is counted apart; it may give refusal 15 and no other.
 
-    rt staticlib linenhatch && (cd bindings/rust && cargo build --release --offline)
+    tools/staticlib && (cd bindings/rust && cargo build --release --offline)
     python3 compare/drift.py
 
 Options: --seeds N (5 histories, of the seeds 1 to N), --commits N (300), --tool FILE. A seed always gives the same history. Ends with status 1 if a
@@ -149,7 +149,7 @@ def main():
     p.add_argument("--tool", default=TOOL)
     a = p.parse_args()
     if not os.path.isfile(a.tool):
-        sys.exit(f"there is no {os.path.normpath(a.tool)}: rt staticlib linenhatch && (cd bindings/rust && cargo build --release --offline)")
+        sys.exit(f"there is no {os.path.normpath(a.tool)}: tools/staticlib && (cd bindings/rust && cargo build --release --offline)")
     print(f"{a.seeds} histories of {a.commits} commits, {round(PART * a.commits)} clocks of each set back by 1 to {MOST_BACK:,} s; each commit "
           "hidden in turn, each list judged by plain reachability")
     runs = [run(seed, a.commits, os.path.abspath(a.tool)) for seed in range(1, a.seeds + 1)]

@@ -9,7 +9,7 @@ outside reader from whom nothing is withheld. Each report is compared with model
 
 Whether a pair is one is tested anew, from the card's words and not from how it was drawn.
 
-    rt staticlib linenhatch
+    tools/staticlib
     make -C bindings/c shared
     python3 compare/embargo.py target/c/liblinenhatch.so
 

@@ -12,7 +12,7 @@
 
 Prints how many came to each result; ends with status 1 if anything differs. Options: --seed N, --scale N (percent of the 24,000 stores and the 240 repositories).
 
-    rt staticlib linenhatch
+    tools/staticlib
     make -C bindings/c shared
     python3 compare/graphs.py target/c/liblinenhatch.so
 """

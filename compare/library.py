@@ -3,7 +3,7 @@ compares every field of every answer, every byte of parents, and the memory arou
 with status 1 if anything differs. Every family is run with ids of 20 bytes and with ids of 32 (card 13), and so are files of the other width than is
 said. Options: --seed N, --scale N (percent of the random cases), --width N (one width alone).
 
-    rt staticlib linenhatch
+    tools/staticlib
     make -C bindings/c shared
     python3 compare/library.py target/c/liblinenhatch.so
 """

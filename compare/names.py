@@ -2,7 +2,7 @@
 true, a little off, or any bytes at all. Prints how many came to each result; ends with status 1 if anything differs, a file is altered, or a
 byte beside the lent number is. Options: --seed N, --cases N (of each width), --width N (one width alone; else ids of 20 bytes and of 32).
 
-    rt staticlib linenhatch
+    tools/staticlib
     make -C bindings/c shared
     python3 compare/names.py target/c/liblinenhatch.so
 """

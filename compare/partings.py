@@ -10,7 +10,7 @@
 Prints how many came to each result; ends with status 1 if anything differs or a byte beside a buffer is altered. Options: --seed N, --scale N (percent
 of the 40,000 stores and the 20 repositories of each width), --width N (one width alone).
 
-    rt staticlib linenhatch
+    tools/staticlib
     make -C bindings/c shared
     python3 compare/partings.py target/c/liblinenhatch.so
 """

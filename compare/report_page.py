@@ -12,7 +12,7 @@ parents, with a title that is hard to put into HTML, and for an outside reader w
 A page with one number altered must be told apart. Where Chromium is there, the first page and the one with 24 terms are also drawn, light, dark, narrow and as a PDF, which
 must have the right ground and (with pdftotext and pdftoppm) all rows of the table; they are left in the folder --keep. Where it is not, a line says so.
 
-    rt staticlib linenhatch && (cd bindings/rust && cargo build --release --offline)
+    tools/staticlib && (cd bindings/rust && cargo build --release --offline)
     python3 compare/report_page.py
 
 Options: --tool FILE, --keep FOLDER, --seed N (1). Ends with status 1 if something is wrong. Needs python3 and git.

@@ -10,7 +10,7 @@ for what is reported. After 1 to 8, and after 24, no lent byte may be altered bu
 
 Prints how many came to each result; ends with status 1 if anything differs. Options: --seed N, --scale N (percent), --width N (one width alone), --feed or --terms alone.
 
-    rt staticlib linenhatch
+    tools/staticlib
     make -C bindings/c shared
     python3 compare/reports.py target/c/liblinenhatch.so
 """

@@ -11,10 +11,10 @@ has to tell apart and over the families of generate.py. Prints how many came to 
 
 Each with ids of 20 bytes and with ids of 32 (card 13).
 
-Options: --seed N, --scale N (percent of the cases), --width N (one width alone), --alone; --program target/bin/runs: the same cases through the program `runs` (rt check runs), each printed
+Options: --seed N, --scale N (percent of the cases), --width N (one width alone), --alone; --program target/bin/runs: the same cases through the program `runs` (tools/program runs), each printed
 line beside the model's, but for those that its buffers have no room for.
 
-    rt staticlib linenhatch
+    tools/staticlib
     make -C bindings/c shared
     python3 compare/tested.py target/c/liblinenhatch.so
 """

@@ -9,7 +9,7 @@ start: all must say the same in every field. After 25 and 2 to 4 the memo must b
 Prints how many came to each result; ends with status 1 if anything differs or a byte beside a buffer is altered. Options: --seed N, --scale N (percent of the
 40,000 cases of each width), --width N (one width alone).
 
-    rt staticlib linenhatch
+    tools/staticlib
     make -C bindings/c shared
     python3 compare/traces.py target/c/liblinenhatch.so
 """

@@ -3,7 +3,7 @@ write commit-graph files of all commits and of the older half, and sets generati
 row, of one row, and of one row that stands alone in the file, which nothing in the history reaches. Each commit is hidden in turn, and each list of
 the tool `linenhatch` and of `git rev-list` is judged by plain reachability. In every list with a 0 no generation may be shown.
 
-    rt staticlib linenhatch && (cd bindings/rust && cargo build --release --offline)
+    tools/staticlib && (cd bindings/rust && cargo build --release --offline)
     python3 compare/zero.py
 
 Options: --seeds N (3), --commits N (120), --tool FILE, --width N (ids of 20 bytes or of 32; else both). Ends with status 1 if a list of ours is wrong or shows a generation. Needs python3 and git.

@@ -10,7 +10,7 @@
   digit it gives no date at all. For card 7 each of these is no zone. So the tool is held to the card here, git's reading is printed beside it, and
   only where the card defines a zone must git's be the same; of those git shows -0000 as +0000.
 
-    rt staticlib linenhatch && (cd bindings/rust && cargo build --release --offline)
+    tools/staticlib && (cd bindings/rust && cargo build --release --offline)
     python3 compare/zones.py
 
 Options: --seeds N (3), --repository DIR, --tool FILE. Ends with status 1 if a zone of ours is wrong. Needs python3 and git.

@@ -2,7 +2,7 @@
 """Holds README.md to what its commands print: under 120 lines, none over 140 characters, every page that it names is there, and each block of output
 is what the command before it prints (a line `...` stands for any lines). Building and the gate are not run: the tool must be there.
 
-    rt staticlib linenhatch && (cd bindings/rust && cargo build --release --offline)
+    tools/staticlib && (cd bindings/rust && cargo build --release --offline)
     python3 tools/check_readme.py
 """
 import os
@@ -43,7 +43,7 @@ def main():
             commands = [line.split("   #")[0].strip() for line in block if line.startswith(RUN)]
             if commands:
                 last = [(command, printed(command, room)) for command in commands][-1]
-            elif last and not block[0].startswith(("rt ", "PATH=")):
+            elif last and not block[0].startswith(("rt ", "tools/", "PATH=")):
                 wanted = "\n".join("(?s:.*)" if line == "..." else re.escape(line) for line in block) + "\n"
                 if not re.fullmatch(wanted, last[1]):
                     faults.append(f"'{last[0]}' prints something else:\n{last[1]}")

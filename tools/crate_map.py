@@ -36,8 +36,8 @@ LAYERS = [
     ("The walk", "as mathematics", [("walk", "walk")]),
     ("The files", "what is read, and the digests of names", [
         ("readers", "odb actor object commitgraph commit commititer"),
-        ("digests", "digest sha1 sha256 commitid")]),
-    ("Bytes", "ids, numbers, times", [("bytes", "hash date idlist walks")]),
+        ("digests", "digest sha1_hash sha256 commitid")]),
+    ("Bytes", "ids, numbers, times; what programs share", [("bytes", "hash date idlist walks host")]),
 ]
 PROGRAMS, LIBRARY = "programs", "C and Rust"
 
@@ -62,7 +62,7 @@ def read_crates():
         if line.startswith("#") or ":" not in line:
             continue
         name, rest = line.split(":", 1)
-        deps[name.strip()] = rest.split()
+        deps[name.split()[0]] = rest.split()          # behind a static library's name stands "staticlib"
     return {name: [d for d in ds if d in deps] for name, ds in deps.items()}
 
 

@@ -1,28 +1,31 @@
 #!/usr/bin/env python3
-"""The account of the gate: reads what `rt ci` printed (standard input) and prints the table of docs/GATE.md.
+"""The account of the gate: reads what `rt ci` printed (standard input) and prints a table: the functions of each crate that was proved, and the edits of it
+that were refused, as they must be. `rt ci` says no seconds, so none stand here.
 
-    rt ci | tee ci.txt; python3 tools/gate_table.py < ci.txt
-
-A crate's check is the seconds that `rt` says; an edit costs one whole check of its crate, and its own seconds are printed too.
+    rt ci 2>&1 | tee ci.txt; python3 tools/gate_table.py < ci.txt
 """
 import re
 import sys
 
-checks, edits = {}, {}
+proved, edits, kept, crate = {}, {}, set(), None
 for line in sys.stdin:
-    found = re.match(r"rt: (\w+) proved \((\d+) s\)", line)
+    found = re.match(r"== (\w+)$", line)
     if found:
-        checks[found.group(1)] = int(found.group(2))
-    found = re.match(r"rt: must-fail (\w+)/(\S+): refused.*?(\d+) s\)", line)
+        crate = found.group(1)
+    found = re.match(r"logic=proved functions=(\d+) ", line)
+    if found and crate:
+        proved[crate] = int(found.group(1))
+    found = re.match(r"rt: must-fail (\w+)/\S+\.edit: refused", line)
     if found:
-        edits.setdefault(found.group(1), []).append(int(found.group(3)))
+        edits[found.group(1)] = edits.get(found.group(1), 0) + 1
+    found = re.match(r"rt: (\w+) is kept: ", line)
+    if found:
+        kept.add(found.group(1))
 
-print("| crate | check, s | edits | edits' cost, s |")
-print("|---|---|---|---|")
-for crate, seconds in checks.items():
-    own = edits.get(crate, [])
-    print(f"| {crate} | {seconds} | {len(own)} | {sum(own)} |")
-total = sum(checks.values())
-cost = sum(sum(own) for own in edits.values())
-count = sum(len(own) for own in edits.values())
-print(f"| all | {total} | {count} | {cost} |")
+print("| crate | functions | edits |")
+print("|---|---|---|")
+for name, functions in proved.items():
+    print(f"| {name} | {functions} | {edits.get(name, 0)} |")
+print(f"| all | {sum(proved.values())} | {sum(edits.get(name, 0) for name in proved)} |")
+if kept - set(proved):
+    print(f"\nKept from an earlier run, and not counted: {' '.join(sorted(kept - set(proved)))}.")

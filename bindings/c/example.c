@@ -2,7 +2,7 @@
  * made a run on the first commit, and a merge joins them. Each line is a commit's id, how many parents it has, its committer time and its zone
  * in minutes ahead of UTC; the last is the end, with how many commits ever waited. A refusal would be a line with its number.
  *
- *     rt staticlib linenhatch
+ *     tools/staticlib
  *     make -C bindings/c run
  */
 #include "linenhatch.h"

@@ -1,6 +1,6 @@
 /* linenhatch: a walk over git commits whose every answer is proved to be the right one.
  *
- * The functions of target/staticlib/liblinenhatch.a, which `rt staticlib linenhatch` proves and builds for x86-64 Linux.
+ * The functions of target/staticlib/liblinenhatch.a, which `tools/staticlib` proves and builds for x86-64 Linux.
  * What each promises is its contract in crates/linenhatch/src/lib.rt.
  *
  * Every lent buffer is a pointer and a number of elements (not of bytes). A pointer is never null, also where the number is 0, and is

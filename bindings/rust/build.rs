@@ -1,4 +1,4 @@
-//! Finds `liblinenhatch.a`, which `rt staticlib linenhatch` proves and builds, and has it linked.
+//! Finds `liblinenhatch.a`, which `tools/staticlib` proves and builds, and has it linked.
 
 use std::env;
 use std::path::{Path, PathBuf};
@@ -44,7 +44,7 @@ fn variable(name: &str) -> String {
 fn missing(file: &Path) -> String {
     format!(
         "The proved library is missing: {}\n\
-         Build it with `rt staticlib linenhatch` at the root of the repository, or say where it is with {DIR}=FOLDER.\n\
+         Build it with `tools/staticlib` at the root of the repository, or say where it is with {DIR}=FOLDER.\n\
          What needs no library (ids, refusals, the store writer): cargo test --offline --no-default-features",
         file.display()
     )

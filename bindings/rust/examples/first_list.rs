@@ -1,6 +1,6 @@
 //! A first list: the smallest commit store, one commit without parents, and what a walk over it hands out.
 //!
-//!     rt staticlib linenhatch
+//!     tools/staticlib
 //!     cargo run --offline --example first_list
 
 use linenhatch::{store_from_commits, Lister, ObjectId};

@@ -1,6 +1,6 @@
 //! The last ten commits of a repository, newest first, each with its generation and time.
 //!
-//!     rt staticlib linenhatch
+//!     tools/staticlib
 //!     cargo run --offline --example last_commits -- FOLDER
 
 use linenhatch::{Error, Repository};
