@@ -20,7 +20,7 @@ PAGE = ROOT / "docs" / "MAP.md"
 LAYERS = [
     ("Programs", "which the tests run", [("programs", "")]),
     ("On top", "what users call; theorems over several calls", [
-        ("C and Rust", "wire inplace mergewire graphwire reportwire tracewire linenhatch"),
+        ("C and Rust", "wire inplace mergewire graphwire reportwire tracewire linenhatch linenhatch_c"),
         ("theorems", "graphtold owngraph hiding hidingorder embargo")]),
     ("Calls", "each with a promise of its own", [
         ("reports", "swatch calendar feed tally driver lister reports termsreport"),

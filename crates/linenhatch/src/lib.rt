@@ -27,8 +27,7 @@ use inplace::NOT_MADE;
 const NO_ROOM: u32 = 101;
 
 // How many places a walk needs (document 01's P), so that a caller knows how much memory to lend.
-#[unsafe(no_mangle)]
-pub extern "C" fn linenhatch_places(
+pub fn linenhatch_places(
     width: u32,
     store: &[u8],
     graph: &[u8],
@@ -43,8 +42,7 @@ pub extern "C" fn linenhatch_places(
 // Opens a walk. The result is 0 where it is accepted, else document 01's number of the refusal; the record's words and the walk's running
 // numbers are set down in every case, but where there is no room for them: then the result is 101, before all other tests, and nothing is
 // altered.
-#[unsafe(no_mangle)]
-pub extern "C" fn linenhatch_open(
+pub fn linenhatch_open(
     width: u32,
     store: &[u8],
     graph: &[u8],
@@ -80,8 +78,7 @@ pub extern "C" fn linenhatch_open(
 // Opens a walk whose history is tested (card 1): as `linenhatch_open`, and then 13, 14 or 15 where something that the tips and hidden tips
 // reach cannot be read in the store, or the graph file is at odds with it, or a pair does not fall. What is accepted lists exactly what is
 // to be listed.
-#[unsafe(no_mangle)]
-pub extern "C" fn linenhatch_open_tested(
+pub fn linenhatch_open_tested(
     width: u32,
     store: &[u8],
     graph: &[u8],
@@ -117,8 +114,7 @@ pub extern "C" fn linenhatch_open_tested(
 // One call: the result is 0 where a commit is handed out, 100 at the end, else document 01's number of the refusal. The answer stands in
 // id, numbers, seconds and the start of parents, and the words are those of the record for the next call; after refusal 12 they are as they
 // were. Where there is no room for the record or the answer the result is 101: no call is made, and nothing is altered.
-#[unsafe(no_mangle)]
-pub extern "C" fn linenhatch_next(
+pub fn linenhatch_next(
     width: u32,
     words: &mut [u64],
     store: &[u8],
@@ -175,13 +171,7 @@ pub extern "C" fn linenhatch_next(
 // Checks names (document 02, card 2): the result is 0 where each commit of the store is under the digest of its body and the graph file, if one
 // is lent, ends in the digest of the rest; else the number of the refusal. After 16 the first number is the entry's, counted from 0, else 0.
 // Where there is no room for that number the result is 101: nothing is checked, and nothing is altered.
-#[unsafe(no_mangle)]
-pub extern "C" fn linenhatch_check_names(
-    width: u32,
-    store: &[u8],
-    graph: &[u8],
-    numbers: &mut [u64],
-) -> u32
+pub fn linenhatch_check_names(width: u32, store: &[u8], graph: &[u8], numbers: &mut [u64]) -> u32
     ensures { LibraryChecks (kind_of width) store.now graph.now numbers.old numbers.new result }
 {
     if numbers.len() == 0 {
@@ -198,8 +188,7 @@ pub extern "C" fn linenhatch_check_names(
 // number of the first forcing parent, counted from 0, whose id is set down, where the cone forces it; else the result is the number of the refusal, with
 // zeros. The memo may have any length, also 0; after 25 and 2 to 4 it is as it was. Where the start is shorter than an id, or there is no room for the
 // answer, the result is 101: nothing is read, and nothing is altered.
-#[unsafe(no_mangle)]
-pub extern "C" fn linenhatch_trace(
+pub fn linenhatch_trace(
     width: u32,
     store: &[u8],
     start: &[u8],
@@ -217,8 +206,7 @@ pub extern "C" fn linenhatch_trace(
 // Where two series part (document 02, cards 8 and 11): the result is 0, the first number 1 and the id that of the first best common commit; or
 // 0, 0 and zeros where no commit is reachable from both; else the number of the refusal, 0 and zeros. After 2, 4 and 1 the lent memory is as it
 // was. Where a tip is shorter than an id, or there is no room for the answer, the result is 101: nothing is read, and nothing is altered.
-#[unsafe(no_mangle)]
-pub extern "C" fn linenhatch_merge_base(
+pub fn linenhatch_merge_base(
     width: u32,
     store: &[u8],
     one: &[u8],
@@ -242,8 +230,7 @@ pub extern "C" fn linenhatch_merge_base(
 // How long the graph file of a store is (document 02, card 4): the result is 0 and the first number the file's bytes, else the number of the
 // refusal, 2, 4, 1, 18 or 19, and 0. After 2, 4 and 1 the lent levels, one for each
 // entry, are as they were. Where there is no room for the number the result is 101: nothing is read, and nothing is altered.
-#[unsafe(no_mangle)]
-pub extern "C" fn linenhatch_graph_length(
+pub fn linenhatch_graph_length(
     width: u32,
     store: &[u8],
     levels: &mut [u32],
@@ -257,8 +244,7 @@ pub extern "C" fn linenhatch_graph_length(
 // Writes the graph file of a store (document 02, card 4) at the start of output: the result is 0 and the first number the file's bytes, and no
 // other byte of output is altered; else the number of the refusal, as of the function above or then 20, and 0, and no byte of output is altered.
 // Where there is no room for the number the result is 101: nothing is read, and nothing is altered.
-#[unsafe(no_mangle)]
-pub extern "C" fn linenhatch_write_graph(
+pub fn linenhatch_write_graph(
     width: u32,
     store: &[u8],
     levels: &mut [u32],
@@ -275,8 +261,7 @@ pub extern "C" fn linenhatch_write_graph(
 // with both; else the number of the refusal, and zeros. Where outside is 0 the report is for the shop's reader, who sees all; with any other number it is
 // for an outside one, and each embargoed id counts as a commit with neither reading. The list of embargoed ids is one for 2 and 3, for both. After 1
 // to 8 the lent memory is as it was. Where there is no room for the numbers the result is 101: nothing is read, and nothing is altered.
-#[unsafe(no_mangle)]
-pub extern "C" fn linenhatch_feed(
+pub fn linenhatch_feed(
     width: u32,
     store: &[u8],
     graph: &[u8],
@@ -309,8 +294,7 @@ pub extern "C" fn linenhatch_feed(
 // How many commits of a whole walk lie in each term (document 02, card 9): the result is 0, counts has a number for each two months and 0 in every place past
 // them, and the first number is that of the commits outside all; else the number of the refusal, 24 before all else, and zeros. After 24 and 1 to 8 the lent
 // memory is as it was. Where there is no room for the counts or the number the result is 101: nothing is read, and nothing is altered.
-#[unsafe(no_mangle)]
-pub extern "C" fn linenhatch_terms(
+pub fn linenhatch_terms(
     width: u32,
     store: &[u8],
     graph: &[u8],
