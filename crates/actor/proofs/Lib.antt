@@ -1,4 +1,3 @@
 pub mod Places
 pub mod Numbers
 pub mod Zones
-pub mod Stamps

@@ -22,69 +22,27 @@ ghost use Rattle.actor.specs.Person.{
   line_zone,
   stamped,
 };
-ghost use Rattle.actor.specs.Read.{place, number_read, seconds_read, zone_given, stamp_read};
+ghost use Rattle.actor.specs.Read.{seconds_read, stamp_read};
 
-use date::{Seconds, Stamp, Zone};
+use date::{Seconds, Stamp};
 use hash::{byte_at, part};
 
-// A place of a byte.
-#[derive(Clone, Copy)]
-pub enum Spot {
-    At(usize),
-    Missing,
-}
-
-// A number that was read.
-#[derive(Clone, Copy)]
-enum Number {
-    Good(u64),
-    Bad,
-}
-
-// The seconds of a committer line's bytes; also what definitions say of whoever wants no more than them.
-#[derive(Clone, Copy)]
-pub enum SecondsRead {
-    Good(Seconds),
-    Bad,
-}
-
-// The seconds and the zone of a committer line that was read.
-#[derive(Clone, Copy)]
-pub enum StampRead {
-    Good(Stamp),
-    Bad,
-}
-
 // The place of the first such byte.
-pub fn first_of(b: &[u8], byte: u8) -> Spot
-    ensures { result ≡ place (first_of byte b.now) }
+pub fn first_of(b: &[u8], byte: u8) -> Option<usize>
+    ensures { result ≡ first_of byte b.now }
 {
-    let mut i = 0;
-    while i < b.len() {
-        if b[i] == byte {
-            return Spot::At(i);
-        }
-        i += 1;
-    }
-    Spot::Missing
+    b.iter().position(|x| *x == byte)
 }
 
 // The place of the last such byte.
-fn last_of(b: &[u8], byte: u8) -> Spot
-    ensures { result ≡ place (last_of byte b.now) }
+fn last_of(b: &[u8], byte: u8) -> Option<usize>
+    ensures { result ≡ last_of byte b.now }
 {
-    let mut passed = 0;
-    while passed < b.len() {
-        let i = b.len() - 1 - passed;
-        if b[i] == byte {
-            return Spot::At(i);
-        }
-        passed += 1;
-    }
-    Spot::Missing
+    b.iter().rposition(|x| *x == byte)
 }
 
 // What stands from a place on.
+#[tactic(auto, using(hash::proofs::Bytes::at_rest))]
 pub fn tail(b: &[u8], at: usize) -> &[u8]
     ensures { result.now ≡ drop at b.now }
 {
@@ -92,62 +50,56 @@ pub fn tail(b: &[u8], at: usize) -> &[u8]
 }
 
 // Whether `<` and later `>` stand in a line.
+#[tactic(auto, using(crate::proofs::Places::first_below), unfolding(crate::specs::Person::has_email))]
 pub fn has_email(b: &[u8]) -> bool
     ensures { result ≡ has_email b.now }
 {
-    match first_of(b, 60) {
-        Spot::Missing => false,
-        Spot::At(k) => match first_of(tail(b, k + 1), 62) {
-            Spot::Missing => false,
-            Spot::At(_) => true,
-        },
+    match first_of(b, b'<') {
+        Some(k) => first_of(tail(b, k + 1), b'>').is_some(),
+        None => false,
     }
 }
 
 fn is_digit(x: u8) -> bool
     ensures { result ≡ digit x }
 {
-    48 <= x && x <= 57
+    b'0' <= x && x <= b'9'
 }
 
 fn digit_value(x: u8) -> u64
     requires { (48 ≤ x) × (x ≤ 57) }
     ensures { (result ≡ x - 48) × (result ≤ 9) }
 {
-    (x - 48) as u64
+    (x - b'0') as u64
 }
 
 // At most 18 digits, then a space or the end.
-fn digits_value(b: &[u8]) -> Number
-    ensures { result ≡ number_read (digits 18 0 b.now) }
+#[tactic(auto, using(crate::proofs::Numbers::at_space, crate::proofs::Numbers::at_other, crate::proofs::Numbers::at_many, crate::proofs::Numbers::at_end, crate::proofs::Numbers::digit_bounds))]
+fn digits_value(b: &[u8]) -> Option<u64>
+    ensures { result ≡ digits 18 0 b.now }
 {
     let mut value: u64 = 0;
-    let mut i = 0;
-    while i < b.len() {
-        let x = b[i];
-        if x == 32 {
-            return Number::Good(value);
+    for (i, x) in b.iter().enumerate() {
+        if *x == b' ' {
+            return Some(value);
         }
-        if !is_digit(x) {
-            return Number::Bad;
+        if 18 <= i || !is_digit(*x) {
+            return None;
         }
-        if 18 <= i {
-            return Number::Bad;
-        }
-        value = value * 10 + digit_value(x);
-        i += 1;
+        value = value * 10 + digit_value(*x);
     }
-    Number::Good(value)
+    Some(value)
 }
 
 // 1 to 18 digits, then a space or the end.
-fn read_number(b: &[u8]) -> Number
-    ensures { result ≡ number_read (number b.now) }
+#[tactic(auto, using(crate::proofs::Numbers::number_none, crate::proofs::Numbers::number_digits))]
+fn read_number(b: &[u8]) -> Option<u64>
+    ensures { result ≡ number b.now }
 {
     if is_digit(byte_at(b, 0)) {
         digits_value(b)
     } else {
-        Number::Bad
+        None
     }
 }
 
@@ -162,135 +114,115 @@ fn before_zero(value: u64) -> Seconds
     requires { value < 1000000000000000000 }
     ensures { result.0 ≡ neg_ℤ (pos value) }
 {
-    Seconds(0 - (value as i64))
+    Seconds(-(value as i64))
 }
 
 // An optional minus sign, and a number.
-fn signed_number(b: &[u8]) -> SecondsRead
+#[tactic(auto, using(crate::proofs::Numbers::signed_minus, crate::proofs::Numbers::signed_plain, crate::proofs::Numbers::number_small))]
+fn signed_number(b: &[u8]) -> Option<Seconds>
     ensures { result ≡ seconds_read (signed b.now) }
 {
-    if byte_at(b, 0) == 45 {
-        match read_number(tail(b, 1)) {
-            Number::Bad => SecondsRead::Bad,
-            Number::Good(value) => SecondsRead::Good(before_zero(value)),
-        }
+    if byte_at(b, 0) == b'-' {
+        let value = read_number(tail(b, 1))?;
+        Some(before_zero(value))
     } else {
-        match read_number(b) {
-            Number::Bad => SecondsRead::Bad,
-            Number::Good(value) => SecondsRead::Good(after_zero(value)),
-        }
+        let value = read_number(b)?;
+        Some(after_zero(value))
     }
 }
 
 // One space, and a signed number.
-fn spaced_number(b: &[u8]) -> SecondsRead
+#[tactic(auto, using(crate::proofs::Numbers::spaced_yes, crate::proofs::Numbers::spaced_no))]
+fn spaced_number(b: &[u8]) -> Option<Seconds>
     ensures { result ≡ seconds_read (spaced b.now) }
 {
-    if byte_at(b, 0) == 32 {
+    if byte_at(b, 0) == b' ' {
         signed_number(tail(b, 1))
     } else {
-        SecondsRead::Bad
+        None
     }
 }
 
 // Two of a zone's four digits.
-fn two_digits(x: u8, y: u8) -> Number
-    ensures { result ≡ number_read (two_digits x y) }
+fn two_digits(x: u8, y: u8) -> Option<u64>
+    ensures { result ≡ two_digits x y }
 {
-    if !is_digit(x) {
-        return Number::Bad;
+    if is_digit(x) && is_digit(y) {
+        Some(digit_value(x) * 10 + digit_value(y))
+    } else {
+        None
     }
-    if !is_digit(y) {
-        return Number::Bad;
-    }
-    Number::Good(digit_value(x) * 10 + digit_value(y))
 }
 
 // The minutes of hours and minutes on a clock.
-fn clock_value(hours: u64, minutes: u64) -> Number
-    ensures { result ≡ number_read (clock hours minutes) }
+fn clock_value(hours: u64, minutes: u64) -> Option<u64>
+    ensures { result ≡ clock hours minutes }
 {
-    if 14 < hours {
-        return Number::Bad;
+    if hours <= 14 && minutes < 60 {
+        Some(hours * 60 + minutes)
+    } else {
+        None
     }
-    if 60 <= minutes {
-        return Number::Bad;
-    }
-    Number::Good(hours * 60 + minutes)
 }
 
 // The four digits after a zone's sign.
-fn clock_text(b: &[u8]) -> Number
-    ensures { result ≡ number_read (clock_text b.now) }
+#[tactic(auto, unfolding(crate::specs::Person::clock_text))]
+fn clock_text(b: &[u8]) -> Option<u64>
+    ensures { result ≡ clock_text b.now }
 {
-    match two_digits(byte_at(b, 1), byte_at(b, 2)) {
-        Number::Bad => Number::Bad,
-        Number::Good(hours) => match two_digits(byte_at(b, 3), byte_at(b, 4)) {
-            Number::Bad => Number::Bad,
-            Number::Good(minutes) => clock_value(hours, minutes),
-        },
-    }
+    let hours = two_digits(byte_at(b, 1), byte_at(b, 2))?;
+    let minutes = two_digits(byte_at(b, 3), byte_at(b, 4))?;
+    clock_value(hours, minutes)
 }
 
 // Minutes with a sign before them.
-fn signed_zone(sign: u8, value: u64) -> Zone
+fn signed_zone(sign: u8, value: u64) -> Option<i64>
     requires { value < 1000000000000000000 }
-    ensures { result ≡ zone_given (by_sign sign value) }
+    ensures { result ≡ by_sign sign value }
 {
-    if sign == 43 {
-        let east = after_zero(value);
-        return Zone::Minutes(east.0);
+    match sign {
+        b'+' => Some(after_zero(value).0),
+        b'-' => Some(before_zero(value).0),
+        _ => None,
     }
-    if sign == 45 {
-        let west = before_zero(value);
-        return Zone::Minutes(west.0);
-    }
-    Zone::NoZone
 }
 
 // A zone that takes all of the bytes.
-fn zone_text(b: &[u8]) -> Zone
-    ensures { result ≡ zone_given (zone_text b.now) }
+#[tactic(auto, using(crate::proofs::Zones::text_small), unfolding(crate::specs::Person::zone_text))]
+fn zone_text(b: &[u8]) -> Option<i64>
+    ensures { result ≡ zone_text b.now }
 {
     if b.len() != 5 {
-        return Zone::NoZone;
+        return None;
     }
-    match clock_text(b) {
-        Number::Bad => Zone::NoZone,
-        Number::Good(value) => signed_zone(byte_at(b, 0), value),
-    }
+    let value = clock_text(b)?;
+    signed_zone(byte_at(b, 0), value)
 }
 
 // The zone after the seconds and one space.
-fn spaced_zone(b: &[u8]) -> Zone
-    ensures { result ≡ zone_given (spaced_zone b.now) }
+#[tactic(auto, using(crate::proofs::Places::first_below), unfolding(crate::specs::Person::spaced_zone))]
+fn spaced_zone(b: &[u8]) -> Option<i64>
+    ensures { result ≡ spaced_zone b.now }
 {
-    match first_of(b, 32) {
-        Spot::Missing => Zone::NoZone,
-        Spot::At(p) => zone_text(tail(b, p + 1)),
-    }
+    let p = first_of(b, b' ')?;
+    zone_text(tail(b, p + 1))
 }
 
 // Seconds and zone after the `>` at a place: no zone makes a line bad.
-fn stamp_after(b: &[u8], k: usize) -> StampRead
+fn stamp_after(b: &[u8], k: usize) -> Option<Stamp>
     requires { k < length b.now }
     ensures { result ≡ stamp_read (stamped (spaced (drop (k + 1) b.now)) (spaced_zone (drop (k + 2) b.now))) }
 {
-    match spaced_number(tail(b, k + 1)) {
-        SecondsRead::Bad => StampRead::Bad,
-        SecondsRead::Good(seconds) => StampRead::Good(Stamp {
-            seconds,
-            zone: spaced_zone(tail(b, k + 2)),
-        }),
-    }
+    let seconds = spaced_number(tail(b, k + 1))?;
+    let zone = spaced_zone(tail(b, k + 2));
+    Some(Stamp { seconds, zone })
 }
 
 // Seconds and zone of a committer line's bytes: they stand after the last `>`.
-pub fn line_stamp(b: &[u8]) -> StampRead
+#[tactic(auto, using(crate::proofs::Places::last_below), unfolding(crate::specs::Person::line_seconds, crate::specs::Person::line_zone))]
+pub fn line_stamp(b: &[u8]) -> Option<Stamp>
     ensures { result ≡ stamp_read (stamped (line_seconds b.now) (line_zone b.now)) }
 {
-    match last_of(b, 62) {
-        Spot::Missing => StampRead::Bad,
-        Spot::At(k) => stamp_after(b, k),
-    }
+    let k = last_of(b, b'>')?;
+    stamp_after(b, k)
 }

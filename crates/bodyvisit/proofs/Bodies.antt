@@ -1,8 +1,8 @@
 -- The parents of a body: their ids, which were set down end to end, are visited with their seconds in the store. Assumes nothing.
+use Rattle.std.specs.Prelude.{None, Some}
 use mathlib.Core.Path.{◌≡◌, refl, sym, ap, ◌∙◌, subst}
 use Prim.Native.Nat.{ℕ, suc, ◌+◌, ◌*◌, ◌≤◌, ◌<◌}
 use mathlib.Core.Bool.{Bool, true, false, not, ◌&&◌}
-use mathlib.Core.Option.{none, some}
 use mathlib.Core.List.{List, [], ◌∷◌, ◌++◌, map}
 use native.Mathlib.Omega.{arith}
 use lib.ListN.{length, take, drop, get_or}
@@ -129,17 +129,17 @@ followed_take s l =
     (λ e. rw (followed-one s l e) (take_one l))
     (λ e. rw (followed-all s l e) (take_all (length l) l (omega arith), omega arith))
 
-crowded-end : (h : Header) → refusal_of (end_of h) ≡ some TooManyParents → h.crowded ≡ true
+crowded-end : (h : Header) → refusal_of (end_of h) ≡ Some TooManyParents → h.crowded ≡ true
 unfolding end_of
 crowded-end h k = go h.crowded h.author refl refl
   where
     go : (c a : Bool) → h.crowded ≡ c → h.author ≡ a → h.crowded ≡ true
     go true a c d = c
-    go false true c d = let q : refusal_of (end_of h) ≡ none = rw (c, d) in let z : ◌≡◌ {A = ℕ} 0 1 = cc in absurd (omega arith)
-    go false false c d = let q : refusal_of (end_of h) ≡ some CommitUnreadable = rw (c, d) in let z : ◌≡◌ {A = ℕ} 0 1 = cc in absurd (omega arith)
+    go false true c d = let q : refusal_of (end_of h) ≡ None = rw (c, d) in let z : ◌≡◌ {A = ℕ} 0 1 = cc in absurd (omega arith)
+    go false false c d = let q : refusal_of (end_of h) ≡ Some CommitUnreadable = rw (c, d) in let z : ◌≡◌ {A = ℕ} 0 1 = cc in absurd (omega arith)
 
 -- a header is refused for its parents after 256 of them: under First the reading stops after one
-pub crowded-followed : (s : Settings) (d : List ℕ) → ending s (header (width_of s.kind) d) ≡ some TooManyParents → length (followed s (header (width_of s.kind) d).ids) ≡ most
+pub crowded-followed : (s : Settings) (d : List ℕ) → ending s (header (width_of s.kind) d) ≡ Some TooManyParents → length (followed s (header (width_of s.kind) d).ids) ≡ most
 unfolding is_empty
 crowded-followed s d e = by_cases h.tree good (λ t. let k = sym (ending-tree s h t) ∙ e in let z : ◌≡◌ {A = ℕ} 0 1 = cc in absurd (omega arith))
   where

@@ -101,12 +101,10 @@ fn visit_parents(
     ensures { VisitsParents excluded.now settings store.now body.now parents.now n (waiting_in r w) (mem names.old marks.old times.old line.old) (mem names.new marks.new times.new line.new) (waiting_in r result) }
 {
     let mut at = w;
-    let mut k = 0;
-    while k < n {
+    for k in 0..n {
         at = visit_body_parent(
             r, at, store, body, k, names, marks, levels, times, line, parents, excluded, settings,
         );
-        k += 1;
     }
     at
 }
@@ -145,10 +143,9 @@ pub fn visit_body(
         excluded,
         settings,
     );
-    let ends = read.ends;
     BodyVisited {
         after: at,
         parents: read.parents,
-        ends,
+        ends: read.ends,
     }
 }

@@ -7,24 +7,20 @@ ghost use Rattle.state.specs.Steps.{mem};
 ghost use Rattle.bodyvisit.specs.Body.{VisitsBodyParent, VisitsParents};
 ghost use Rattle.bodyvisit.specs.InPlace.{TakesBodyHere};
 
-use crate::body::parents_room;
+use crate::body::{BodyVisited, parents_room};
 use date::Seconds;
 use links::{
     insert_into_seen_and_next_or_queue_stored, insert_into_seen_and_queue_stored, only_first,
 };
-use reading::BodyEnd;
 use revwalk::queue::{Popped, Queue, heap, ring};
 use state::{Record, Waiting};
 use walk::Settings;
 
-// The first of the queue was taken, with the seconds of its slot, and the parents of its body visited; or nothing waits, and nothing was changed.
+// The first of the queue was taken, with the seconds of its slot, and the parents of its body visited.
 #[derive(Clone, Copy)]
 pub struct BodyTaken {
-    pub found: bool,
     pub seconds: Seconds,
-    pub after: Waiting,
-    pub parents: usize,
-    pub ends: BodyEnd,
+    pub visited: BodyVisited,
 }
 
 // Visits parent k of a body whose ids were set down, as `visit_body_parent` does: the branch that reads its line again is not the one that is compiled in.
@@ -96,18 +92,16 @@ fn visit_parents_here(
     ensures { VisitsParents excluded.now settings store.now body.now parents.now n (waiting_in r w) (mem names.old marks.old times.old line.old) (mem names.new marks.new times.new line.new) (waiting_in r result) }
 {
     let mut at = w;
-    let mut k = 0;
-    while k < n {
+    for k in 0..n {
         at = visit_parent_here(
             r, at, store, body, k, names, marks, levels, times, line, parents, excluded, settings,
         );
-        k += 1;
     }
     at
 }
 
 // Hands out the first slot of a queue: what `queue::pop` does, with the heap and the ring apart.
-fn pop(q: Queue, line: &mut [u32], times: &[i64]) -> Popped
+fn pop(q: Queue, line: &mut [u32], times: &[i64]) -> Option<Popped>
     ensures { Pops q times.now line.old line.new result }
 {
     if q.timed {
@@ -116,7 +110,8 @@ fn pop(q: Queue, line: &mut [u32], times: &[i64]) -> Popped
     ring::pop(q, line)
 }
 
-// Takes the first of the queue, sets down the parents of its body, the first alone where only that is followed, and then visits them.
+// Takes the first of the queue, sets down the parents of its body, the first alone where only that is followed, and then visits them; where nothing waits,
+// nothing is changed.
 pub fn take_body(
     r: Record,
     store: &[u8],
@@ -129,26 +124,17 @@ pub fn take_body(
     parents: &mut [u8],
     excluded: &[u8],
     settings: Settings,
-) -> BodyTaken
+) -> Option<BodyTaken>
     ensures { TakesBodyHere excluded.now settings store.now (header (width_of settings.kind) body.now) r names.old marks.old times.old line.old (mem names.new marks.new times.new line.new) levels.old levels.new parents.old parents.new result }
 {
     let kind = settings.kind;
-    let p = pop(r.queue, line, times);
+    let p = pop(r.queue, line, times)?;
     let queue = p.queue;
     let rest = Waiting {
         queue,
         admitted: r.admitted,
     };
     let seconds = revwalk::seconds_of(times, p.slot);
-    if !p.found {
-        return BodyTaken {
-            found: false,
-            seconds,
-            after: rest,
-            parents: 0,
-            ends: BodyEnd::Whole,
-        };
-    }
     let read = reading::read_body(kind, body, only_first(settings), parents);
     let after = visit_parents_here(
         r,
@@ -165,12 +151,12 @@ pub fn take_body(
         excluded,
         settings,
     );
-    let ends = read.ends;
-    BodyTaken {
-        found: true,
+    Some(BodyTaken {
         seconds,
-        after,
-        parents: read.parents,
-        ends,
-    }
+        visited: BodyVisited {
+            after,
+            parents: read.parents,
+            ends: read.ends,
+        },
+    })
 }

@@ -10,11 +10,10 @@ use lib.Dec.{ltb}
 use lib.IntN.{ℤ, pos, negsuc, nat_abs}
 use lib.Signed.{lt_z}
 use mir.Syntax.{w64}
-use mir.Val.{SFits}
+use mir.Val.{SFits, to_z, of_z}
 use mir.Facts.{to_z-of_z}
 use borrow.Author.Tests.{lt-ltb, ltb-true, ltb-false}
 use Rattle.hash.proofs.Tests.{by_cases}
-use Rattle.date.proofs.Negative.{held}
 use Rattle.calendar.specs.Months.{first_day, tabled, months}
 use Rattle.calendar.specs.Terms.{rise, good_terms, term_at, first_month, last_month}
 use Rattle.calendar.specs.Search.{Begun}
@@ -98,6 +97,10 @@ none_before l (negsuc n) e = sym (none_negative l n)
 natural : (s : ℤ) → lt_z s (pos 0) ≡ false → pos (nat_abs s) ≡ s
 natural (pos n) e = refl
 natural (negsuc n) e = absurd (true≢false e)
+
+-- seconds as a local holds them
+abbrev held : ℤ → ℤ
+held x = to_z w64 (of_z w64 x)
 
 module _ (s : ℤ) (f : SFits w64 s) {r : Bool} (e : r ≡ lt_z (held s) (pos 0)) where
   sign : r ≡ lt_z s (pos 0)

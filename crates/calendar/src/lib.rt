@@ -66,6 +66,7 @@ fn begun(terms: &[u32], day: u64) -> usize
 {
     let mut low = 0usize;
     let mut high = terms.len() / 2;
+    // The terms lie as pairs of numbers in one slice, as a caller in C lends them, and no search of the library looks through pairs.
     while low < high {
         let mid = low + (high - low) / 2;
         if months::first_day(month(terms[mid * 2])) <= day {

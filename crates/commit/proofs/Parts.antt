@@ -1,8 +1,8 @@
 -- What `part` and its two arms give of an answer of `find`: the row of the commit-graph file, or the body in the commit store. The row's place
 -- is cut off at the end of the file, as the row itself is. Assumes nothing.
+use Rattle.std.specs.Prelude.{Option, Some}
 use Prim.Native.Nat.{ℕ, ◌+◌, ◌*◌, ◌≤◌}
 use mathlib.Core.Path.{◌≡◌, refl, sym, ◌∙◌, ap}
-use mathlib.Core.Option.{some}
 use mathlib.Core.List.{List}
 use lib.ListN.{length}
 use Rattle.hash.specs.Bytes.{Id, at}
@@ -14,8 +14,6 @@ use Rattle.commitgraph.specs.Graph.{row_size, row_in, row_start, row_end}
 use Rattle.commitgraph.specs.declared.Layout.{Layout}
 use Rattle.commitgraph.proofs.RowsPlace.{at-ends}
 use Rattle.commit.specs.Find.{in_graph, in_store, FindsCommit, from_to, part_in_store, part_of}
-use Rattle.commit.specs.declared.Cache.{Cache}
-use Rattle.commit.specs.declared.Cache.TheVariants.{Graph}
 use Rattle.commit.specs.declared.Either.{Either}
 use Rattle.commit.specs.declared.Either.TheVariants.{CachedCommit, CommitRefIter}
 
@@ -25,7 +23,7 @@ unfolding part_of row_start row_end row_in
 part-row w g s l p = at-ends g (l.rows + row_size w * p) (row_size w)
 
 -- the part that an entry's answer names is its body
-pub part_body : (w : ℕ) (g s : List ℕ) (k : ℕ) → part_of (in_store (located_of w s (some k))) g s ≡ body w s k
+pub part_body : (w : ℕ) (g s : List ℕ) (k : ℕ) → part_of (in_store (located_of w s (Some k))) g s ≡ body w s k
 unfolding part_of body
 part_body w g s k = refl
 
@@ -34,9 +32,9 @@ pub part-store : (g s : List ℕ) (a e : ℕ) → a ≤ e → e ≤ length s →
 unfolding part_of at
 part-store g s a e h k = part_of-yes s a e h k
 
-module _ {w : ℕ} {c : Cache} {g s : List ℕ} {x : Id} {r : Either} (f : FindsCommit w c g s x r) where
+module _ {w : ℕ} {c : Option Layout} {g s : List ℕ} {x : Id} {r : Either} (f : FindsCommit w c g s x r) where
   -- a row that was found: its part is the row of the cache's layout
-  pub found-row : (p a e : ℕ) → r ≡ CachedCommit p a e → (l : Layout) × (c ≡ Graph l) × (part_of (CachedCommit p a e) g s ≡ row_in w g l p)
+  pub found-row : (p a e : ℕ) → r ≡ CachedCommit p a e → (l : Layout) × (c ≡ Some l) × (part_of (CachedCommit p a e) g s ≡ row_in w g l p)
   unfolding part_of
   found-row p a e q =
       let t = f.listed p a e q in

@@ -5,17 +5,9 @@ ghost use Rattle.std.specs.Prelude.{◌≡◌};
 ghost use Rattle.hash.specs.Bytes.{width_of};
 ghost use Rattle.commit.specs.Find.{in_graph, in_store, FindsCommit, from_to, part_in_graph, part_in_store, part_of};
 
-use commitgraph::rows::Position;
 use commitgraph::{Layout, rows};
 use hash::Kind;
 use odb::Located;
-
-// The commit-graph file, where one is used: where its chunks stand. (In the Rust an Option of the file.)
-#[derive(Clone, Copy)]
-pub enum Cache {
-    Graph(Layout),
-    NoGraph,
-}
 
 // Which file has a commit, and where: the position of its row in the commit-graph file, and the row's bytes; or the bytes of its body in
 // the commit store. Bytes are told by the first and the one after the last. (The Rust holds the references themselves; `part_of_graph`,
@@ -57,15 +49,22 @@ fn in_store(at: Located) -> Either
 
 // Which of the two files has a commit: the graph comes before the store. Its row may stand at position near, or its body under entry near,
 // which is looked at first in each; on good files any other number gives the same answer.
-pub fn find(kind: Kind, cache: Cache, graph: &[u8], store: &[u8], id: &[u8], near: usize) -> Either
+pub fn find(
+    kind: Kind,
+    cache: Option<Layout>,
+    graph: &[u8],
+    store: &[u8],
+    id: &[u8],
+    near: usize,
+) -> Either
     ensures { FindsCommit (width_of kind) cache graph.now store.now id.now result }
 {
     match cache {
-        Cache::Graph(l) => match rows::lookup_near(kind, graph, l, id, near) {
-            Position::At(p) => in_graph(kind, graph, l, p),
-            Position::Absent => in_store(odb::locate_near(kind, store, id, near)),
+        Some(l) => match rows::lookup_near(kind, graph, l, id, near) {
+            Some(p) => in_graph(kind, graph, l, p),
+            None => in_store(odb::locate_near(kind, store, id, near)),
         },
-        Cache::NoGraph => in_store(odb::locate_near(kind, store, id, near)),
+        None => in_store(odb::locate_near(kind, store, id, near)),
     }
 }
 

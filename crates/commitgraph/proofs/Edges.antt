@@ -1,10 +1,10 @@
 -- Laws of parent lists. A good list has at most 256 parents, each a position below N, and its k-th parent is read at one place of the
 -- file: the row's first field, its second, or an entry of EDGE. Assumes nothing.
+use Rattle.std.specs.Prelude.{None, Option, Some}
 use mathlib.Core.Path.{◌≡◌, refl, sym, ◌∙◌, ap, subst}
 use Prim.Native.Nat.{ℕ, zero, suc, ◌+◌, ◌-◌, ◌%◌, ◌≤◌, ◌<◌}
 use mathlib.Core.Logic.{⊎_elim}
 use mathlib.Core.Bool.{Bool, cond}
-use mathlib.Core.Option.{Option, none, some}
 use mathlib.Core.List.Memᴰ
 use mathlib.Core.List.{List, [], ◌∷◌, Memᴰ}
 use native.Mathlib.Omega.{arith}
@@ -15,35 +15,33 @@ use borrow.Author.Tests.{ltb-true, ltb-false, leb-true, leb-false, eqb-true, eqb
 use Rattle.hash.specs.Bytes.{u32_at}
 use Rattle.hash.proofs.Tests.{by_cases}
 use Rattle.commitgraph.specs.declared.Layout.{Layout}
-use Rattle.commitgraph.specs.declared.parents.ParentList.{ParentList}
-use Rattle.commitgraph.specs.declared.parents.ParentList.TheVariants.{Good, Corrupt}
 use Rattle.commitgraph.specs.Graph.{edge_in, edges_from, after_first, parents_in, parent_in, graph_parents, graph_count, layout_of, row_in, parent_list_of, counted_from, with_parent, top_bit, no_parent, most_parents}
 
 -- ---- an entry of EDGE: it is none, the last, or one before others
 
-edge_none : (g : List ℕ) (l : Layout) (j : ℕ) → edges_from g l zero j ≡ none
+edge_none : (g : List ℕ) (l : Layout) (j : ℕ) → edges_from g l zero j ≡ None
 unfolding edges_from
 edge_none g l j = refl
 
 module _ (g : List ℕ) (l : Layout) (k j : ℕ) where
-  pub edge-out : l.edges ≤ j → edges_from g l (suc k) j ≡ none
+  pub edge-out : l.edges ≤ j → edges_from g l (suc k) j ≡ None
   unfolding edges_from
   edge-out h = rw (le-ltb j l.edges h)
 
-  pub edge-high : l.count ≤ edge_in g l j % top_bit → edges_from g l (suc k) j ≡ none
+  pub edge-high : l.count ≤ edge_in g l j % top_bit → edges_from g l (suc k) j ≡ None
   unfolding edges_from
   edge-high h = by_cases (ltb j l.edges) (λ t. rw (t, le-ltb (edge_in g l j % top_bit) l.count h)) (λ t. rw t)
 
   module _ (inside : j < l.edges) (low : edge_in g l j % top_bit < l.count) where
-    edge_is : edges_from g l (suc k) j ≡ with_parent (edge_in g l j % top_bit) (cond (leb top_bit (edge_in g l j)) (some []) (edges_from g l k (suc j)))
+    edge_is : edges_from g l (suc k) j ≡ with_parent (edge_in g l j % top_bit) (cond (leb top_bit (edge_in g l j)) (Some []) (edges_from g l k (suc j)))
     unfolding edges_from
     edge_is = rw (lt-ltb j l.edges inside, lt-ltb (edge_in g l j % top_bit) l.count low)
 
-    pub edge_last : top_bit ≤ edge_in g l j → edges_from g l (suc k) j ≡ some (edge_in g l j % top_bit ∷ [])
-    edge_last h = edge_is ∙ ap (λ (b : Bool). with_parent (edge_in g l j % top_bit) (cond b (some []) (edges_from g l k (suc j)))) (le-leb top_bit (edge_in g l j) h)
+    pub edge_last : top_bit ≤ edge_in g l j → edges_from g l (suc k) j ≡ Some (edge_in g l j % top_bit ∷ [])
+    edge_last h = edge_is ∙ ap (λ (b : Bool). with_parent (edge_in g l j % top_bit) (cond b (Some []) (edges_from g l k (suc j)))) (le-leb top_bit (edge_in g l j) h)
 
     pub edge_more : edge_in g l j < top_bit → edges_from g l (suc k) j ≡ with_parent (edge_in g l j % top_bit) (edges_from g l k (suc j))
-    edge_more h = edge_is ∙ ap (λ (b : Bool). with_parent (edge_in g l j % top_bit) (cond b (some []) (edges_from g l k (suc j)))) (lt-leb top_bit (edge_in g l j) h)
+    edge_more h = edge_is ∙ ap (λ (b : Bool). with_parent (edge_in g l j % top_bit) (cond b (Some []) (edges_from g l k (suc j)))) (lt-leb top_bit (edge_in g l j) h)
 
 -- what holds of the element at every place holds of every member
 members : (ps : List ℕ) (P : ℕ → Type 0) → ((k : ℕ) → k < length ps → P (get_or ps k 0)) → (q : ℕ) → Memᴰ q ps → P q
@@ -53,22 +51,22 @@ members (x ∷ ps) P f q m = ⊎_elim (λ e. rw e (f 0 (omega arith))) (λ n. me
 -- ---- the count, entry by entry
 
 counted_with : (c q : ℕ) (o : Option (List ℕ)) → counted_from c (with_parent q o) ≡ counted_from (c + 1) o
-counted_with c q none = refl
-counted_with c q (some ps) = ap Good (omega arith)
+counted_with c q None = refl
+counted_with c q (Some ps) = ap Some (omega arith)
 
 pub counted-first : (q : ℕ) (o : Option (List ℕ)) → parent_list_of (with_parent q o) ≡ counted_from 1 o
-counted-first q none = refl
-counted-first q (some ps) = ap Good (omega arith)
+counted-first q None = refl
+counted-first q (Some ps) = ap Some (omega arith)
 
 module _ (g : List ℕ) (l : Layout) (from : ℕ) where
   -- the count where the first parent and i entries have been passed
-  abbrev pub left : ℕ → ParentList
+  abbrev pub left : ℕ → Option ℕ
   left i = counted_from (1 + i) (edges_from g l (255 - i) (from + i))
 
   pub left-start : left 0 ≡ counted_from 1 (edges_from g l 255 from)
   left-start = rw (add-zero from)
 
-  pub left_end : left 255 ≡ Corrupt
+  pub left_end : left 255 ≡ None
   unfolding edges_from
   left_end = refl
 
@@ -76,15 +74,15 @@ module _ (g : List ℕ) (l : Layout) (from : ℕ) where
     next : (o : Option (List ℕ)) → edges_from g l (suc (254 - i)) (from + i) ≡ o → left i ≡ counted_from (1 + i) o
     next o e = let n : 255 - i ≡ suc (254 - i) = omega arith in ap (λ (k : ℕ). counted_from (1 + i) (edges_from g l k (from + i))) n ∙ ap (counted_from (1 + i)) e
 
-    pub left_out : l.edges ≤ from + i → left i ≡ Corrupt
-    left_out o = next none (edge-out g l (254 - i) (from + i) o)
+    pub left_out : l.edges ≤ from + i → left i ≡ None
+    left_out o = next None (edge-out g l (254 - i) (from + i) o)
 
-    pub left-high : l.count ≤ edge_in g l (from + i) % top_bit → left i ≡ Corrupt
-    left-high o = next none (edge-high g l (254 - i) (from + i) o)
+    pub left-high : l.count ≤ edge_in g l (from + i) % top_bit → left i ≡ None
+    left-high o = next None (edge-high g l (254 - i) (from + i) o)
 
     module _ (inside : from + i < l.edges) (low : edge_in g l (from + i) % top_bit < l.count) where
-      pub left-last : top_bit ≤ edge_in g l (from + i) → left i ≡ Good (i + 2)
-      left-last o = next _ (edge_last g l (254 - i) (from + i) inside low o) ∙ ap Good (omega arith)
+      pub left-last : top_bit ≤ edge_in g l (from + i) → left i ≡ Some (i + 2)
+      left-last o = next _ (edge_last g l (254 - i) (from + i) inside low o) ∙ ap Some (omega arith)
 
       pub left-more : edge_in g l (from + i) < top_bit → left i ≡ left (i + 1)
       left-more o =
@@ -97,11 +95,11 @@ module _ (g : List ℕ) (l : Layout) (from : ℕ) where
 
 -- ---- good lists
 
-with_some : (q : ℕ) (o : Option (List ℕ)) (ps : List ℕ) → with_parent q o ≡ some ps → (es : List ℕ) × (o ≡ some es) × (ps ≡ q ∷ es)
-with_some q none ps e = let z : ◌≡◌ {A = ℕ} 0 1 = cc in absurd (omega arith)
-with_some q (some es) ps e = (es, refl, cc)
+with_some : (q : ℕ) (o : Option (List ℕ)) (ps : List ℕ) → with_parent q o ≡ Some ps → (es : List ℕ) × (o ≡ Some es) × (ps ≡ q ∷ es)
+with_some q None ps e = let z : ◌≡◌ {A = ℕ} 0 1 = cc in absurd (omega arith)
+with_some q (Some es) ps e = (es, refl, cc)
 
-no-list : {X : Type 0} (ps : List ℕ) → ◌≡◌ {A = Option (List ℕ)} none (some ps) → X
+no-list : {X : Type 0} (ps : List ℕ) → ◌≡◌ {A = Option (List ℕ)} None (Some ps) → X
 no-list ps e = let z : ◌≡◌ {A = ℕ} 0 1 = cc in absurd (omega arith)
 
 -- a list of at most k entries of EDGE, from entry j on
@@ -129,14 +127,14 @@ edge_cons g l k j es low r = record {
 edge_nil : (g : List ℕ) (l : Layout) (k j : ℕ) → EdgeList g l k j []
 edge_nil g l k j = record { few = omega arith; each = λ i h. absurd (omega arith); below = λ i h. absurd (omega arith) }
 
-pub edge_list : (g : List ℕ) (l : Layout) (k j : ℕ) (es : List ℕ) → edges_from g l k j ≡ some es → EdgeList g l k j es
+pub edge_list : (g : List ℕ) (l : Layout) (k j : ℕ) (es : List ℕ) → edges_from g l k j ≡ Some es → EdgeList g l k j es
 edge_list g l zero j es e = no-list es (sym (edge_none g l j) ∙ e)
 edge_list g l (suc k) j es e =
     by_cases (ltb j l.edges)
     (λ h. by_cases (ltb (v % top_bit) l.count)
     (λ t. by_cases (leb top_bit v)
     (λ u.
-    let es≡ : some es ≡ some (v % top_bit ∷ []) = sym e ∙ edge_last g l k j (ltb-true _ _ h) (ltb-true _ _ t) (leb-true _ _ u) in
+    let es≡ : Some es ≡ Some (v % top_bit ∷ []) = sym e ∙ edge_last g l k j (ltb-true _ _ h) (ltb-true _ _ t) (leb-true _ _ u) in
     let s : v % top_bit ∷ [] ≡ es = cc in
     subst (EdgeList g l (suc k) j) s (edge_cons g l k j [] (ltb-true _ _ t) (edge_nil g l k (suc j))))
     (λ u.
@@ -156,7 +154,7 @@ pub record After (g : List ℕ) (l : Layout) (b : ℕ) (es : List ℕ) : Type 0 
   pub listed : top_bit ≤ b → (i : ℕ) → i < length es → get_or es i 0 ≡ edge_in g l (b % top_bit + i) % top_bit
 
 module _ (g : List ℕ) (l : Layout) (b : ℕ) where
-  pub after_none : b ≡ no_parent → after_first g l b ≡ some []
+  pub after_none : b ≡ no_parent → after_first g l b ≡ Some []
   unfolding after_first
   after_none h = rw (eq-eqb b no_parent h)
 
@@ -165,26 +163,26 @@ module _ (g : List ℕ) (l : Layout) (b : ℕ) where
   after-edges h = rw (ne_eqb b no_parent (λ e. omega arith), le-leb top_bit b h)
 
   module _ (ne : b ≡ no_parent → ⊥) (small : b < top_bit) where
-    pub after_one : b < l.count → after_first g l b ≡ some (b ∷ [])
+    pub after_one : b < l.count → after_first g l b ≡ Some (b ∷ [])
     unfolding after_first
     after_one h = rw (ne_eqb b no_parent ne, lt-leb top_bit b small, lt-ltb b l.count h)
 
-    pub after-high : l.count ≤ b → after_first g l b ≡ none
+    pub after-high : l.count ≤ b → after_first g l b ≡ None
     unfolding after_first
     after-high h = rw (ne_eqb b no_parent ne, lt-leb top_bit b small, le-ltb b l.count h)
 
-  after_list : (es : List ℕ) → after_first g l b ≡ some es → After g l b es
+  after_list : (es : List ℕ) → after_first g l b ≡ Some es → After g l b es
   after_list es e =
       by_cases (eqb b no_parent)
       (λ h.
-      let o : some [] ≡ some es = sym (after_none (eqb-true _ _ h)) ∙ e in
+      let o : Some [] ≡ Some es = sym (after_none (eqb-true _ _ h)) ∙ e in
       let s : [] ≡ es = cc in
       subst (After g l b) s empty)
       (λ h. by_cases (leb top_bit b)
       (λ t. listed (leb-true _ _ t) (edge_list g l 255 (b % top_bit) es (sym (after-edges (leb-true _ _ t)) ∙ e)))
       (λ t. by_cases (ltb b l.count)
       (λ u.
-      let o : some (b ∷ []) ≡ some es = sym (after_one (eqb-false _ _ h) (leb-false _ _ t) (ltb-true _ _ u)) ∙ e in
+      let o : Some (b ∷ []) ≡ Some es = sym (after_one (eqb-false _ _ h) (leb-false _ _ t) (ltb-true _ _ u)) ∙ e in
       let s : b ∷ [] ≡ es = cc in
       subst (After g l b) s (single (leb-false _ _ t) (ltb-true _ _ u)))
       (λ u. no-list es (sym (after-high (eqb-false _ _ h) (leb-false _ _ t) (ltb-false _ _ u)) ∙ e))))
@@ -217,16 +215,16 @@ pub record GoodList (w : ℕ) (g : List ℕ) (l : Layout) (p : ℕ) (ps : List �
       → get_or ps k 0 ≡ edge_in g l (u32_at (row_in w g l p) (w + 4) % top_bit + (k - 1)) % top_bit
 
 module _ (w : ℕ) (g : List ℕ) (l : Layout) (p : ℕ) where
-  pub parents-root : u32_at (row_in w g l p) w ≡ no_parent → u32_at (row_in w g l p) (w + 4) ≡ no_parent → parents_in w g l p ≡ some []
+  pub parents-root : u32_at (row_in w g l p) w ≡ no_parent → u32_at (row_in w g l p) (w + 4) ≡ no_parent → parents_in w g l p ≡ Some []
   unfolding parents_in
   parents-root h k = rw (eq-eqb _ _ h, eq-eqb _ _ k)
 
-  pub parents-torn : u32_at (row_in w g l p) w ≡ no_parent → (u32_at (row_in w g l p) (w + 4) ≡ no_parent → ⊥) → parents_in w g l p ≡ none
+  pub parents-torn : u32_at (row_in w g l p) w ≡ no_parent → (u32_at (row_in w g l p) (w + 4) ≡ no_parent → ⊥) → parents_in w g l p ≡ None
   unfolding parents_in
   parents-torn h k = rw (eq-eqb _ _ h, ne_eqb _ _ k)
 
   module _ (ne : u32_at (row_in w g l p) w ≡ no_parent → ⊥) where
-    pub parents-high : l.count ≤ u32_at (row_in w g l p) w → parents_in w g l p ≡ none
+    pub parents-high : l.count ≤ u32_at (row_in w g l p) w → parents_in w g l p ≡ None
     unfolding parents_in
     parents-high h = rw (ne_eqb _ _ ne, le-ltb _ _ h)
 
@@ -266,12 +264,12 @@ module _ (w : ℕ) (g : List ℕ) (l : Layout) (p : ℕ) where
     listed = λ s k n h. absurd (omega arith);
   }
 
-  pub good-list : (ps : List ℕ) → parents_in w g l p ≡ some ps → GoodList w g l p ps
+  pub good-list : (ps : List ℕ) → parents_in w g l p ≡ Some ps → GoodList w g l p ps
   good-list ps e =
       by_cases (eqb a no_parent)
       (λ h. by_cases (eqb b no_parent)
       (λ k.
-      let o : some [] ≡ some ps = sym (parents-root (eqb-true _ _ h) (eqb-true _ _ k)) ∙ e in
+      let o : Some [] ≡ Some ps = sym (parents-root (eqb-true _ _ h) (eqb-true _ _ k)) ∙ e in
       let s : [] ≡ ps = cc in
       subst (GoodList w g l p) s good-nil)
       (λ k. no-list ps (sym (parents-torn (eqb-true _ _ h) (eqb-false _ _ k)) ∙ e)))
@@ -306,7 +304,7 @@ module _ (w : ℕ) (g : List ℕ) (l : Layout) (p : ℕ) where
   parent-edge (suc k) n h = let e : suc k - 1 ≡ k = omega arith in rw (le-leb top_bit _ h, e)
 
   -- parent k of a good list stands at its place
-  parent-there : (k : ℕ) (ps : List ℕ) → parents_in w g l p ≡ some ps → k < length ps → parent_in w g l p k ≡ get_or ps k 0
+  parent-there : (k : ℕ) (ps : List ℕ) → parents_in w g l p ≡ Some ps → k < length ps → parent_in w g l p k ≡ get_or ps k 0
   parent-there k ps e h =
       let good = good-list w g l p ps e in
       by_cases (eqb k 0)
@@ -320,12 +318,12 @@ module _ (w : ℕ) (g : List ℕ) (l : Layout) (p : ℕ) where
       (λ t. parent-second k n (leb-false _ _ t) ∙ sym (good.second (leb-false _ _ t) k (omega arith) h)))
 
 -- a number read as parent k is parent k of the list, where the list is good and has so many: for readers that counted the parents before
-pub parent_listed : (w : ℕ) (g : List ℕ) (l : Layout) (p k : ℕ) {q : ℕ} → q ≡ parent_in w g l p k → (ps : List ℕ) → parents_in w g l p ≡ some ps → k < length ps → q ≡ get_or ps k 0
+pub parent_listed : (w : ℕ) (g : List ℕ) (l : Layout) (p k : ℕ) {q : ℕ} → q ≡ parent_in w g l p k → (ps : List ℕ) → parents_in w g l p ≡ Some ps → k < length ps → q ≡ get_or ps k 0
 parent_listed w g l p k r ps e h = r ∙ parent-there w g l p k ps e h
 
 -- ---- of the file's own layout
 
-module _ (w : ℕ) (g : List ℕ) (p : ℕ) (ps : List ℕ) (e : graph_parents w g p ≡ some ps) where
+module _ (w : ℕ) (g : List ℕ) (p : ℕ) (ps : List ℕ) (e : graph_parents w g p ≡ Some ps) where
   -- a good list has at most 256 parents
   pub parents-few : length ps ≤ most_parents
   unfolding graph_parents

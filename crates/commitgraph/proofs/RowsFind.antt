@@ -1,9 +1,9 @@
 -- Laws of the lookup. In a right file the ids that begin with byte b stand from the fan-out's entry before b up to its entry b, so a
 -- search there misses none of them; and all ids have one width, so an id of another stands nowhere. Assumes nothing.
+use Rattle.std.specs.Prelude.{None, Option, Some}
 use mathlib.Core.Path.{◌≡◌, refl, sym, ◌∙◌, ap, subst}
 use Prim.Native.Nat.{ℕ, suc, ◌+◌, ◌-◌, ◌*◌, ◌≤◌, ◌<◌}
 use mathlib.Core.Bool.{true}
-use mathlib.Core.Option.{Option, none, some}
 use mathlib.Core.List.{List}
 use native.Mathlib.Omega.{arith}
 use native.Mathlib.Nat.{eq-zero-or-pos}
@@ -13,12 +13,8 @@ use borrow.Author.Tests.{eq-eqb, ne_eqb}
 use Rattle.hash.specs.Bytes.{Id, u32_at}
 use Rattle.hash.proofs.Widths.{in_all}
 use Rattle.idlist.specs.IdList.{id_of, Stands, Finds, found_of}
-use Rattle.idlist.specs.declared.Found.{Found}
-use Rattle.idlist.specs.declared.Found.TheVariants.{At as Hit, Absent as Miss}
 use Rattle.idlist.proofs.Answer.{other_width, at_width, found_in, find-hit, find_at}
 use Rattle.commitgraph.specs.declared.Layout.{Layout}
-use Rattle.commitgraph.specs.declared.rows.Position.{Position}
-use Rattle.commitgraph.specs.declared.rows.Position.TheVariants.{At, Absent}
 use Rattle.commitgraph.specs.Graph.{graph_ok, graph_ids, graph_id, graph_count, graph_find, fan_at, layout_of, position_of, id_in, ids_below, Looks}
 use Rattle.commitgraph.proofs.Fan.{fan_counts, count_le}
 use Rattle.commitgraph.proofs.LayoutRight.{right, in_fan}
@@ -46,10 +42,10 @@ fan_within : (w : ℕ) (g : List ℕ) (i : ℕ) → graph_ok w g ≡ true → i 
 fan_within w g i ok h = omega (arith, fan_counts w g 256 i (right w g ok).fan_right h, count_le w g i (graph_count g))
 
 -- the ids between which an id is looked for
-abbrev pub Search : ℕ → List ℕ → Layout → ℕ → Id → Found → Type 0
+abbrev pub Search : ℕ → List ℕ → Layout → ℕ → Id → Option ℕ → Type 0
 Search w g l b x r = Finds (record { bytes = g; width = length x; base = l.ids; stride = w }) (ids_below g l b) (ids_below g l (b + 1)) x r
 
-pub search_of : (w : ℕ) (g : List ℕ) (l : Layout) (b : ℕ) (x : Id) {lo hi : ℕ} {r t : Found} → Finds (record { bytes = g; width = length x; base = l.ids; stride = w }) lo hi x r
+pub search_of : (w : ℕ) (g : List ℕ) (l : Layout) (b : ℕ) (x : Id) {lo hi : ℕ} {r t : Option ℕ} → Finds (record { bytes = g; width = length x; base = l.ids; stride = w }) lo hi x r
     → lo ≡ ids_below g l b → hi ≡ ids_below g l (b + 1) → r ≡ t → Search w g l b x t
 search_of w g l b x f p q e = rw (p, q, e) at f
 
@@ -66,7 +62,7 @@ module _ (w : ℕ) (g : List ℕ) (x : Id) (b : ℕ) (some_bytes : 0 < w) (first
           let e : ids_below g (layout_of w g) b ≡ fan_at g (b - 1) = ap (ids_below g (layout_of w g)) n ∙ below-own w g (b - 1) in
           rw e (f (omega arith))
 
-  searched : {r : Found} → length x ≡ w → Search w g (layout_of w g) b x r → r ≡ found_of (graph_find w g x)
+  searched : {r : Option ℕ} → length x ≡ w → Search w g (layout_of w g) b x r → r ≡ found_of (graph_find w g x)
   unfolding graph_find graph_ids layout_of
   searched size f =
       let h : ids_below g (layout_of w g) (b + 1) ≤ graph_count g = rw (below-own w g b) (fan_within w g b ok small) in
@@ -75,12 +71,12 @@ module _ (w : ℕ) (g : List ℕ) (x : Id) (b : ℕ) (some_bytes : 0 < w) (first
 -- ---- positions and ids
 
 -- what is found is below N and has the id
-pub found-own : (w : ℕ) (g : List ℕ) (x : Id) (p : ℕ) → graph_find w g x ≡ some p → (p < graph_count g) × (graph_id w g p ≡ x)
+pub found-own : (w : ℕ) (g : List ℕ) (x : Id) (p : ℕ) → graph_find w g x ≡ Some p → (p < graph_count g) × (graph_id w g p ≡ x)
 unfolding graph_find graph_id
 found-own w g x p e = find-hit (graph_ids w g) x (graph_count g) p e
 
 -- in a right file the id at a position is found there
-pub find_own : (w : ℕ) (g : List ℕ) (p : ℕ) → graph_ok w g ≡ true → p < graph_count g → graph_find w g (graph_id w g p) ≡ some p
+pub find_own : (w : ℕ) (g : List ℕ) (p : ℕ) → graph_ok w g ≡ true → p < graph_count g → graph_find w g (graph_id w g p) ≡ Some p
 unfolding graph_find graph_id
 find_own w g p ok h = find_at (graph_ids w g) (id_of (graph_ids w g) p) (graph_count g) p (right w g ok).ids_rise h refl
 
@@ -90,7 +86,7 @@ unfolding id_in
 whole_in w g l x p some_bytes size here = whole-at g (l.ids + w * p) w some_bytes (ap length here ∙ size)
 
 -- so a position that has the id is the answer of a lookup
-pub looks_at : (w : ℕ) (g : List ℕ) (l : Layout) (x : Id) (p : ℕ) → 0 < w → length x ≡ w → p < l.count → id_in w g l p ≡ x → Looks w g l x (At p)
+pub looks_at : (w : ℕ) (g : List ℕ) (l : Layout) (x : Id) (p : ℕ) → 0 < w → length x ≡ w → p < l.count → id_in w g l p ≡ x → Looks w g l x (Some p)
 unfolding layout_of
 looks_at w g l x p some_bytes size h here = record {
   right = λ ok own.
@@ -102,31 +98,31 @@ looks_at w g l x p some_bytes size h here = record {
   foreign = λ n. absurd (n size);
 }
   where
-    one : {q : ℕ} → At p ≡ At q → p ≡ q
+    one : {q : ℕ} → Some p ≡ Some q → p ≡ q
     one e = cc
 
 -- ---- the answers
 
-no_hit : {X : Type 0} (p : ℕ) → Absent ≡ At p → X
+no_hit : {X : Type 0} (p : ℕ) → None ≡ Some p → X
 no_hit p e = let z : ◌≡◌ {A = ℕ} 0 1 = cc in absurd (omega arith)
 
 -- where nothing is found only the first clause says something
-looks_absent : (w : ℕ) (g : List ℕ) (l : Layout) (x : Id) → (graph_ok w g ≡ true → l ≡ layout_of w g → Absent ≡ position_of (graph_find w g x)) → Looks w g l x Absent
+looks_absent : (w : ℕ) (g : List ℕ) (l : Layout) (x : Id) → (graph_ok w g ≡ true → l ≡ layout_of w g → None ≡ position_of (graph_find w g x)) → Looks w g l x None
 looks_absent w g l x f = record { right = f; hit = λ p e. no_hit p e; inside = λ p e. no_hit p e; foreign = λ n. refl }
 
-miss_position : (o : Option ℕ) → Miss ≡ found_of o → Absent ≡ position_of o
-miss_position none e = refl
-miss_position (some k) e = let z : ◌≡◌ {A = ℕ} 0 1 = cc in absurd (omega arith)
+miss_position : (o : Option ℕ) → None ≡ found_of o → None ≡ position_of o
+miss_position None e = refl
+miss_position (Some k) e = let z : ◌≡◌ {A = ℕ} 0 1 = cc in absurd (omega arith)
 
 -- an id of another width
-pub looks_width : (w : ℕ) (g : List ℕ) (l : Layout) (x : Id) → 0 < w → (length x ≡ w → ⊥) → Looks w g l x Absent
+pub looks_width : (w : ℕ) (g : List ℕ) (l : Layout) (x : Id) → 0 < w → (length x ≡ w → ⊥) → Looks w g l x None
 unfolding graph_find graph_ids
 looks_width w g l x some_bytes other =
     looks_absent w g l x (λ ok e. ap position_of (sym (other_width (graph_ids w g) x (graph_count g) (ids_stand w g (graph_count g) some_bytes ok (omega arith)) other)))
 
 module _ (w : ℕ) (g : List ℕ) (l : Layout) (x : Id) (b : ℕ) (some_bytes : 0 < w) (first : b ≡ get_or x 0 0) (small : b < 256) where
   -- a fan-out that counts more than N ids
-  pub looks-over : l.count < ids_below g l (b + 1) → Looks w g l x Absent
+  pub looks-over : l.count < ids_below g l (b + 1) → Looks w g l x None
   unfolding layout_of
   looks-over h =
       looks_absent w g l x
@@ -135,23 +131,23 @@ module _ (w : ℕ) (g : List ℕ) (l : Layout) (x : Id) (b : ℕ) (some_bytes : 
       absurd (omega (arith, below-own w g b, fan_within w g b ok small)))
 
   module _ (size : length x ≡ w) where
-    pub looks-hit : (p : ℕ) → ids_below g l (b + 1) ≤ l.count → Search w g l b x (Hit p) → Looks w g l x (At p)
+    pub looks-hit : (p : ℕ) → ids_below g l (b + 1) ≤ l.count → Search w g l b x (Some p) → Looks w g l x (Some p)
     unfolding id_in id_of
     looks-hit p h f = let here = (at_width w size f).hit p refl in looks_at w g l x p some_bytes size (omega (arith, here.1)) here.2
 
-    pub looks-miss : Search w g l b x Miss → Looks w g l x Absent
+    pub looks-miss : Search w g l b x None → Looks w g l x None
     looks-miss f =
         looks_absent w g l x
-        (λ ok e. miss_position (graph_find w g x) (searched w g x b some_bytes first small ok size (subst (λ (l' : Layout). Search w g l' b x Miss) e f)))
+        (λ ok e. miss_position (graph_find w g x) (searched w g x b some_bytes first small ok size (subst (λ (l' : Layout). Search w g l' b x None) e f)))
 
 -- ---- what is found nowhere
 
 -- where N is 0, as with no file, nothing is found
-pub looks_none : {w : ℕ} {g : List ℕ} {l : Layout} {x : Id} (r : Position) → Looks w g l x r → l.count ≡ 0 → r ≡ Absent
-looks_none (At p) f z = let h = (f.hit p refl).0 in absurd (omega arith)
-looks_none Absent f z = refl
+pub looks_none : {w : ℕ} {g : List ℕ} {l : Layout} {x : Id} (r : Option ℕ) → Looks w g l x r → l.count ≡ 0 → r ≡ None
+looks_none (Some p) f z = let h = (f.hit p refl).0 in absurd (omega arith)
+looks_none None f z = refl
 
 -- where the file ends before the layout's first id does, nothing is found
-pub looks_torn : {w : ℕ} {g : List ℕ} {l : Layout} {x : Id} (r : Position) → Looks w g l x r → length g < l.ids + w → r ≡ Absent
-looks_torn (At p) f z = absurd (omega (arith, f.inside p refl))
-looks_torn Absent f z = refl
+pub looks_torn : {w : ℕ} {g : List ℕ} {l : Layout} {x : Id} (r : Option ℕ) → Looks w g l x r → length g < l.ids + w → r ≡ None
+looks_torn (Some p) f z = absurd (omega (arith, f.inside p refl))
+looks_torn None f z = refl

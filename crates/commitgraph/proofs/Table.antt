@@ -2,9 +2,9 @@
 -- The first chunk with an id among n rows stays the first among more rows; offsets that never fall from row to row never fall over
 -- several rows, so that every chunk ends where the next starts, before the last offset, 20 bytes before the end of the file.
 -- Assumes nothing.
+use Rattle.std.specs.Prelude.{None, Option, Some}
 use mathlib.Core.Path.{◌≡◌, refl, sym, ap, ◌∙◌}
 use mathlib.Core.Bool.{Bool, true, false, cond, ◌&&◌}
-use mathlib.Core.Option.{Option, none, some}
 use mathlib.Core.List.{List, [], ◌∷◌}
 use Prim.Native.Nat.{ℕ, zero, suc, ◌+◌, ◌-◌, ◌*◌, ◌≤◌, ◌<◌}
 use native.Mathlib.Omega.{arith}
@@ -33,52 +33,52 @@ eqb_past n a b h =
 -- ---- the first chunk with an id
 
 -- it stands at row j, and none before it
-pub first-here : (g : List ℕ) (c j : ℕ) → chunk_in g c j ≡ none → chunk_id g j ≡ c → chunk_in g c (suc j) ≡ some j
+pub first-here : (g : List ℕ) (c j : ℕ) → chunk_in g c j ≡ None → chunk_id g j ≡ c → chunk_in g c (suc j) ≡ Some j
 unfolding chunk_in
 first-here g c j n e = rw (n, eq-eqb (chunk_id g j) c e)
 
 -- none stands at row j or before it
-pub first_past : (g : List ℕ) (c j : ℕ) → chunk_in g c j ≡ none → (chunk_id g j ≡ c → ⊥) → chunk_in g c (j + 1) ≡ none
+pub first_past : (g : List ℕ) (c j : ℕ) → chunk_in g c j ≡ None → (chunk_id g j ≡ c → ⊥) → chunk_in g c (j + 1) ≡ None
 unfolding chunk_in
 first_past g c j n e = rw (add-one, n, ne_eqb (chunk_id g j) c e)
 
 -- more rows change nothing
-pub first-stays : (g : List ℕ) (c k d j : ℕ) → chunk_in g c k ≡ some j → chunk_in g c (k + d) ≡ some j
+pub first-stays : (g : List ℕ) (c k d j : ℕ) → chunk_in g c k ≡ Some j → chunk_in g c (k + d) ≡ Some j
 unfolding chunk_in
 first-stays g c k zero j e = let z : k + zero ≡ k = omega arith in rw z e
 first-stays g c k (suc d) j e = let z : k + suc d ≡ suc (k + d) = omega arith in rw (z, first-stays g c k d j e)
 
 -- it is one of the rows
-pub first_below : (g : List ℕ) (c n k : ℕ) → chunk_in g c n ≡ some k → k < n
+pub first_below : (g : List ℕ) (c n k : ℕ) → chunk_in g c n ≡ Some k → k < n
 unfolding chunk_in
 first_below g c zero k e = let z : ◌≡◌ {A = ℕ} 0 1 = cc in absurd (omega arith)
 first_below g c (suc n) k e = go (chunk_in g c n) refl (λ e'. first_below g c n k e') (eqb (chunk_id g n) c) e
   where
-    go : (o : Option ℕ) → chunk_in g c n ≡ o → (chunk_in g c n ≡ some k → k < n) → (b : Bool)
-        → if_some o (cond b (some n) none) (λ j. some j) ≡ some k → k < suc n
-    go none p rec true h = let z : n ≡ k = cc in omega arith
-    go none p rec false h = let z : ◌≡◌ {A = ℕ} 0 1 = cc in absurd (omega arith)
-    go (some j) p rec b h = let z : k < n = rec (p ∙ h) in omega arith
+    go : (o : Option ℕ) → chunk_in g c n ≡ o → (chunk_in g c n ≡ Some k → k < n) → (b : Bool)
+        → if_some o (cond b (Some n) None) (λ j. Some j) ≡ Some k → k < suc n
+    go None p rec true h = let z : n ≡ k = cc in omega arith
+    go None p rec false h = let z : ◌≡◌ {A = ℕ} 0 1 = cc in absurd (omega arith)
+    go (Some j) p rec b h = let z : k < n = rec (p ∙ h) in omega arith
 
 -- it is row j of n
-pub first_of_lem : (g : List ℕ) (c j n : ℕ) → j < n → chunk_in g c j ≡ none → chunk_id g j ≡ c → chunk_in g c n ≡ cond (ltb j n) (some j) none
+pub first_of_lem : (g : List ℕ) (c j n : ℕ) → j < n → chunk_in g c j ≡ None → chunk_id g j ≡ c → chunk_in g c n ≡ cond (ltb j n) (Some j) None
 first_of_lem g c j n h e q =
     let z : suc j + (n - suc j) ≡ n = omega arith in
     rw (lt-ltb j n h) (rw z at (first-stays g c (suc j) (n - suc j) j (first-here g c j e q)))
 
 -- none of n rows is one
-pub none_of : (g : List ℕ) (c n : ℕ) → chunk_in g c n ≡ none → chunk_in g c n ≡ cond (ltb n n) (some n) none
+pub none_of : (g : List ℕ) (c n : ℕ) → chunk_in g c n ≡ None → chunk_in g c n ≡ cond (ltb n n) (Some n) None
 none_of g c n e = rw (le-ltb n n (omega arith)) e
 
 -- where it stands
-module _ (g : List ℕ) (c n j : ℕ) (all : n ≡ chunk_count g) (first : chunk_in g c n ≡ cond (ltb j n) (some j) none) where
+module _ (g : List ℕ) (c n j : ℕ) (all : n ≡ chunk_count g) (first : chunk_in g c n ≡ cond (ltb j n) (Some j) None) where
   pub found : j < n → (chunk_offset g j ≡ chunk_start g c) × (chunk_offset g (suc j) - chunk_offset g j ≡ chunk_size g c)
   unfolding chunk_start chunk_size
-  found h = let f : chunk_in g c (chunk_count g) ≡ some j = rw (lt-ltb j n h, all) at first in (rw f, rw f)
+  found h = let f : chunk_in g c (chunk_count g) ≡ Some j = rw (lt-ltb j n h, all) at first in (rw f, rw f)
 
   pub absent : n ≤ j → (0 ≡ chunk_start g c) × (0 ≡ chunk_size g c)
   unfolding chunk_start chunk_size
-  absent h = let f : chunk_in g c (chunk_count g) ≡ none = rw (le-ltb j n h, all) at first in (rw f, rw f)
+  absent h = let f : chunk_in g c (chunk_count g) ≡ None = rw (le-ltb j n h, all) at first in (rw f, rw f)
 
 -- ---- how many chunks have an id
 
@@ -169,8 +169,8 @@ chunk_inside w g c t = go (chunk_in g c (chunk_count g)) refl
   where
     go : (o : Option ℕ) → chunk_in g c (chunk_count g) ≡ o
         → if_some o 0 (λ k. chunk_offset g k) + if_some o 0 (λ k. chunk_offset g (suc k) - chunk_offset g k) + w ≤ length g
-    go none e = omega (arith, t.room)
-    go (some k) e =
+    go None e = omega (arith, t.room)
+    go (Some k) e =
         let n = chunk_count g in
         let l : k < n = first_below g c n k e in
         let z : k + 1 ≡ suc k = omega arith in

@@ -1,16 +1,11 @@
 -- The commit-graph file (document 01: the graph file; git's gitformat-commit-graph): its layout, its rows and its parent lists.
 -- All numbers are big-endian. Document 02, card 13: ids are w bytes wide; rows and the checksum follow them. Assumes nothing.
-use Rattle.std.specs.Prelude.{◌≡◌, ℕ, zero, suc, ◌+◌, ◌*◌, ◌-◌, ◌/◌, ◌%◌, ◌≤◌, ◌<◌, min, Bool, true, false, cond, not, ◌&&◌, List, [], ◌∷◌, length, take, drop, get_or, eqb, ltb, leb, ℤ, pos}
-use Rattle.std.proofs.Math.Option.{Option, none, some}
+use Rattle.std.specs.Prelude.{◌≡◌, ℕ, zero, suc, ◌+◌, ◌*◌, ◌-◌, ◌/◌, ◌%◌, ◌≤◌, ◌<◌, min, Bool, true, false, cond, not, ◌&&◌, List, [], ◌∷◌, length, take, drop, get_or, eqb, ltb, leb, ℤ, pos, None, Option, Some}
 use Rattle.hash.specs.Bytes.{Id, eq_id, at, u32_at, u64_at, if_some}
 use Rattle.hash.specs.declared.Kind.{Kind}
 use Rattle.hash.specs.declared.Kind.TheVariants.{Sha1, Sha256}
 use Rattle.idlist.specs.IdList.{IdList, id_of, rising, find_in}
 use Rattle.commitgraph.specs.declared.Layout.{Layout}
-use Rattle.commitgraph.specs.declared.rows.Position.{Position}
-use Rattle.commitgraph.specs.declared.rows.Position.TheVariants.{At, Absent}
-use Rattle.commitgraph.specs.declared.parents.ParentList.{ParentList}
-use Rattle.commitgraph.specs.declared.parents.ParentList.TheVariants.{Good, Corrupt}
 
 -- ---- the header (refusal 5) and the table of chunks
 
@@ -47,10 +42,10 @@ chunks_of g c (suc n) = chunks_of g c n + cond (eqb (chunk_id g n) c) 1 0
 
 -- the first of the first n chunks that has an id: its number
 unfoldable pub chunk_in : List ℕ → ℕ → ℕ → Option ℕ
-chunk_in g c zero = none
+chunk_in g c zero = None
 chunk_in g c (suc n) =
-    let here : Option ℕ = cond (eqb (chunk_id g n) c) (some n) none in
-    if_some (chunk_in g c n) here (λ k. some k)
+    let here : Option ℕ = cond (eqb (chunk_id g n) c) (Some n) None in
+    if_some (chunk_in g c n) here (λ k. Some k)
 
 abbrev pub OIDF : ℕ
 OIDF = 0x4f494446
@@ -177,9 +172,9 @@ layout_of w g = record {
 unfoldable pub graph_find : ℕ → List ℕ → Id → Option ℕ
 graph_find w g x = find_in (graph_ids w g) x (graph_count g)
 
-abbrev pub position_of : Option ℕ → Position
-position_of none = Absent
-position_of (some p) = At p
+abbrev pub position_of : Option ℕ → Option ℕ
+position_of None = None
+position_of (Some p) = Some p
 
 -- id p where a layout has it
 unfoldable pub id_in : ℕ → List ℕ → Layout → ℕ → Id
@@ -192,11 +187,11 @@ ids_below g l i = cond (eqb i 0) 0 (u32_at g (l.fan + 4 * (i - 1)))
 -- what a lookup of x answers. In a right file it is the position of x. On any bytes and any layout an id of another width is absent, and
 -- what is found is x, below N and whole in the file. The premise of `right` stays: among ids that do not rise a search may miss one that
 -- stands there, and which ones it misses only the search itself would tell.
-pub record Looks (w : ℕ) (g : List ℕ) (l : Layout) (x : Id) (r : Position) : Type 0 where
+pub record Looks (w : ℕ) (g : List ℕ) (l : Layout) (x : Id) (r : Option ℕ) : Type 0 where
   pub right : graph_ok w g ≡ true → l ≡ layout_of w g → r ≡ position_of (graph_find w g x)
-  pub hit : (p : ℕ) → r ≡ At p → (p < l.count) × (id_in w g l p ≡ x)
-  pub inside : (p : ℕ) → r ≡ At p → l.ids + w * p + w ≤ length g
-  pub foreign : (length x ≡ w → ⊥) → r ≡ Absent
+  pub hit : (p : ℕ) → r ≡ Some p → (p < l.count) × (id_in w g l p ≡ x)
+  pub inside : (p : ℕ) → r ≡ Some p → l.ids + w * p + w ≤ length g
+  pub foreign : (length x ≡ w → ⊥) → r ≡ None
 
 -- the first byte of row p, and the byte after its last; the end of the file where they are past it
 unfoldable pub row_start : ℕ → List ℕ → Layout → ℕ → ℕ
@@ -241,18 +236,18 @@ edge_in g l j = u32_at g (l.edge + 4 * j)
 
 -- a parent before the others
 abbrev pub with_parent : ℕ → Option (List ℕ) → Option (List ℕ)
-with_parent q none = none
-with_parent q (some ps) = some (q ∷ ps)
+with_parent q None = None
+with_parent q (Some ps) = Some (q ∷ ps)
 
 -- "the list holds the second parent onward and ends at the first entry with the top bit set, whose other bits are the last parent":
 -- at most k entries of EDGE, from entry j on; none where EDGE runs out, a position is at least N, or more come
 unfoldable pub edges_from : List ℕ → Layout → ℕ → ℕ → Option (List ℕ)
-edges_from g l zero j = none
+edges_from g l zero j = None
 edges_from g l (suc k) j =
     let v = edge_in g l j in
     let after = edges_from g l k (suc j) in
-    let here : Option (List ℕ) = with_parent (v % top_bit) (cond (leb top_bit v) (some []) after) in
-    cond (ltb j l.edges) (cond (ltb (v % top_bit) l.count) here none) none
+    let here : Option (List ℕ) = with_parent (v % top_bit) (cond (leb top_bit v) (Some []) after) in
+    cond (ltb j l.edges) (cond (ltb (v % top_bit) l.count) here None) None
 
 -- the most parents of a commit
 abbrev pub most_parents : ℕ
@@ -261,9 +256,9 @@ most_parents = 256
 -- the parents after the first, by the row's second parent: none, one, or those that EDGE lists
 unfoldable pub after_first : List ℕ → Layout → ℕ → Option (List ℕ)
 after_first g l b =
-    let one : Option (List ℕ) = cond (ltb b l.count) (some (b ∷ [])) none in
+    let one : Option (List ℕ) = cond (ltb b l.count) (Some (b ∷ [])) None in
     let listed : Option (List ℕ) = edges_from g l 255 (b % top_bit) in
-    cond (eqb b no_parent) (some []) (cond (leb top_bit b) listed one)
+    cond (eqb b no_parent) (Some []) (cond (leb top_bit b) listed one)
 
 -- the positions of a row's parents, in order; none where the list is corrupt: "a position is at least N, the first parent is none or
 -- has the top bit while a second stands, EDGE runs out, or over 256 parents come"
@@ -271,8 +266,8 @@ unfoldable pub parents_in : ℕ → List ℕ → Layout → ℕ → Option (List
 parents_in w g l p =
     let a = u32_at (row_in w g l p) w in
     let b = u32_at (row_in w g l p) (w + 4) in
-    let root : Option (List ℕ) = cond (eqb b no_parent) (some []) none in
-    cond (eqb a no_parent) root (cond (ltb a l.count) (with_parent a (after_first g l b)) none)
+    let root : Option (List ℕ) = cond (eqb b no_parent) (Some []) None in
+    cond (eqb a no_parent) root (cond (ltb a l.count) (with_parent a (after_first g l b)) None)
 
 -- parent k of a row by its place alone, on any bytes: "A second parent with the top bit set points, by the rest, into EDGE … there the list
 -- holds the second parent onward". Where the row has no such parent its number is `no_parent`, as the row has it; where k is past the
@@ -285,14 +280,14 @@ unfoldable pub graph_parents : ℕ → List ℕ → ℕ → Option (List ℕ)
 graph_parents w g p = parents_in w g (layout_of w g) p
 
 -- what reading a parent list answers: how many parents it has
-abbrev pub parent_list_of : Option (List ℕ) → ParentList
-parent_list_of none = Corrupt
-parent_list_of (some ps) = Good (length ps)
+abbrev pub parent_list_of : Option (List ℕ) → Option ℕ
+parent_list_of None = None
+parent_list_of (Some ps) = Some (length ps)
 
 -- the same of a list that c parents stand before
-abbrev pub counted_from : ℕ → Option (List ℕ) → ParentList
-counted_from c none = Corrupt
-counted_from c (some ps) = Good (c + length ps)
+abbrev pub counted_from : ℕ → Option (List ℕ) → Option ℕ
+counted_from c None = None
+counted_from c (Some ps) = Some (c + length ps)
 
 unfoldable pub graph_all : Unit {0}
 unfolding graph_head chunk_count chunk_id chunk_offset offsets_rise chunks_of chunk_in chunk_start chunk_size table_ok fan_at graph_count graph_ids graph_id first_byte at_most fan_ok chunks_ok graph_ok places_of stated_level levelled layout_of graph_find id_in ids_below row_in row_start row_end level_in seconds_in graph_row generation graph_seconds edge_in edges_from after_first parents_in parent_in graph_parents

@@ -1,6 +1,5 @@
 // The layout of a commit-graph file: its header, its table of chunks, and the chunks themselves.
-ghost use Rattle.std.specs.Prelude.{◌≡◌, true, false, ◌&&◌, cond, ℕ, suc, ◌+◌, ◌-◌, ◌*◌, ◌%◌, ◌<◌, ◌≤◌, length, eqb, ltb, leb};
-ghost use Rattle.std.proofs.Math.Option.{none, some};
+ghost use Rattle.std.specs.Prelude.{◌≡◌, true, false, ◌&&◌, cond, ℕ, suc, ◌+◌, ◌-◌, ◌*◌, ◌%◌, ◌<◌, ◌≤◌, length, eqb, ltb, leb, None, Some};
 ghost use Rattle.hash.specs.Bytes.{u32_at, width_of};
 ghost use Rattle.idlist.specs.IdList.{rising};
 ghost use Rattle.commitgraph.specs.Graph.{hash_version, graph_head, chunk_count, chunk_id, chunk_offset, offsets_rise, chunks_of, chunk_in, chunk_start, chunk_size, OIDF, OIDL, CDAT, EDGE, table_ok, row_size, fan_at, graph_count, graph_ids, first_byte, fan_ok, Parts, graph_ok, places_of, layout_of};
@@ -105,14 +104,12 @@ fn row_size(graph: &[u8], i: usize) -> usize
 // The first row with an id among the first count rows; count where none has it.
 fn find_row(graph: &[u8], id: u32, count: usize) -> usize
     requires { count < 256 }
-    ensures { chunk_in graph.now id count ≡ cond (ltb result count) (some result) none }
+    ensures { chunk_in graph.now id count ≡ cond (ltb result count) (Some result) None }
 {
-    let mut i = 0;
-    while i < count {
+    for i in 0..count {
         if row_id(graph, i) == id {
             return i;
         }
-        i += 1;
     }
     count
 }
@@ -222,12 +219,10 @@ fn offsets_rise(graph: &[u8], count: usize) -> bool
     requires { count < 256 }
     ensures { result ≡ offsets_rise graph.now count }
 {
-    let mut i = 0;
-    while i < count {
+    for i in 0..count {
         if row_offset(graph, i + 1) < row_offset(graph, i) {
             return false;
         }
-        i += 1;
     }
     true
 }
@@ -238,12 +233,10 @@ fn rows_of(graph: &[u8], id: u32, count: usize) -> usize
     ensures { result ≡ chunks_of graph.now id count }
 {
     let mut found = 0;
-    let mut i = 0;
-    while i < count {
+    for i in 0..count {
         if row_id(graph, i) == id {
             found += 1;
         }
-        i += 1;
     }
     found
 }
@@ -318,12 +311,10 @@ fn fan_rises(w: usize, graph: &[u8], fan: usize) -> bool
     requires { (fan ≡ chunk_start graph.now OIDF) × (fan + 1024 ≤ length graph.now) }
     ensures { let g = graph.now in (result ≡ true → (i : ℕ) → i < 255 → fan_at g i ≤ fan_at g (suc i)) × (result ≡ false → fan_ok w g 256 ≡ false) }
 {
-    let mut i = 0;
-    while i < 255 {
+    for i in 0..255 {
         if fan_entry(graph, fan, i + 1) < fan_entry(graph, fan, i) {
             return false;
         }
-        i += 1;
     }
     true
 }
@@ -359,12 +350,10 @@ fn fan_parts(w: usize, graph: &[u8], fan: usize, ids: usize, count: usize) -> bo
     requires { let g = graph.now in (fan ≡ chunk_start g OIDF) × (fan + 1024 ≤ length g) × (ids ≡ chunk_start g OIDL) × (count ≡ graph_count g) × (ids + w * count ≤ length g) × (0 < w) × ((i : ℕ) → i < 255 → fan_at g i ≤ fan_at g (suc i)) }
     ensures { let g = graph.now in (result ≡ true → (b : ℕ) → b < 256 → Parts w g b) × (result ≡ false → (fan_ok w g 256 && rising (graph_ids w g) (graph_count g)) ≡ false) }
 {
-    let mut b = 0;
-    while b < 256 {
+    for b in 0..256 {
         if !parts_at(w, graph, fan, ids, count, b) {
             return false;
         }
-        b += 1;
     }
     true
 }

@@ -20,5 +20,5 @@ pub struct Layout {
 }
 
 // Document 01's level. Compared only with levels, never with seconds.
-#[derive(Clone, Copy)]
+#[derive(Clone, Copy, PartialEq, Eq, PartialOrd, Ord)]
 pub struct Level(pub u32);

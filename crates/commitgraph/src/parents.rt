@@ -6,14 +6,7 @@ ghost use Rattle.commitgraph.specs.Graph.{edge_in, edges_from, after_first, pare
 use crate::{Layout, rows};
 use hash::Kind;
 
-// What a row's parent list is: so many positions, each below N, or corrupt.
-#[derive(Clone, Copy)]
-pub enum ParentList {
-    Good(usize),
-    Corrupt,
-}
-
-// A parent that is none.
+// A parent that is none: the file's own number.
 const NONE: u32 = 0x70000000;
 
 // The bit that marks a pointer into EDGE, and in EDGE the last parent.
@@ -28,45 +21,43 @@ fn edge(graph: &[u8], l: Layout, from: usize, i: usize) -> u32
 }
 
 // How many parents a row has whose list goes on in EDGE, at entry from: the first one, and one for each entry up to the last.
-fn edges(graph: &[u8], l: Layout, from: usize) -> ParentList
+fn edges(graph: &[u8], l: Layout, from: usize) -> Option<usize>
     requires { from < 4294967296 }
     ensures { result ≡ counted_from 1 (edges_from graph.now l 255 from) }
 {
-    let mut i = 0;
-    while i < 255 {
+    for i in 0..255 {
         if l.edges <= from + i {
-            return ParentList::Corrupt;
+            return None;
         }
         let v = edge(graph, l, from, i);
         if l.count <= rows::wide(v % TOP) {
-            return ParentList::Corrupt;
+            return None;
         }
         if TOP <= v {
-            return ParentList::Good(i + 2);
+            return Some(i + 2);
         }
-        i += 1;
     }
-    ParentList::Corrupt
+    None
 }
 
 // How many parents a row has whose first parent is good and whose second is b.
-fn after_first(graph: &[u8], l: Layout, b: u32) -> ParentList
+fn after_first(graph: &[u8], l: Layout, b: u32) -> Option<usize>
     ensures { result ≡ counted_from 1 (after_first graph.now l b) }
 {
     if b == NONE {
-        return ParentList::Good(1);
+        return Some(1);
     }
     if TOP <= b {
         return edges(graph, l, rows::wide(b % TOP));
     }
     if rows::wide(b) < l.count {
-        return ParentList::Good(2);
+        return Some(2);
     }
-    ParentList::Corrupt
+    None
 }
 
 // How many parents the row at position p has, if its whole list is good.
-pub fn parents(kind: Kind, graph: &[u8], l: Layout, p: usize) -> ParentList
+pub fn parents(kind: Kind, graph: &[u8], l: Layout, p: usize) -> Option<usize>
     ensures { result ≡ parent_list_of (parents_in (width_of kind) graph.now l p) }
 {
     let part = rows::numbers(kind, graph, l, p);
@@ -74,12 +65,12 @@ pub fn parents(kind: Kind, graph: &[u8], l: Layout, p: usize) -> ParentList
     let b = hash::be32(part, 4);
     if a == NONE {
         if b != NONE {
-            return ParentList::Corrupt;
+            return None;
         }
-        return ParentList::Good(0);
+        return Some(0);
     }
     if l.count <= rows::wide(a) {
-        return ParentList::Corrupt;
+        return None;
     }
     after_first(graph, l, b)
 }

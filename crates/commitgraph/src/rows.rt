@@ -7,16 +7,8 @@ ghost use Rattle.commitgraph.specs.Graph.{id_in, ids_below, Looks, row_size, row
 use crate::{Layout, Level};
 use date::Seconds;
 use hash::Kind;
-use idlist::Found;
 
-// Where an id stands among those of the file.
-#[derive(Clone, Copy)]
-pub enum Position {
-    At(usize),
-    Absent,
-}
-
-// The level of a commit that has none.
+// The level of a commit that has none, a number above all others in painting's order.
 pub const NO_GENERATION: u32 = 0xFFFFFFFF;
 
 // The size of a row: the tree's id and four u32.
@@ -137,12 +129,10 @@ pub(crate) fn has_levels(kind: Kind, graph: &[u8], l: Layout) -> bool
     ensures { result ≡ levelled (width_of kind) graph.now l l.count }
 {
     let n = l.count;
-    let mut i = 0;
-    while i < n {
+    for i in 0..n {
         if stated_level(kind, graph, l, i) == 0 {
             return false;
         }
-        i += 1;
     }
     true
 }
@@ -190,33 +180,33 @@ fn first_byte(id: &[u8]) -> usize
 }
 
 // The position of an id, looked for among the ids that begin with the same byte.
-pub fn lookup(kind: Kind, graph: &[u8], l: Layout, id: &[u8]) -> Position
+pub fn lookup(kind: Kind, graph: &[u8], l: Layout, id: &[u8]) -> Option<usize>
     ensures { Looks (width_of kind) graph.now l id.now result }
 {
     let w = hash::width(kind);
     if id.len() != w {
-        return Position::Absent;
+        return None;
     }
     let b = first_byte(id);
     let lo = ids_below(graph, l, b);
     let hi = ids_below(graph, l, b + 1);
     if l.count < hi {
-        return Position::Absent;
+        return None;
     }
     let low = (b as u32) * 16777216;
     match idlist::find_between(graph, l.ids, w, lo, hi, low, low + 16777215, id) {
-        Found::At(p) => Position::At(p),
-        Found::Absent => Position::Absent,
+        Some(p) => Some(p),
+        None => None,
     }
 }
 
 // The position of an id that may stand at position near: that position is looked at first.
-pub fn lookup_near(kind: Kind, graph: &[u8], l: Layout, id: &[u8], near: usize) -> Position
+pub fn lookup_near(kind: Kind, graph: &[u8], l: Layout, id: &[u8], near: usize) -> Option<usize>
     ensures { Looks (width_of kind) graph.now l id.now result }
 {
     if near < l.count {
         if hash::same_id(kind, id_at(kind, graph, l, near), id) {
-            return Position::At(near);
+            return Some(near);
         }
     }
     lookup(kind, graph, l, id)

@@ -42,6 +42,7 @@ fn header(b: &mut [u8], n: usize) -> usize
     b[27] = 0;
     let mut i = 27;
     let mut x = n;
+    // The digits from the last on: how many there are shows only as the number grows shorter, so no range counts them.
     while 10 <= x {
         i -= 1;
         b[i] = digit(x);

@@ -1,10 +1,11 @@
 -- The two readings of a header agree: the header that crate `object` reads is what the tokens come to, since at a place where parents may
 -- stand the tokens go on with parents as long as good parent lines stand there. And the tokens meet no bad line and reach a committer just
 -- where the header's four parts are good, since a place lets no other line stand. Assumes nothing.
+use Rattle.object.specs.declared.HeaderError.TheVariants.{Bad as BadHeader}
+use Rattle.std.specs.Prelude.{None, Option, Some, Err}
 use mathlib.Core.Path.{◌≡◌, refl, sym, ◌∙◌, ap, subst}
 use Prim.Native.Nat.{ℕ, zero, suc, ◌+◌, ◌-◌, ◌≤◌}
 use mathlib.Core.Bool.{Bool, true, false, ◌&&◌}
-use mathlib.Core.Option.{Option, none, some}
 use mathlib.Core.List.{List, [], ◌∷◌}
 use native.Mathlib.Omega.{arith}
 use lib.ListN.{length, take, drop, length-drop, drop_of_length-le}
@@ -13,41 +14,35 @@ use lib.IntN.{ℤ}
 use lib.Dec.{eqb, ltb, leb}
 use borrow.Author.Tests.{eqb-true, ltb-true, ltb-false, leb-true, leb-false, lt-ltb, le-ltb, le-leb, lt-leb}
 use Rattle.hash.specs.Bytes.{Id, pick}
-use Rattle.hash.proofs.Tests.{by_cases, no-some, some_in}
-use Rattle.object.specs.Ids.{id_room, id_in}
+use Rattle.hash.proofs.Tests.{by_cases, clash, no-some, some_in}
+use Rattle.object.specs.Ids.{id_room, padded, id_in}
 use Rattle.object.specs.Header.{tree_size, parent_size, is_some, strip, id_line, tree_word, parent_word, word_line, author_line, Stamped, stamped, committer_line, parent_lines, skip_parents, after_author, after_tree, stamp_of, seconds_in, zone_in, seconds_of, zone_of, most, Header, with_tree, with_parents, header}
-use Rattle.object.specs.Read.{zone_given, read_as, reading_of}
-use Rattle.object.specs.declared.Reading.TheVariants.{Bad as BadHeader}
+use Rattle.object.specs.Read.{read_as, reading_of}
 use Rattle.object.proofs.IdBytes.{id_in_lem}
 use Rattle.object.proofs.Lines.{id_line-some, too_short}
 use Rattle.object.proofs.Parents.{skip_stops, skip_line}
 use Rattle.object.proofs.PersonLines.{author-ends}
 use Rattle.object.proofs.Stamps.{stamp_whole}
-use Rattle.commititer.specs.Token.{here, start, bare, parent_token, committer_told, author_told, line_in, line_at, missing, token_of, ended, place_of, token_at, after_token}
-use Rattle.commititer.specs.Tokens.{tokens_from, tokens, is_tree, is_parent, is_author, zone_told, stamp_told, parents_of, past_parents, author_next, committer_next, persons_next, after_tree_token, header_of, Agrees, no_bad, has_committer, all_good, GoodTokens, is_readable, ReadableTokens}
-use Rattle.commititer.specs.declared.TokenRead.{TokenRead}
+use Rattle.object.specs.declared.ObjectId.{ObjectId}
+use Rattle.commititer.specs.Token.{here, start, parent_token, committer_told, author_told, line_in, line_at, missing, token_of, ended, place_of, token_at, after_token}
+use Rattle.commititer.specs.Tokens.{tokens_from, tokens, is_tree, is_parent, is_author, id_told, stamp_told, parents_of, past_parents, author_next, committer_next, persons_next, after_tree_token, header_of, Agrees, no_bad, has_committer, all_good, GoodTokens, is_readable, ReadableTokens}
 use Rattle.commititer.specs.declared.State.TheVariants.{Parents as ParentLines, Committer as CommitterLine, Done}
 use Rattle.commititer.specs.declared.Token.{Token}
-use Rattle.commititer.specs.declared.Token.TheVariants.{Tree, Bad, End}
+use Rattle.commititer.specs.declared.Token.TheVariants.{Tree, Parent, Author, Committer, Bad, End}
 
 -- ---- a committer reading
-
--- a token tells the zone that it was given, since the answer for a zone keeps its minutes
-zone-back : (o : Option ℤ) → zone_told (zone_given o) ≡ o
-zone-back none = refl
-zone-back (some z) = refl
 
 -- there are seconds just where there is a reading
 some-seconds : {o p : Option Stamped} → o ≡ p → is_some (seconds_in o) ≡ is_some p
 some-seconds {o} {p} e = ap (λ (q : Option Stamped). is_some (seconds_in q)) e ∙ go p
   where
     go : (q : Option Stamped) → is_some (seconds_in q) ≡ is_some q
-    go none = refl
-    go (some s) = refl
+    go None = refl
+    go (Some s) = refl
 
 -- ---- no line begins with two words
 
-two_words : (p q : ℕ) (ps qs b r : List ℕ) → eqb q p ≡ false → strip (p ∷ ps) b ≡ some r → strip (q ∷ qs) b ≡ none
+two_words : (p q : ℕ) (ps qs b r : List ℕ) → eqb q p ≡ false → strip (p ∷ ps) b ≡ Some r → strip (q ∷ qs) b ≡ None
 unfolding strip
 two_words p q ps qs [] r n e = no-some e
 two_words p q ps qs (x ∷ xs) r n e =
@@ -55,7 +50,7 @@ two_words p q ps qs (x ∷ xs) r n e =
     (λ h. let z : p ≡ x = eqb-true p x h in let m : eqb q x ≡ false = subst (λ (y : ℕ). eqb q y ≡ false) z n in rw m)
     (λ h. no-some (rw h at e))
 
-pub parent_no_author : (w : ℕ) (b : List ℕ) (t : Id × List ℕ) → id_line w parent_word b ≡ some t → author_line b ≡ none
+pub parent_no_author : (w : ℕ) (b : List ℕ) (t : Id × List ℕ) → id_line w parent_word b ≡ Some t → author_line b ≡ None
 unfolding author_line word_line
 parent_no_author w b t e = rw (two_words 112 97 _ _ b _ refl (id_line-some w parent_word b t e).word)
 
@@ -76,13 +71,31 @@ pub record Missing (t : Token) : Type 0 where
   pub tree : is_tree t ≡ false
   pub parent : is_parent t ≡ false
   pub author : is_author t ≡ false
-  pub stamp : stamp_told t ≡ none
+  pub stamp : stamp_told t ≡ None
 
 pub is-missing : (b : List ℕ) (i : ℕ) → Missing (missing b i)
 is-missing b i =
     by_cases (ltb i (length b))
     (λ h. subst (λ (c : Bool). Missing (pick c Bad End)) (sym h) (record { tree = refl; parent = refl; author = refl; stamp = refl }))
     (λ h. subst (λ (c : Bool). Missing (pick c Bad End)) (sym h) (record { tree = refl; parent = refl; author = refl; stamp = refl }))
+
+-- no parent, no id
+pub no-id : (t : Token) → is_parent t ≡ false → id_told t ≡ None
+no-id Tree h = refl
+no-id (Parent x) h = clash refl h
+no-id Author h = refl
+no-id (Committer s) h = refl
+no-id Bad h = refl
+no-id End h = refl
+
+-- a parent has one
+pub a-parent : (t : Token) → is_parent t ≡ true → (x : ObjectId) × (t ≡ Parent x)
+a-parent Tree h = clash h refl
+a-parent (Parent x) h = (x, refl)
+a-parent Author h = clash h refl
+a-parent (Committer s) h = clash h refl
+a-parent Bad h = clash h refl
+a-parent End h = clash h refl
 
 -- nothing is left past the end
 past_end : (b : List ℕ) (i : ℕ) → length b ≤ i + 0 → drop i b ≡ []
@@ -103,7 +116,7 @@ module _ (w : ℕ) (b : List ℕ) where
   done-empty (suc n) i = done-empty n (length b)
 
   -- nor after a line that is not there
-  stopped : (n i : ℕ) → all_good (bare (missing b i) ∷ tokens_from n w b (ended b)) ≡ false
+  stopped : (n i : ℕ) → all_good (missing b i ∷ tokens_from n w b (ended b)) ≡ false
   unfolding no_bad has_committer
   stopped n i =
       by_cases (ltb i (length b))
@@ -116,21 +129,21 @@ module _ (w : ℕ) (b : List ℕ) where
   committer-next zero i h = rw (past_end b i h)
   committer-next (suc n) i h = go (committer_line (drop i b))
     where
-      go : (o : Option Stamped) → stamp_told (token_of b (here i CommitterLine) (committer_told o)).token ≡ o
-      go none = (is-missing b i).stamp
-      go (some s) = ap (λ (z : Option ℤ). some (record { seconds = s.seconds; zone = z })) (zone-back s.zone)
+      go : (o : Option Stamped) → stamp_told (token_of b (here i CommitterLine) (committer_told o)) ≡ o
+      go None = (is-missing b i).stamp
+      go (Some s) = refl
 
   committer_good : (n i : ℕ) → all_good (tokens_from n w b (here i CommitterLine)) ≡ is_some (committer_next (tokens_from n w b (here i CommitterLine)))
   unfolding tokens_from token_at after_token line_at line_in no_bad has_committer
   committer_good zero i = refl
   committer_good (suc n) i = go (committer_line (drop i b))
     where
-      go : (o : Option Stamped) → all_good (token_of b (here i CommitterLine) (committer_told o) ∷ tokens_from n w b (place_of b (committer_told o))) ≡ is_some (stamp_told (token_of b (here i CommitterLine) (committer_told o)).token)
-      go none = stopped n i ∙ sym (ap is_some (is-missing b i).stamp)
-      go (some s) = rw (done-clean n (length b - 0))
+      go : (o : Option Stamped) → all_good (token_of b (here i CommitterLine) (committer_told o) ∷ tokens_from n w b (place_of b (committer_told o))) ≡ is_some (stamp_told (token_of b (here i CommitterLine) (committer_told o)))
+      go None = stopped n i ∙ sym (ap is_some (is-missing b i).stamp)
+      go (Some s) = rw (done-clean n (length b - 0))
 
   -- a parent line: its token, and the place after it
-  parent-step : (n i : ℕ) (t : Id × List ℕ) → id_line w parent_word (drop i b) ≡ some t
+  parent-step : (n i : ℕ) (t : Id × List ℕ) → id_line w parent_word (drop i b) ≡ Some t
       → (tokens_from (suc n) w b (here i ParentLines) ≡ parent_token t.0 ∷ tokens_from n w b (here (i + parent_size w) ParentLines)) × (t.1 ≡ drop (i + parent_size w) b) × (i + parent_size w ≤ length b)
   unfolding tokens_from token_at after_token line_at line_in
   parent-step n i t g =
@@ -140,31 +153,31 @@ module _ (w : ℕ) (b : List ℕ) where
       (rw (g, k), l.rest ∙ drop-drop (parent_size w) i b, omega (arith, l.long))
 
   -- the author line where no parent line stands: its token, and the committer's after it
-  module _ (n i : ℕ) (g : id_line w parent_word (drop i b) ≡ none) where
-    not-parent : is_parent (token_at w b (here i ParentLines)).token ≡ false
+  module _ (n i : ℕ) (g : id_line w parent_word (drop i b) ≡ None) where
+    not-parent : is_parent (token_at w b (here i ParentLines)) ≡ false
     unfolding token_at line_at line_in
     not-parent = rw g (go (author_line (drop i b)))
       where
-        go : (o : Option (List ℕ)) → is_parent (token_of b (here i ParentLines) (author_told o)).token ≡ false
-        go none = (is-missing b i).parent
-        go (some r) = refl
+        go : (o : Option (List ℕ)) → is_parent (token_of b (here i ParentLines) (author_told o)) ≡ false
+        go None = (is-missing b i).parent
+        go (Some r) = refl
 
-    author-here : is_author (token_at w b (here i ParentLines)).token ≡ is_some (author_line (drop i b))
+    author-here : is_author (token_at w b (here i ParentLines)) ≡ is_some (author_line (drop i b))
     unfolding token_at line_at line_in
     author-here = rw g (go (author_line (drop i b)))
       where
-        go : (o : Option (List ℕ)) → is_author (token_of b (here i ParentLines) (author_told o)).token ≡ is_some o
-        go none = (is-missing b i).author
-        go (some r) = refl
+        go : (o : Option (List ℕ)) → is_author (token_of b (here i ParentLines) (author_told o)) ≡ is_some o
+        go None = (is-missing b i).author
+        go (Some r) = refl
 
     persons-step : length b ≤ i + suc n → persons_next (tokens_from (suc n) w b (here i ParentLines)) ≡ after_author (author_line (drop i b))
     unfolding tokens_from token_at after_token line_at line_in
     persons-step h = rw g (go (author_line (drop i b)) refl)
       where
         go : (o : Option (List ℕ)) → author_line (drop i b) ≡ o
-            → pick (is_author (token_of b (here i ParentLines) (author_told o)).token) (committer_next (tokens_from n w b (place_of b (author_told o)))) none ≡ after_author o
-        go none f = rw (is-missing b i).author
-        go (some r) f =
+            → pick (is_author (token_of b (here i ParentLines) (author_told o))) (committer_next (tokens_from n w b (place_of b (author_told o)))) None ≡ after_author o
+        go None f = rw (is-missing b i).author
+        go (Some r) f =
             let a = author-ends b i r f in
             let k : ℕ = a.0 in
             let later_on = a.1.later in
@@ -181,9 +194,9 @@ module _ (w : ℕ) (b : List ℕ) where
       where
         go : (o : Option (List ℕ))
             → all_good (token_of b (here i ParentLines) (author_told o) ∷ tokens_from n w b (place_of b (author_told o)))
-            ≡ is_some (pick (is_author (token_of b (here i ParentLines) (author_told o)).token) (committer_next (tokens_from n w b (place_of b (author_told o)))) none)
-        go none = stopped n i ∙ sym (ap (λ (c : Bool). is_some (pick c (committer_next (tokens_from n w b (ended b))) none)) (is-missing b i).author)
-        go (some r) = committer_good n (length b - length r)
+            ≡ is_some (pick (is_author (token_of b (here i ParentLines) (author_told o))) (committer_next (tokens_from n w b (place_of b (author_told o)))) None)
+        go None = stopped n i ∙ sym (ap (λ (c : Bool). is_some (pick c (committer_next (tokens_from n w b (ended b))) None)) (is-missing b i).author)
+        go (Some r) = committer_good n (length b - length r)
 
   -- where parents may stand: the tokens are all good just where an author and then a committer follow the parents
   parents-good : (n i : ℕ) → all_good (tokens_from n w b (here i ParentLines)) ≡ is_some (persons_next (past_parents (tokens_from n w b (here i ParentLines))))
@@ -193,21 +206,21 @@ module _ (w : ℕ) (b : List ℕ) where
     where
       go : ((j : ℕ) → all_good (tokens_from n w b (here j ParentLines)) ≡ is_some (persons_next (past_parents (tokens_from n w b (here j ParentLines))))) → (o : Option (Id × List ℕ)) → id_line w parent_word (drop i b) ≡ o
           → all_good (tokens_from (suc n) w b (here i ParentLines)) ≡ is_some (persons_next (past_parents (tokens_from (suc n) w b (here i ParentLines))))
-      go rec none g =
+      go rec None g =
           let all : past_parents (tokens_from (suc n) w b (here i ParentLines)) ≡ tokens_from (suc n) w b (here i ParentLines) = rw (not-parent n i g) in
-          persons-good n i g ∙ ap (λ (ts : List TokenRead). is_some (persons_next ts)) (sym all)
-      go rec (some t) g = subst (λ (ts : List TokenRead). all_good ts ≡ is_some (persons_next (past_parents ts))) (sym (parent-step n i t g).0) (rec (i + parent_size w))
+          persons-good n i g ∙ ap (λ (ts : List Token). is_some (persons_next ts)) (sym all)
+      go rec (Some t) g = subst (λ (ts : List Token). all_good ts ≡ is_some (persons_next (past_parents ts))) (sym (parent-step n i t g).0) (rec (i + parent_size w))
 
 -- ---- a list of tokens ts and the lines c that it comes from: up to m parents, and what follows them all
 
-record Same (w m : ℕ) (c : List ℕ) (ts : List TokenRead) : Type 0 where
+record Same (w m : ℕ) (c : List ℕ) (ts : List Token) : Type 0 where
   ids : (parent_lines w m c).ids ≡ take m (parents_of w ts)
   more : (parent_lines w m c).more ≡ ltb m (length (parents_of w ts))
   author : is_some (author_line (parent_lines w m c).rest) ≡ (leb (length (parents_of w ts)) m && author_next (past_parents ts))
   stamp : (k : ℕ) → length c ≤ k → after_author (author_line (skip_parents w k c)) ≡ persons_next (past_parents ts)
 
 -- where no parent line stands
-module _ (w : ℕ) (c : List ℕ) (ts : List TokenRead) (stop : id_line w parent_word c ≡ none) (none_of : parents_of w ts ≡ []) (all_of : past_parents ts ≡ ts) where
+module _ (w : ℕ) (c : List ℕ) (ts : List Token) (stop : id_line w parent_word c ≡ None) (none_of : parents_of w ts ≡ []) (all_of : past_parents ts ≡ ts) where
   stop-lines : (m : ℕ) → parent_lines w m c ≡ record { ids = []; rest = c; more = false }
   unfolding parent_lines
   stop-lines zero = rw stop
@@ -223,8 +236,8 @@ module _ (w : ℕ) (c : List ℕ) (ts : List TokenRead) (stop : id_line w parent
       }
 
 -- where one stands, and the lines after it
-module _ (w : ℕ) (small : w ≤ id_room) (c : List ℕ) (t : Id × List ℕ) (e : id_line w parent_word c ≡ some t) (ts : List TokenRead) (further : (m : ℕ) → Same w m t.1 ts) where
-  its_id : id_in w (parent_token t.0).id.bytes ≡ t.0
+module _ (w : ℕ) (small : w ≤ id_room) (c : List ℕ) (t : Id × List ℕ) (e : id_line w parent_word c ≡ Some t) (ts : List Token) (further : (m : ℕ) → Same w m t.1 ts) where
+  its_id : id_in w (padded t.0) ≡ t.0
   its_id = id_in_lem w t.0 (id_line-some w parent_word c t e).width small
 
   same_more : (m : ℕ) → Same w m c (parent_token t.0 ∷ ts)
@@ -256,31 +269,31 @@ module _ (w : ℕ) (small : w ≤ id_room) (b : List ℕ) where
     where
       go : ((j : ℕ) → length b ≤ j + n → (m : ℕ) → Same w m (drop j b) (tokens_from n w b (here j ParentLines))) → (o : Option (Id × List ℕ))
           → id_line w parent_word (drop i b) ≡ o → Same w m (drop i b) (tokens_from (suc n) w b (here i ParentLines))
-      go rec none g =
+      go rec None g =
           let p = not-parent w b n i g in
-          same_stop w (drop i b) (tokens_from (suc n) w b (here i ParentLines)) g (rw p) (rw p) m (author-here w b n i g) (persons-step w b n i g h)
-      go rec (some t) g =
+          same_stop w (drop i b) (tokens_from (suc n) w b (here i ParentLines)) g (rw (no-id (token_at w b (here i ParentLines)) p)) (rw p) m (author-here w b n i g) (persons-step w b n i g h)
+      go rec (Some t) g =
           let p = parent-step w b n i t g in
           let fits = p.2 in
           let further : (k : ℕ) → Same w k t.1 (tokens_from n w b (here (i + parent_size w) ParentLines)) = λ k.
           subst (λ (c : List ℕ). Same w k c (tokens_from n w b (here (i + parent_size w) ParentLines))) (sym p.1) (rec (i + parent_size w) (omega arith) k) in
-          subst (λ (ts : List TokenRead). Same w m (drop i b) ts) (sym p.0) (same_more w small (drop i b) t g (tokens_from n w b (here (i + parent_size w) ParentLines)) further m)
+          subst (λ (ts : List Token). Same w m (drop i b) ts) (sym p.0) (same_more w small (drop i b) t g (tokens_from n w b (here (i + parent_size w) ParentLines)) further m)
 
 -- ---- the whole header
 
 -- the tree line: its token, and the place after it
-pub tree-step : (w : ℕ) (b : List ℕ) (t : Id × List ℕ) → id_line w tree_word b ≡ some t → (token_at w b start ≡ bare Tree) × (after_token w b start ≡ here (tree_size w) ParentLines)
+pub tree-step : (w : ℕ) (b : List ℕ) (t : Id × List ℕ) → id_line w tree_word b ≡ Some t → (token_at w b start ≡ Tree) × (after_token w b start ≡ here (tree_size w) ParentLines)
 unfolding token_at after_token line_at line_in
 tree-step w b t e =
     let n : length b - length t.1 ≡ tree_size w = omega (arith, (id_line-some w tree_word b t e).long) in
     (rw e, rw (e, n))
 
-pub no-tree : (w : ℕ) (b : List ℕ) → id_line w tree_word b ≡ none → (token_at w b start ≡ bare (missing b 0)) × (after_token w b start ≡ ended b)
+pub no-tree : (w : ℕ) (b : List ℕ) → id_line w tree_word b ≡ None → (token_at w b start ≡ missing b 0) × (after_token w b start ≡ ended b)
 unfolding token_at after_token line_at line_in
 no-tree w b e = (rw e, rw e)
 
 -- the committer reading by the tokens after a good tree line
-stamp_after : (w : ℕ) → w ≤ id_room → (b : List ℕ) (t : Id × List ℕ) → id_line w tree_word b ≡ some t → stamp_of w b ≡ persons_next (past_parents (tokens_from (length b - 1) w b (here (tree_size w) ParentLines)))
+stamp_after : (w : ℕ) → w ≤ id_room → (b : List ℕ) (t : Id × List ℕ) → id_line w tree_word b ≡ Some t → stamp_of w b ≡ persons_next (past_parents (tokens_from (length b - 1) w b (here (tree_size w) ParentLines)))
 unfolding stamp_of
 stamp_after w small b t e =
     let l = id_line-some w tree_word b t e in
@@ -288,7 +301,7 @@ stamp_after w small b t e =
     let s = same w small b (length b - 1) (tree_size w) (omega arith) most in
     rw (e, rest) (s.stamp (length b) (simp length-drop (omega arith)))
 
-pub after-tree : (w : ℕ) → w ≤ id_room → (b : List ℕ) (t : Id × List ℕ) → id_line w tree_word b ≡ some t → header w b ≡ after_tree_token w (tokens_from (length b - 1) w b (here (tree_size w) ParentLines))
+pub after-tree : (w : ℕ) → w ≤ id_room → (b : List ℕ) (t : Id × List ℕ) → id_line w tree_word b ≡ Some t → header w b ≡ after_tree_token w (tokens_from (length b - 1) w b (here (tree_size w) ParentLines))
 unfolding header seconds_of zone_of
 after-tree w small b t e =
     let rest : t.1 ≡ drop (tree_size w) b = (id_line-some w tree_word b t e).rest in
@@ -304,8 +317,8 @@ header_by_tokens w small [] = refl
 header_by_tokens w small (x ∷ xs) = go (id_line w tree_word (x ∷ xs)) refl
   where
     go : (o : Option (Id × List ℕ)) → id_line w tree_word (x ∷ xs) ≡ o → header_of w (tokens w (x ∷ xs)) ≡ header w (x ∷ xs)
-    go none e = rw ((no-tree w (x ∷ xs) e).0, (is-missing (x ∷ xs) 0).tree) (sym (ap (with_tree w (x ∷ xs)) e))
-    go (some t) e =
+    go None e = rw ((no-tree w (x ∷ xs) e).0, (is-missing (x ∷ xs) 0).tree) (sym (ap (with_tree w (x ∷ xs)) e))
+    go (Some t) e =
         let s = tree-step w (x ∷ xs) t e in
         let n : suc (length xs) - 1 ≡ length xs = omega arith in
         rw (s.0, s.1) (sym (rw n at (after-tree w small (x ∷ xs) t e)))
@@ -316,8 +329,8 @@ good-tokens w small [] = refl
 good-tokens w small (x ∷ xs) = go (id_line w tree_word (x ∷ xs)) refl
   where
     go : (o : Option (Id × List ℕ)) → id_line w tree_word (x ∷ xs) ≡ o → all_good (tokens w (x ∷ xs)) ≡ is_some (seconds_of w (x ∷ xs))
-    go none e = let s = no-tree w (x ∷ xs) e in rw (s.0, s.1) (stopped w (x ∷ xs) (length xs) 0 ∙ sym (ap (λ (o : Option (Id × List ℕ)). is_some (seconds_in (after_tree w (suc (length xs)) o))) e))
-    go (some t) e =
+    go None e = let s = no-tree w (x ∷ xs) e in rw (s.0, s.1) (stopped w (x ∷ xs) (length xs) 0 ∙ sym (ap (λ (o : Option (Id × List ℕ)). is_some (seconds_in (after_tree w (suc (length xs)) o))) e))
+    go (Some t) e =
         let s = tree-step w (x ∷ xs) t e in
         let n : suc (length xs) - 1 ≡ length xs = omega arith in
         rw (s.0, s.1) (parents-good w (x ∷ xs) (length xs) (tree_size w) ∙ sym (some-seconds (rw n at (stamp_after w small (x ∷ xs) t e))))
@@ -325,13 +338,13 @@ good-tokens w small (x ∷ xs) = go (id_line w tree_word (x ∷ xs)) refl
 -- ---- readable, by the tokens
 
 -- where an author and a committer come next, an author does
-persons_author : (ts : List TokenRead) → (author_next ts && is_some (persons_next ts)) ≡ is_some (persons_next ts)
+persons_author : (ts : List Token) → (author_next ts && is_some (persons_next ts)) ≡ is_some (persons_next ts)
 persons_author [] = refl
-persons_author (t ∷ ts) = by_cases (is_author t.token) (λ h. rw h) (λ h. rw h)
+persons_author (t ∷ ts) = by_cases (is_author t) (λ h. rw h) (λ h. rw h)
 
-read_some : (n : ℕ) (a : Bool) (o : Option Stamped) → is_readable (pick a (read_as n o) BadHeader) ≡ (a && is_some o)
-read_some n true none = refl
-read_some n true (some s) = refl
+read_some : (n : ℕ) (a : Bool) (o : Option Stamped) → is_readable (pick a (read_as n o) (Err BadHeader)) ≡ (a && is_some o)
+read_some n true None = refl
+read_some n true (Some s) = refl
 read_some n false o = refl
 
 and_no : (a : Bool) → (a && false) ≡ false
@@ -342,7 +355,7 @@ and_yes : (a : Bool) → (a && true) ≡ a
 and_yes true = refl
 and_yes false = refl
 
-module _ (w : ℕ) (ts : List TokenRead) where
+module _ (w : ℕ) (ts : List Token) where
   few : ltb most (length (parents_of w ts)) ≡ false → leb (length (parents_of w ts)) most ≡ true
   few h = le-leb (length (parents_of w ts)) most (ltb-false most (length (parents_of w ts)) h)
 
@@ -367,16 +380,16 @@ readable_by_tokens w small [] = refl
 readable_by_tokens w small (x ∷ xs) = go (id_line w tree_word (x ∷ xs)) refl
   where
     go : (o : Option (Id × List ℕ)) → id_line w tree_word (x ∷ xs) ≡ o → ReadableTokens w (x ∷ xs)
-    go none e =
+    go None e =
         let a : all_good (tokens w (x ∷ xs)) ≡ false = good-tokens w small (x ∷ xs) ∙ ap (λ (o : Option (Id × List ℕ)). is_some (seconds_in (after_tree w (suc (length xs)) o))) e in
         ap (λ (o : Option (Id × List ℕ)). is_readable (reading_of (with_tree w (x ∷ xs) o))) e
         ∙ sym (ap (λ (c : Bool). c && leb (length (parents_of w (drop 1 (tokens w (x ∷ xs))))) most) a)
-    go (some t) e =
-        let ts : List TokenRead = tokens_from (length xs) w (x ∷ xs) (here (tree_size w) ParentLines) in
+    go (Some t) e =
+        let ts : List Token = tokens_from (length xs) w (x ∷ xs) (here (tree_size w) ParentLines) in
         let n : suc (length xs) - 1 ≡ length xs = omega arith in
         let h : header w (x ∷ xs) ≡ after_tree_token w ts = rw n at (after-tree w small (x ∷ xs) t e) in
         let a : all_good (tokens w (x ∷ xs)) ≡ is_some (persons_next (past_parents ts)) = good-tokens w small (x ∷ xs) ∙ some-seconds (rw n at (stamp_after w small (x ∷ xs) t e)) in
         let r : drop 1 (tokens w (x ∷ xs)) ≡ ts = ap (tokens_from (length xs) w (x ∷ xs)) (tree-step w (x ∷ xs) t e).1 in
         ap (λ (k : Header). is_readable (reading_of k)) h
         ∙ readable_of w ts
-        ∙ sym (ap (λ (c : Bool). c && leb (length (parents_of w (drop 1 (tokens w (x ∷ xs))))) most) a ∙ ap (λ (us : List TokenRead). is_some (persons_next (past_parents ts)) && leb (length (parents_of w us)) most) r)
+        ∙ sym (ap (λ (c : Bool). c && leb (length (parents_of w (drop 1 (tokens w (x ∷ xs))))) most) a ∙ ap (λ (us : List Token). is_some (persons_next (past_parents ts)) && leb (length (parents_of w us)) most) r)

@@ -1,8 +1,8 @@
 -- A reading ends: the place after a token is further on in the body, or nothing more is read from it. Assumes nothing.
+use Rattle.std.specs.Prelude.{None, Option, Some}
 use mathlib.Core.Path.{◌≡◌, refl, sym, ◌∙◌, ap}
 use Prim.Native.Nat.{ℕ, suc, ◌-◌, ◌<◌}
 use mathlib.Core.Bool.{false}
-use mathlib.Core.Option.{Option, none, some}
 use mathlib.Core.List.{List}
 use native.Mathlib.Omega.{arith}
 use lib.ListN.{length, drop, length-drop}
@@ -22,15 +22,15 @@ left b p = pick (is_done p.state) 0 (suc (length b - p.at))
 
 module _ (w : ℕ) (b : List ℕ) (i : ℕ) where
   -- after a line with an id, and after the author line
-  by-id : (text : List ℕ) (t : Id × List ℕ) → id_line w text (drop i b) ≡ some t → left b (here (length b - length t.1) ParentLines) < suc (length b - i)
+  by-id : (text : List ℕ) (t : Id × List ℕ) → id_line w text (drop i b) ≡ Some t → left b (here (length b - length t.1) ParentLines) < suc (length b - i)
   by-id text t e =
       let l = (id_line-some w text (drop i b) t e).long in
       let d = length-drop i b in
       omega arith
 
   by-author : (o : Option (List ℕ)) → author_line (drop i b) ≡ o → left b (place_of b (author_told o)) < suc (length b - i)
-  by-author none e = omega arith
-  by-author (some r) e =
+  by-author None e = omega arith
+  by-author (Some r) e =
       let a = author-ends b i r e in
       let k : ℕ = a.0 in
       let s : r ≡ drop k b = some_in (sym e ∙ a.1.rest) in
@@ -40,16 +40,16 @@ module _ (w : ℕ) (b : List ℕ) (i : ℕ) where
       omega arith
 
   by-tree : (o : Option (Id × List ℕ)) → id_line w tree_word (drop i b) ≡ o → left b (place_of b (tree_told o)) < suc (length b - i)
-  by-tree none e = omega arith
-  by-tree (some t) e = by-id tree_word t e
+  by-tree None e = omega arith
+  by-tree (Some t) e = by-id tree_word t e
 
   by-parent : (o : Option (Id × List ℕ)) → id_line w parent_word (drop i b) ≡ o → left b (place_of b (parent_told o (author_told (author_line (drop i b))))) < suc (length b - i)
-  by-parent none e = by-author (author_line (drop i b)) refl
-  by-parent (some t) e = by-id parent_word t e
+  by-parent None e = by-author (author_line (drop i b)) refl
+  by-parent (Some t) e = by-id parent_word t e
 
   by-committer : (o : Option Stamped) → left b (place_of b (committer_told o)) < suc (length b - i)
-  by-committer none = omega arith
-  by-committer (some s) = omega arith
+  by-committer None = omega arith
+  by-committer (Some s) = omega arith
 
   by_state : (s : State) → is_done s ≡ false → left b (after_token w b (here i s)) < suc (length b - i)
   unfolding after_token line_at line_in

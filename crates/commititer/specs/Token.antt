@@ -1,10 +1,9 @@
 -- The tokens of one commit's header (document 01, "Header lines": "The reader goes over one lent commit line by line, as
 -- `CommitRefIter` does."). A place says which line may stand there: the tree, "then parents", "then `author `", "then `committer `". Each
 -- line is read as crate `object` defines it. Assumes nothing.
-use Rattle.std.specs.Prelude.{ℕ, ◌+◌, ◌*◌, ◌-◌, Bool, true, false, List, [], length, drop, replicate, ltb}
-use Rattle.std.proofs.Math.Option.{Option, none, some}
+use Rattle.std.specs.Prelude.{ℕ, ◌+◌, ◌*◌, ◌-◌, Bool, true, false, List, [], length, drop, ltb, None, Option, Some}
 use Rattle.hash.specs.Bytes.{Id, pick}
-use Rattle.object.specs.Ids.{id_room, padded}
+use Rattle.object.specs.Ids.{padded}
 use Rattle.object.specs.Header.{tree_size, parent_size, id_line, tree_word, parent_word, author_line, Stamped, committer_line}
 use Rattle.object.specs.Read.{stamp_given}
 use Rattle.commititer.specs.declared.State.{State}
@@ -12,7 +11,6 @@ use Rattle.commititer.specs.declared.State.TheVariants.{Tree as TreeLine, Parent
 use Rattle.commititer.specs.declared.Place.{Place}
 use Rattle.commititer.specs.declared.Token.{Token}
 use Rattle.commititer.specs.declared.Token.TheVariants.{Tree, Parent, Author, Committer, Bad, End}
-use Rattle.commititer.specs.declared.TokenRead.{TokenRead}
 
 -- a place by its offset and the line that may stand there, and the start of a body
 abbrev pub here : ℕ → State → Place
@@ -21,33 +19,30 @@ here i s = record { at = i; state = s }
 abbrev pub start : Place
 start = here 0 TreeLine
 
--- a token with no id beside it, and a parent's
-abbrev pub bare : Token → TokenRead
-bare t = record { token = t; id = record { bytes = replicate id_room 0 } }
-
-abbrev pub parent_token : Id → TokenRead
-parent_token x = record { token = Parent; id = record { bytes = padded x } }
+-- a parent's token
+abbrev pub parent_token : Id → Token
+parent_token x = Parent (record { bytes = padded x })
 
 -- a good line: its token, and what follows it that is still to be read
 abbrev pub Told : Type 0
-Told = Option (TokenRead × List ℕ)
+Told = Option (Token × List ℕ)
 
 abbrev pub tree_told : Option (Id × List ℕ) → Told
-tree_told none = none
-tree_told (some t) = some (bare Tree, t.1)
+tree_told None = None
+tree_told (Some t) = Some (Tree, t.1)
 
 abbrev pub author_told : Option (List ℕ) → Told
-author_told none = none
-author_told (some r) = some (bare Author, r)
+author_told None = None
+author_told (Some r) = Some (Author, r)
 
 abbrev pub parent_told : Option (Id × List ℕ) → Told → Told
-parent_told none other = other
-parent_told (some t) other = some (parent_token t.0, t.1)
+parent_told None other = other
+parent_told (Some t) other = Some (parent_token t.0, t.1)
 
 -- nothing is read after the committer line
 abbrev pub committer_told : Option Stamped → Told
-committer_told none = none
-committer_told (some s) = some (bare (Committer (stamp_given s)), [])
+committer_told None = None
+committer_told (Some s) = Some (Committer (stamp_given s), [])
 
 -- the line at the front of a list, by which line may stand there: the tree line; a parent line, else the author line; the committer line;
 -- none
@@ -55,7 +50,7 @@ unfoldable pub line_in : ℕ → State → List ℕ → Told
 line_in w TreeLine b = tree_told (id_line w tree_word b)
 line_in w ParentLines b = parent_told (id_line w parent_word b) (author_told (author_line b))
 line_in w CommitterLine b = committer_told (committer_line b)
-line_in w Done b = none
+line_in w Done b = None
 
 unfoldable pub line_at : ℕ → List ℕ → Place → Told
 line_at w b p = line_in w p.state (drop p.at b)
@@ -70,15 +65,15 @@ no_line ParentLines b i = missing b i
 no_line CommitterLine b i = missing b i
 no_line Done b i = End
 
-abbrev pub token_of : List ℕ → Place → Told → TokenRead
-token_of b p none = bare (no_line p.state b p.at)
-token_of b p (some t) = t.0
+abbrev pub token_of : List ℕ → Place → Told → Token
+token_of b p None = no_line p.state b p.at
+token_of b p (Some t) = t.0
 
 -- which line may stand after a token: "then parents", "then `author `" (where no parent line stands), "then `committer `"; after the
 -- committer, a bad line and the end nothing is read
 abbrev pub after : Token → State
 after Tree = ParentLines
-after Parent = ParentLines
+after (Parent x) = ParentLines
 after Author = CommitterLine
 after (Committer s) = Done
 after Bad = Done
@@ -95,11 +90,11 @@ abbrev pub ended : List ℕ → Place
 ended b = here (length b) Done
 
 abbrev pub place_of : List ℕ → Told → Place
-place_of b none = ended b
-place_of b (some t) = here (length b - length t.1) (after t.0.token)
+place_of b None = ended b
+place_of b (Some t) = here (length b - length t.1) (after t.0)
 
 -- the token that stands at a place, and the place after it
-unfoldable pub token_at : ℕ → List ℕ → Place → TokenRead
+unfoldable pub token_at : ℕ → List ℕ → Place → Token
 token_at w b p = token_of b p (line_at w b p)
 
 unfoldable pub after_token : ℕ → List ℕ → Place → Place

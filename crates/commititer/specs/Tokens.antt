@@ -1,34 +1,29 @@
 -- A header read from its tokens: all tokens of a body in order, and what they make of tree, parents, author and committer
 -- (document 01, "Header lines"). `proofs/Agree.antt` shows that it is the header that crate `object` reads, and that the tokens are all good
 -- just where the header is. Assumes nothing.
-use Rattle.std.specs.Prelude.{◌≡◌, ℕ, zero, suc, ◌*◌, Bool, true, false, ◌&&◌, List, [], ◌∷◌, length, take, drop, ℤ, ltb, leb}
-use Rattle.std.proofs.Math.Option.{Option, none, some}
-use Rattle.hash.specs.Bytes.{Id, pick, set_down}
+use Rattle.std.specs.Prelude.{◌≡◌, ℕ, zero, suc, ◌*◌, Bool, true, false, ◌&&◌, List, [], ◌∷◌, length, take, drop, ltb, leb, None, Option, Some, Ok, Err}
+use Rattle.hash.specs.Bytes.{Id, if_some, pick, set_down}
 use Rattle.object.specs.Ids.{id_in}
 use Rattle.object.specs.Header.{is_some, Stamped, seconds_in, zone_in, Header, most, seconds_of, header}
-use Rattle.object.specs.Read.{reading_of}
-use Rattle.date.specs.declared.Zone.{Zone}
-use Rattle.date.specs.declared.Zone.TheVariants.{Minutes, NoZone}
-use Rattle.object.specs.declared.Reading.{Reading}
-use Rattle.object.specs.declared.Reading.TheVariants.{Readable, Bad as BadHeader, Crowded}
+use Rattle.object.specs.Read.{reading_of, Reading}
+use Rattle.object.specs.declared.ObjectId.{ObjectId}
 use Rattle.commititer.specs.Token.{start, token_at, after_token}
 use Rattle.commititer.specs.declared.Place.{Place}
 use Rattle.commititer.specs.declared.Token.{Token}
 use Rattle.commititer.specs.declared.Token.TheVariants.{Tree, Parent, Author, Committer, Bad, End}
-use Rattle.commititer.specs.declared.TokenRead.{TokenRead}
 
 -- the tokens from a place on, at most n of them
-unfoldable pub tokens_from : ℕ → ℕ → List ℕ → Place → List TokenRead
+unfoldable pub tokens_from : ℕ → ℕ → List ℕ → Place → List Token
 tokens_from zero w b p = []
 tokens_from (suc n) w b p = token_at w b p ∷ tokens_from n w b (after_token w b p)
 
 -- a body's tokens: no line is shorter than a byte, so that as many as it has bytes are all
-unfoldable pub tokens : ℕ → List ℕ → List TokenRead
+unfoldable pub tokens : ℕ → List ℕ → List Token
 tokens w b = tokens_from (length b) w b start
 
 abbrev pub is_tree : Token → Bool
 is_tree Tree = true
-is_tree Parent = false
+is_tree (Parent x) = false
 is_tree Author = false
 is_tree (Committer s) = false
 is_tree Bad = false
@@ -36,7 +31,7 @@ is_tree End = false
 
 abbrev pub is_parent : Token → Bool
 is_parent Tree = false
-is_parent Parent = true
+is_parent (Parent x) = true
 is_parent Author = false
 is_parent (Committer s) = false
 is_parent Bad = false
@@ -44,63 +39,68 @@ is_parent End = false
 
 abbrev pub is_author : Token → Bool
 is_author Tree = false
-is_author Parent = false
+is_author (Parent x) = false
 is_author Author = true
 is_author (Committer s) = false
 is_author Bad = false
 is_author End = false
 
 -- a committer's seconds and zone
-abbrev pub zone_told : Zone → Option ℤ
-zone_told NoZone = none
-zone_told (Minutes z) = some z
-
 abbrev pub stamp_told : Token → Option Stamped
-stamp_told Tree = none
-stamp_told Parent = none
-stamp_told Author = none
-stamp_told (Committer s) = some (record { seconds = s.seconds.0; zone = zone_told s.zone })
-stamp_told Bad = none
-stamp_told End = none
+stamp_told Tree = None
+stamp_told (Parent x) = None
+stamp_told Author = None
+stamp_told (Committer s) = Some (record { seconds = s.seconds.0; zone = s.zone })
+stamp_told Bad = None
+stamp_told End = None
 
 abbrev pub is_bad : Token → Bool
 is_bad Tree = false
-is_bad Parent = false
+is_bad (Parent x) = false
 is_bad Author = false
 is_bad (Committer s) = false
 is_bad Bad = true
 is_bad End = false
 
+-- a parent's id, none with any other token
+abbrev pub id_told : Token → Option ObjectId
+id_told Tree = None
+id_told (Parent x) = Some x
+id_told Author = None
+id_told (Committer s) = None
+id_told Bad = None
+id_told End = None
+
 -- a parent's id set down as number k of a list of ids, where it fits; with any other token nothing is changed
-abbrev pub parent_down : ℕ → ℕ → TokenRead → List ℕ → List ℕ
-parent_down w k t b = pick (is_parent t.token) (set_down b (w * k) (id_in w t.id.bytes)) b
+abbrev pub parent_down : ℕ → ℕ → Token → List ℕ → List ℕ
+parent_down w k t b = if_some (id_told t) b (λ x. set_down b (w * k) (id_in w x.bytes))
 
 -- ---- what the tokens come to
 
 -- the parents at the front of a list of tokens, and the tokens after them
-unfoldable pub parents_of : ℕ → List TokenRead → List Id
+unfoldable pub parents_of : ℕ → List Token → List Id
 parents_of w [] = []
-parents_of w (t ∷ ts) = let r = parents_of w ts in pick (is_parent t.token) (id_in w t.id.bytes ∷ r) []
+parents_of w (t ∷ ts) = let r = parents_of w ts in if_some (id_told t) [] (λ x. id_in w x.bytes ∷ r)
 
-unfoldable pub past_parents : List TokenRead → List TokenRead
+unfoldable pub past_parents : List Token → List Token
 past_parents [] = []
-past_parents (t ∷ ts) = let r = past_parents ts in pick (is_parent t.token) r (t ∷ ts)
+past_parents (t ∷ ts) = let r = past_parents ts in pick (is_parent t) r (t ∷ ts)
 
 -- an author comes next; a committer comes next; an author and then a committer
-abbrev pub author_next : List TokenRead → Bool
+abbrev pub author_next : List Token → Bool
 author_next [] = false
-author_next (t ∷ ts) = is_author t.token
+author_next (t ∷ ts) = is_author t
 
-abbrev pub committer_next : List TokenRead → Option Stamped
-committer_next [] = none
-committer_next (t ∷ ts) = stamp_told t.token
+abbrev pub committer_next : List Token → Option Stamped
+committer_next [] = None
+committer_next (t ∷ ts) = stamp_told t
 
-abbrev pub persons_next : List TokenRead → Option Stamped
-persons_next [] = none
-persons_next (t ∷ ts) = pick (is_author t.token) (committer_next ts) none
+abbrev pub persons_next : List Token → Option Stamped
+persons_next [] = None
+persons_next (t ∷ ts) = pick (is_author t) (committer_next ts) None
 
 -- what the tokens after a tree come to, and all tokens
-abbrev pub after_tree_token : ℕ → List TokenRead → Header
+abbrev pub after_tree_token : ℕ → List Token → Header
 after_tree_token w ts = record {
   tree = true;
   ids = take most (parents_of w ts);
@@ -111,11 +111,11 @@ after_tree_token w ts = record {
 }
 
 abbrev pub no_header : Header
-no_header = record { tree = false; ids = []; crowded = false; author = false; seconds = none; zone = none }
+no_header = record { tree = false; ids = []; crowded = false; author = false; seconds = None; zone = None }
 
-abbrev pub header_of : ℕ → List TokenRead → Header
+abbrev pub header_of : ℕ → List Token → Header
 header_of w [] = no_header
-header_of w (t ∷ ts) = pick (is_tree t.token) (after_tree_token w ts) no_header
+header_of w (t ∷ ts) = pick (is_tree t) (after_tree_token w ts) no_header
 
 -- the two readings agree
 abbrev pub Agrees : ℕ → List ℕ → Type 0
@@ -124,15 +124,15 @@ Agrees w b = header_of w (tokens w b) ≡ header w b
 -- ---- good tokens are a good header
 
 -- no bad line is met; a committer is reached
-unfoldable pub no_bad : List TokenRead → Bool
+unfoldable pub no_bad : List Token → Bool
 no_bad [] = true
-no_bad (t ∷ ts) = let r = no_bad ts in pick (is_bad t.token) false r
+no_bad (t ∷ ts) = let r = no_bad ts in pick (is_bad t) false r
 
-unfoldable pub has_committer : List TokenRead → Bool
+unfoldable pub has_committer : List Token → Bool
 has_committer [] = false
-has_committer (t ∷ ts) = let r = has_committer ts in pick (is_some (stamp_told t.token)) true r
+has_committer (t ∷ ts) = let r = has_committer ts in pick (is_some (stamp_told t)) true r
 
-abbrev pub all_good : List TokenRead → Bool
+abbrev pub all_good : List Token → Bool
 all_good ts = no_bad ts && has_committer ts
 
 -- a body whose tokens meet no bad line and reach a committer is just one whose "four parts hold": a tree, parents (however many), an
@@ -142,9 +142,8 @@ GoodTokens w b = all_good (tokens w b) ≡ is_some (seconds_of w b)
 
 -- "A commit is readable if all four parts hold and it has at most 256 parents", by its tokens
 abbrev pub is_readable : Reading → Bool
-is_readable (Readable n s) = true
-is_readable BadHeader = false
-is_readable Crowded = false
+is_readable (Ok r) = true
+is_readable (Err e) = false
 
 abbrev pub ReadableTokens : ℕ → List ℕ → Type 0
 ReadableTokens w b = is_readable (reading_of (header w b)) ≡ (all_good (tokens w b) && leb (length (parents_of w (drop 1 (tokens w b)))) most)

@@ -8,7 +8,6 @@ ghost use Rattle.hash.specs.Bytes.{width_of};
 ghost use Rattle.object.specs.Header.{author_line, committer_line};
 ghost use Rattle.commititer.specs.Token.{
   here,
-  bare,
   author_told,
   committer_told,
   missing,
@@ -24,10 +23,9 @@ ghost use Rattle.commititer.specs.Token.{
 };
 ghost use Rattle.commititer.specs.Tokens.{is_tree, is_parent, is_author, parent_down};
 
-use actor::StampRead;
 use date::Stamp;
 use hash::Kind;
-use object::{Line, ObjectId, person};
+use object::{ObjectId, person};
 
 // What stands at a place of a header: one of the four kinds of line, the committer's with its seconds and zone; a line that is not the one that may
 // stand there, or is bad; or nothing more to read. It has what a walk over commits asks of a line and no more, so a tree's id and an
@@ -35,18 +33,11 @@ use object::{Line, ObjectId, person};
 #[derive(Clone, Copy)]
 pub enum Token {
     Tree,
-    Parent,
+    Parent(ObjectId),
     Author,
     Committer(Stamp),
     Bad,
     End,
-}
-
-// A token that was read. The id stands beside it, since an enum cannot hold an array: a parent's, and all zeros with any other token.
-#[derive(Clone, Copy)]
-pub struct TokenRead {
-    pub token: Token,
-    pub id: ObjectId,
 }
 
 // Which line may stand at a place: the tree line; a parent line, else the author line; the committer line; none, since nothing more is read.
@@ -73,83 +64,67 @@ pub struct CommitRefIter<'a> {
     pub kind: Kind,
 }
 
-// A token with no id.
-fn without_id(token: Token) -> TokenRead
-    ensures { result ≡ bare token }
-{
-    TokenRead {
-        token,
-        id: ObjectId { bytes: [0u8; 32] },
-    }
-}
-
 // The token at a place where a line may stand and no good one does.
-fn no_line(data: &[u8], at: usize) -> TokenRead
-    ensures { result ≡ bare (missing «data».now at) }
+fn no_line(data: &[u8], at: usize) -> Token
+    ensures { result ≡ missing «data».now at }
 {
     if at < data.len() {
-        without_id(Token::Bad)
+        Token::Bad
     } else {
-        without_id(Token::End)
+        Token::End
     }
 }
 
 // The token where the tree line may stand.
-fn tree_token(kind: Kind, data: &[u8], at: usize) -> TokenRead
+fn tree_token(kind: Kind, data: &[u8], at: usize) -> Token
     ensures { result ≡ token_at (width_of kind) «data».now (here at State.Tree) }
 {
     match object::tree_line(kind, data, at) {
-        Line::Good(_) => without_id(Token::Tree),
-        Line::Bad => no_line(data, at),
+        Some(_) => Token::Tree,
+        None => no_line(data, at),
     }
 }
 
 // The token where the author line may stand, and no parent line does.
-fn author_token(data: &[u8], at: usize) -> TokenRead
+fn author_token(data: &[u8], at: usize) -> Token
     ensures { result ≡ token_of «data».now (here at State.Parents) (author_told (author_line (drop at «data».now))) }
 {
     match person::author_line(data, at) {
-        Line::Good(_) => without_id(Token::Author),
-        Line::Bad => no_line(data, at),
+        Some(_) => Token::Author,
+        None => no_line(data, at),
     }
 }
 
 // The token where a parent line may stand, else the author line.
-fn parent_token(kind: Kind, data: &[u8], at: usize) -> TokenRead
+fn parent_token(kind: Kind, data: &[u8], at: usize) -> Token
     ensures { result ≡ token_at (width_of kind) «data».now (here at State.Parents) }
 {
-    let parent = object::parent_line(kind, data, at);
-    if parent.good {
-        let id = parent.id;
-        return TokenRead {
-            token: Token::Parent,
-            id,
-        };
+    match object::parent_line(kind, data, at) {
+        Some(id) => Token::Parent(id),
+        None => author_token(data, at),
     }
-    author_token(data, at)
 }
 
 // The token where the committer line may stand.
-fn committer_token(data: &[u8], at: usize) -> TokenRead
+fn committer_token(data: &[u8], at: usize) -> Token
     ensures { result ≡ token_of «data».now (here at State.Committer) (committer_told (committer_line (drop at «data».now))) }
 {
     match person::committer_line(data, at) {
-        StampRead::Good(stamp) => without_id(Token::Committer(stamp)),
-        StampRead::Bad => no_line(data, at),
+        Some(stamp) => Token::Committer(stamp),
+        None => no_line(data, at),
     }
 }
 
 // The token that stands at a place.
-fn token_at(data: &[u8], place: Place, kind: Kind) -> TokenRead
+fn token_at(data: &[u8], place: Place, kind: Kind) -> Token
     ensures { result ≡ token_at (width_of kind) «data».now place }
 {
     let at = place.at;
-    let state = place.state;
-    match state {
+    match place.state {
         State::Tree => tree_token(kind, data, at),
         State::Parents => parent_token(kind, data, at),
         State::Committer => committer_token(data, at),
-        State::Done => without_id(Token::End),
+        State::Done => Token::End,
     }
 }
 
@@ -168,11 +143,11 @@ fn after_tree(kind: Kind, data: &[u8], at: usize) -> Place
     ensures { result ≡ after_token (width_of kind) «data».now (here at State.Tree) }
 {
     match object::tree_line(kind, data, at) {
-        Line::Good(next) => Place {
+        Some(next) => Place {
             at: next,
             state: State::Parents,
         },
-        Line::Bad => no_more(data),
+        None => no_more(data),
     }
 }
 
@@ -181,11 +156,11 @@ fn after_author(data: &[u8], at: usize) -> Place
     ensures { result ≡ place_of «data».now (author_told (author_line (drop at «data».now))) }
 {
     match person::author_line(data, at) {
-        Line::Good(next) => Place {
+        Some(next) => Place {
             at: next,
             state: State::Committer,
         },
-        Line::Bad => no_more(data),
+        None => no_more(data),
     }
 }
 
@@ -207,17 +182,15 @@ fn after_token(data: &[u8], place: Place, kind: Kind) -> Place
     ensures { result ≡ after_token (width_of kind) «data».now place }
 {
     let at = place.at;
-    let state = place.state;
-    match state {
+    match place.state {
         State::Tree => after_tree(kind, data, at),
         State::Parents => after_parent(kind, data, at),
-        State::Committer => no_more(data),
-        State::Done => no_more(data),
+        State::Committer | State::Done => no_more(data),
     }
 }
 
 // The token at the struct's place.
-pub fn next<'a>(it: CommitRefIter<'a>) -> TokenRead
+pub fn next<'a>(it: CommitRefIter<'a>) -> Token
     ensures { result ≡ token_at (width_of it.entry.kind) it.entry.data.now it.entry.place }
 {
     token_at(it.data, it.place, it.kind)
@@ -236,7 +209,7 @@ pub fn advanced<'a>(it: CommitRefIter<'a>) -> CommitRefIter<'a>
 }
 
 // The token at a place of a body, read by the struct.
-pub fn read_token(kind: Kind, data: &[u8], place: Place) -> TokenRead
+pub fn read_token(kind: Kind, data: &[u8], place: Place) -> Token
     ensures { result ≡ token_at (width_of kind) «data».now place }
 {
     next(CommitRefIter { data, place, kind })
@@ -254,13 +227,7 @@ pub fn place_after(kind: Kind, data: &[u8], place: Place) -> Place
 pub fn is_done(place: Place) -> bool
     ensures { result ≡ is_done place.state }
 {
-    let state = place.state;
-    match state {
-        State::Tree => false,
-        State::Parents => false,
-        State::Committer => false,
-        State::Done => true,
-    }
+    matches!(place.state, State::Done)
 }
 
 // The farthest place of a body.
@@ -306,35 +273,29 @@ pub fn parents_place(kind: Kind, k: usize) -> Place
 
 // Whether a tree stands at the start of a body.
 pub fn is_tree(kind: Kind, data: &[u8]) -> bool
-    ensures { result ≡ is_tree (token_at (width_of kind) «data».now start).token }
+    ensures { result ≡ is_tree (token_at (width_of kind) «data».now start) }
 {
-    match object::tree_line(kind, data, 0) {
-        Line::Good(_) => true,
-        Line::Bad => false,
-    }
+    object::tree_line(kind, data, 0).is_some()
 }
 
 // Whether a parent stands at a place where parents may stand.
 pub fn is_parent(kind: Kind, data: &[u8], at: usize) -> bool
-    ensures { result ≡ is_parent (token_at (width_of kind) «data».now (here at State.Parents)).token }
+    ensures { result ≡ is_parent (token_at (width_of kind) «data».now (here at State.Parents)) }
 {
     object::is_parent_line(kind, data, at)
 }
 
 // Whether an author stands at such a place, whatever the kind of the ids.
 pub fn is_author(data: &[u8], at: usize) -> bool
-    ensures { (w : ℕ) → result ≡ is_author (token_at w «data».now (here at State.Parents)).token }
+    ensures { (w : ℕ) → result ≡ is_author (token_at w «data».now (here at State.Parents)) }
 {
-    match person::author_line(data, at) {
-        Line::Good(_) => true,
-        Line::Bad => false,
-    }
+    person::author_line(data, at).is_some()
 }
 
 // Sets down the id of the parent at such a place as number k of a list of ids, where it fits: its digits are decoded there, and no token is made.
 // Where no parent stands nothing is changed.
 pub fn put_parent(kind: Kind, data: &[u8], at: usize, out: &mut [u8], k: usize) -> bool
-    ensures { (result ≡ is_parent (token_at (width_of kind) «data».now (here at State.Parents)).token) × (out.new ≡ parent_down (width_of kind) k (token_at (width_of kind) «data».now (here at State.Parents)) out.old) }
+    ensures { (result ≡ is_parent (token_at (width_of kind) «data».now (here at State.Parents))) × (out.new ≡ parent_down (width_of kind) k (token_at (width_of kind) «data».now (here at State.Parents)) out.old) }
 {
     object::put_parent(kind, data, at, out, k)
 }

@@ -1,1 +1,1 @@
-pub mod Negative
+pub mod Orders

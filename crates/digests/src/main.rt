@@ -6,23 +6,9 @@
 use hash::Kind;
 use std::io;
 
-fn text(rt: &impl Print, s: &[u8]) -> io::Result<()> {
-    host::write_all(rt, s)
-}
-
-fn number(rt: &impl Print, n: usize) -> io::Result<()> {
-    host::print_decimal(rt, n as u64)
-}
-
-fn byte(rt: &impl Print, b: u8) -> io::Result<()> {
-    host::print_hex(rt, b as u64, 2)
-}
-
 fn hex(rt: &impl Print, s: &[u8]) -> io::Result<()> {
-    for i in 0..s.len() {
-        byte(rt, s[i])?;
-    }
-    text(rt, b"\n")
+    host::print_bytes(rt, s)?;
+    println!(rt;)
 }
 
 // The digest of both parts.
@@ -42,11 +28,7 @@ fn print_id(rt: &impl Print, kind: Kind, body: &[u8]) -> io::Result<()> {
 // The check of a store and a graph file: the refusal's number, and the entry's.
 fn print_check(rt: &impl Print, kind: Kind, store: &[u8], graph: &[u8]) -> io::Result<()> {
     let r = fsck::check_names(kind, store, graph);
-    let o = r.outcome;
-    host::print_decimal(rt, fsck::number(o) as u64)?;
-    text(rt, b" ")?;
-    number(rt, r.entry)?;
-    text(rt, b"\n")
+    println!(rt; "{} {}", fsck::number(r.outcome), r.entry)
 }
 
 fn case(rt: &impl Print, asked: u8, a: &[u8], b: &[u8]) -> io::Result<()> {

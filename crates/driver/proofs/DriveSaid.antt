@@ -1,4 +1,5 @@
 -- What `drive` comes to: after a refused opening no call is made; after an accepted one all that the task can need. Assumes nothing.
+use Rattle.std.specs.Prelude.{Err, Ok, Result}
 use mathlib.Core.Path.{◌≡◌, refl, sym, ◌∙◌, ap, subst}
 use Prim.Native.Nat.{ℕ, ◌+◌, ◌≤◌, ◌<◌}
 use mathlib.Core.Bool.{true}
@@ -7,8 +8,6 @@ use native.Mathlib.Omega.{arith}
 use lib.ListN.{length}
 use Rattle.odb.specs.Store.{store_is_ok}
 use Rattle.walk.specs.declared.Refusal.{Refusal}
-use Rattle.walk.specs.declared.OpenOutcome.{OpenOutcome}
-use Rattle.walk.specs.declared.OpenOutcome.TheVariants.{Accepted, NotOpened}
 use Rattle.walk.specs.declared.OpenAnswer.{OpenAnswer}
 use Rattle.walk.specs.State.{State}
 use Rattle.walk.specs.Opening.{Input, width_in, P, room_for, Opening, closed, opened, open_walk}
@@ -66,11 +65,11 @@ module _ {i : Input} {m : Lent} {o : Opened} {m₁ : Lent} (s : OpenSays i m o m
       go (closed r) e = omega (arith, refused-cap r e)
       go (opened st) e = omega (arith, opened-cap st e, places-few i (opens i (room_for i (lengths_of m)) (sym (ap checked_by e))).accepted)
 
-  refused_as : (r : Refusal) → open_walk i (room_for i (lengths_of m)) ≡ closed r → o.answer.outcome ≡ NotOpened r
+  refused_as : (r : Refusal) → open_walk i (room_for i (lengths_of m)) ≡ closed r → o.answer.outcome ≡ Err r
   unfolding open_given
   refused_as r e = ap (λ (a : OpenAnswer). a.outcome) (s.answer ∙ ap open_given e)
 
-  accepted-as : (st : State) → open_walk i (room_for i (lengths_of m)) ≡ opened st → o.answer.outcome ≡ Accepted
+  accepted-as : (st : State) → open_walk i (room_for i (lengths_of m)) ≡ opened st → o.answer.outcome ≡ (Ok tt)
   unfolding open_given
   accepted-as st e = ap (λ (a : OpenAnswer). a.outcome) (s.answer ∙ ap open_given e)
 
@@ -78,12 +77,12 @@ module _ {i : Input} {m : Lent} {o : Opened} {m₁ : Lent} (s : OpenSays i m o m
   pub may-call : {n : ℕ} {d₀ : Driven} → n ≡ most_calls o.answer.outcome o.record.queue.cap → d₀ ≡ before_calls o → (n ≤ 1048578) × Few 0 d₀.tally × (0 < n → store_is_ok (width_in i) i.store ≡ true)
   may-call {n} {d₀} c b = (few o.answer.outcome c, subst (Few 0) (sym (ap (λ (q : Driven). q.tally) b)) none-few, λ h. good h (open_walk i (room_for i (lengths_of m))) refl)
     where
-      few : (a : OpenOutcome) → n ≡ most_calls a o.record.queue.cap → n ≤ 1048578
-      few Accepted e = omega (arith, e, few-slots)
-      few (NotOpened r) e = omega (arith, e)
+      few : (a : Result (Unit {0}) Refusal) → n ≡ most_calls a o.record.queue.cap → n ≤ 1048578
+      few (Ok _) e = omega (arith, e, few-slots)
+      few (Err r) e = omega (arith, e)
 
       good : 0 < n → (w : Opening) → open_walk i (room_for i (lengths_of m)) ≡ w → store_is_ok (width_in i) i.store ≡ true
-      good h (closed r) e = absurd (omega (arith, h, c ∙ ap (λ (x : OpenOutcome). most_calls x o.record.queue.cap) (refused_as r e)))
+      good h (closed r) e = absurd (omega (arith, h, c ∙ ap (λ (x : Result (Unit {0}) Refusal). most_calls x o.record.queue.cap) (refused_as r e)))
       good h (opened st) e = (passes i (opens i (room_for i (lengths_of m)) (sym (ap checked_by e))).accepted).store-good
 
   -- before any call
@@ -99,15 +98,15 @@ module _ {i : Input} {m : Lent} {o : Opened} {m₁ : Lent} (s : OpenSays i m o m
 
   module _ {task : Task} {embargoed : List ℕ} (terms : List ℕ) {good : List ℕ} {n : ℕ} {d₀ d : Driven} {m' : Lent} {ids ids' : List ℕ} (counts : List ℕ) {c₁ counts' : List ℕ} (w : good ≡ good_part terms) (z : c₁ ≡ zeros (length counts))
       (c : n ≡ most_calls o.answer.outcome o.record.queue.cap) (b : d₀ ≡ before_calls o) (a : CallsAll task embargoed good (files_of i) n d₀ m₁ ids c₁ d m' ids' counts') where
-    none_made : (r : Refusal) → open_walk i (room_for i (lengths_of m)) ≡ closed r → (d ≡ driven (NotOpened r) no_tally closed_record) × (m' ≡ m) × (ids' ≡ ids) × (counts' ≡ zeros (length counts))
+    none_made : (r : Refusal) → open_walk i (room_for i (lengths_of m)) ≡ closed r → (d ≡ driven (Err r) no_tally closed_record) × (m' ≡ m) × (ids' ≡ ids) × (counts' ≡ zeros (length counts))
     none_made r e =
-        let q = a.no_call (c ∙ ap (λ (x : OpenOutcome). most_calls x o.record.queue.cap) (refused_as r e)) in
+        let q = a.no_call (c ∙ ap (λ (x : Result (Unit {0}) Refusal). most_calls x o.record.queue.cap) (refused_as r e)) in
         let u = s.refused_open r e in
-        (q.0 ∙ b ∙ ap (λ (x : OpenOutcome). driven x no_tally o.record) (refused_as r e) ∙ ap (driven (NotOpened r) no_tally) u.0, q.1 ∙ u.1, q.2, q.3 ∙ z)
+        (q.0 ∙ b ∙ ap (λ (x : Result (Unit {0}) Refusal). driven x no_tally o.record) (refused_as r e) ∙ ap (driven (Err r) no_tally) u.0, q.1 ∙ u.1, q.2, q.3 ∙ z)
 
     all_made : (st : State) → open_walk i (room_for i (lengths_of m)) ≡ opened st → Drove task embargoed (good_part terms) i (holding no_tally ids (zeros (length counts))) m.parents d m' ids' counts'
     all_made st e =
-        let k : n ≡ P i + 2 = c ∙ ap (λ (x : OpenOutcome). most_calls x o.record.queue.cap) (accepted-as st e) ∙ ap (λ (x : ℕ). x + 2) (opened-cap st e) in
+        let k : n ≡ P i + 2 = c ∙ ap (λ (x : Result (Unit {0}) Refusal). most_calls x o.record.queue.cap) (accepted-as st e) ∙ ap (λ (x : ℕ). x + 2) (opened-cap st e) in
         let h : Held = holding no_tally ids c₁ in
         let v : Drove task embargoed good i h m₁.parents d m' ids' counts' =
         a.all-calls i.tips st (ap (λ (x : _). open_walk i (room_for i x)) s.same-lengths ∙ e) k h (subst (λ (x : Driven). Made task embargoed good i h m₁.parents 0 x m₁ ids c₁) (sym b) (made_none task embargoed good st e ids c₁)) in

@@ -1,10 +1,10 @@
 -- The whole list of a walk: its ids are as wide as their kind says, different and no more than P, and no further call adds to it, since call P + 2 says end at latest.
 -- Assumes nothing.
+use Rattle.std.specs.Prelude.{None}
 use mathlib.Core.Path.{◌≡◌, refl, ◌∙◌, ap, subst}
 use mathlib.Core.Logic.{⊎_elim}
 use Prim.Native.Nat.{ℕ, zero, suc, ◌+◌, ◌-◌, ◌≤◌}
 use mathlib.Core.Bool.{true}
-use mathlib.Core.Option.{none}
 use mathlib.Core.List.Memᴰ
 use mathlib.Core.List.{List, [], ◌∷◌}
 use native.Mathlib.Omega.{arith}
@@ -80,7 +80,7 @@ module _ (i : Input) (st : State) (e : open_walk i true ≡ opened st) where
 -- ---- under the premises
 
 -- it is the list of the third demand
-pub listed-whole : (i : Input) → refusal i ≡ none → Premises (walk_of i) (list_ids (width_in i) i.tips) → (d : Delivers i) × (whole_list i ≡ d.list)
+pub listed-whole : (i : Input) → refusal i ≡ None → Premises (walk_of i) (list_ids (width_in i) i.tips) → (d : Delivers i) × (whole_list i ≡ d.list)
 unfolding Third whole_list
 listed-whole i e pre =
     let d = third i e pre in

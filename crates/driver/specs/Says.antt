@@ -1,8 +1,6 @@
 -- What the driver promises: a walk opened and called to its end, or to the end of its task, and the step folded over its answers. Assumes nothing.
-use Rattle.std.specs.Prelude.{ℕ, ◌+◌, ◌≤◌, ◌≡◌, false, List, length}
+use Rattle.std.specs.Prelude.{ℕ, ◌+◌, ◌≤◌, ◌≡◌, false, List, length, Err, Ok, Result}
 use Rattle.walk.specs.declared.Refusal.{Refusal}
-use Rattle.walk.specs.declared.OpenOutcome.{OpenOutcome}
-use Rattle.walk.specs.declared.OpenOutcome.TheVariants.{Accepted, NotOpened}
 use Rattle.walk.specs.State.{State}
 use Rattle.walk.specs.Opening.{Input, width_in, P, room_for, open_walk, closed, opened}
 use Rattle.walk.specs.Calls.{answers, state_after}
@@ -20,12 +18,12 @@ use Rattle.driver.specs.Walked.{parents_left}
 
 -- ---- drive
 
-abbrev pub driven : OpenOutcome → Tally → Record → Driven
+abbrev pub driven : Result (Unit {0}) Refusal → Tally → Record → Driven
 driven outcome t r = record { outcome = outcome; tally = t; «record» = r }
 
 -- k calls of the walk are made and folded: the buffers were h₀'s and parents₀ before them
 pub record Made (task : Task) (embargoed terms : List ℕ) (i : Input) (h₀ : Held) (parents₀ : List ℕ) (k : ℕ) (d : Driven) (m : Lent) (ids counts : List ℕ) : Type 0 where
-  pub accepted : d.outcome ≡ Accepted
+  pub accepted : d.outcome ≡ (Ok tt)
   pub held : holding d.tally ids counts ≡ folded (width_in i) task embargoed terms i.store h₀ (answers i k)
   pub parents : m.parents ≡ parents_left (answers i k) parents₀
   pub reads : Reads d.record m.memory (shape_of i) (state_after i k)
@@ -40,7 +38,7 @@ pub record Drove (task : Task) (embargoed terms : List ℕ) (i : Input) (h₀ : 
 -- drive: refused as the opening is, with nothing tallied and a closed record, and no lent byte altered; or driven. The counts are set to 0 first
 pub record Drives (task : Task) (embargoed terms : List ℕ) (i : Input) (m : Lent) (ids counts : List ℕ) (d : Driven) (m' : Lent) (ids' counts' : List ℕ) : Type 0 where
   pub refused_open : (r : Refusal) → open_walk i (room_for i (lengths_of m)) ≡ closed r
-      → (d ≡ driven (NotOpened r) no_tally closed_record) × (m' ≡ m) × (ids' ≡ ids) × (counts' ≡ zeros (length counts))
+      → (d ≡ driven (Err r) no_tally closed_record) × (m' ≡ m) × (ids' ≡ ids) × (counts' ≡ zeros (length counts))
   pub accepted_open : (st : State) → open_walk i (room_for i (lengths_of m)) ≡ opened st
       → Drove task embargoed (good_part terms) i (holding no_tally ids (zeros (length counts))) m.parents d m' ids' counts'
   -- no number passes that of P + 2 calls

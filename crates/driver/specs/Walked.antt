@@ -1,8 +1,7 @@
 -- A whole walk: its answers, the list of all commits that they hand out, and what they leave in the caller's buffer parents. Assumes nothing.
-use Rattle.std.specs.Prelude.{ℕ, ◌+◌, List, [], ◌∷◌}
+use Rattle.std.specs.Prelude.{ℕ, ◌+◌, List, [], ◌∷◌, Err, Ok, Result}
+use Rattle.walk.specs.declared.Refusal.{Refusal}
 use Rattle.hash.specs.Bytes.{Id}
-use Rattle.walk.specs.declared.OpenOutcome.{OpenOutcome}
-use Rattle.walk.specs.declared.OpenOutcome.TheVariants.{Accepted, NotOpened}
 use Rattle.walk.specs.Opening.{Input, P}
 use Rattle.walk.specs.Next.{Answer}
 use Rattle.walk.specs.Calls.{answers}
@@ -23,6 +22,6 @@ parents_left [] b = b
 parents_left (a ∷ rest) b = parents_left rest (parents_given a b)
 
 -- how many calls may follow an opening with P slots
-abbrev pub most_calls : OpenOutcome → ℕ → ℕ
-most_calls Accepted p = p + 2
-most_calls (NotOpened r) p = 0
+abbrev pub most_calls : Result (Unit {0}) Refusal → ℕ → ℕ
+most_calls (Ok _) p = p + 2
+most_calls (Err r) p = 0

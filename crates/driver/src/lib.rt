@@ -17,13 +17,13 @@ ghost use Rattle.driver.specs.Says.{Drives, before_calls, went_on, CallsAll};
 use state::Record;
 use tally::{Tally, Task};
 use traverse::Opened;
-use walk::{OpenOutcome, Settings};
+use walk::{Refusal, Settings};
 
 // What a whole walk came to.
 #[derive(Clone, Copy)]
 pub struct Driven {
     // The outcome of the opening.
-    pub outcome: OpenOutcome,
+    pub outcome: Result<(), Refusal>,
     // What the answers came to.
     pub tally: Tally,
     // The record that the opening or the last call gave back.
@@ -66,8 +66,8 @@ fn most_calls(o: Opened) -> usize
     let record = o.record;
     let queue = record.queue;
     match outcome {
-        OpenOutcome::Accepted => queue.cap + 2,
-        OpenOutcome::NotOpened(_) => 0,
+        Ok(()) => queue.cap + 2,
+        Err(_) => 0,
     }
 }
 
@@ -97,6 +97,7 @@ fn call_all(
 {
     let mut d = first;
     let mut left = n;
+    // No range counts these calls: after each, its answer says how many are left, 0 at the end.
     while 0 < left {
         let record = d.record;
         let o = traverse::next::step(

@@ -1,12 +1,11 @@
 -- What openings, calls and listings promise is said of the walk, and the walk is the same: so are they. Assumes nothing.
+use Rattle.std.specs.Prelude.{Err, Ok, Result}
 use mathlib.Core.Path.{◌≡◌, refl, sym, ap, ◌∙◌}
 use mathlib.Core.List.{List}
 use Prim.Native.Nat.{ℕ, ◌+◌, ◌/◌}
 use lib.ListN.{length, take}
 use Rattle.hash.specs.Bytes.{Id, set_down}
 use Rattle.walk.specs.declared.Refusal.{Refusal}
-use Rattle.walk.specs.declared.OpenOutcome.{OpenOutcome}
-use Rattle.walk.specs.declared.OpenOutcome.TheVariants.{Accepted, NotOpened}
 use Rattle.walk.specs.Opening.{Input, width_in, room_for, Opening, closed, opened, open_walk}
 use Rattle.walk.specs.Next.{Answer}
 use Rattle.walk.specs.Calls.{answers, answer_at_call}
@@ -61,11 +60,11 @@ module _ (i : Input) (es : List Id) (a b : List ℕ) (d : DifferOnlyInFeed (widt
       same : q.answer.outcome ≡ o.answer.outcome
       same = sym (ap (λ z. z.outcome) (answers-alike m n e o q m' n' s t))
 
-      go : (z : OpenOutcome) → o.answer.outcome ≡ z → Alike c f
-      go Accepted p =
+      go : (z : Result (Unit {0}) Refusal) → o.answer.outcome ≡ z → Alike c f
+      go (Ok _) p =
           gives_alike ((same-walk i es a b d).answer_at k) (walk_gives (over i a) cs ((third_demand (over i a) m).accepted-calls o m' s p cs u).of_the_walk k c x)
           (walk_gives (over i b) ds ((third_demand (over i b) n).accepted-calls q n' t (same ∙ p) ds v).of_the_walk k f y)
-      go (NotOpened r) p =
+      go (Err r) p =
           shut_alike ((third_demand (over i a) m).refused-calls o m' s r p (files_of (over i a)) cs u k c x)
           ((third_demand (over i b) n).refused-calls q n' t r (same ∙ p) (files_of (over i b)) ds v k f y)
 

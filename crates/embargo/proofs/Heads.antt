@@ -1,9 +1,9 @@
 -- A header is read from what stands before the message: each of its lines begins with a word that has no newline and ends with one, so a reader
 -- that stands at a line's start never passes an empty line. Two bodies that agree up to their first empty line have the same header, whatever
 -- their messages hold. Assumes nothing.
+use Rattle.std.specs.Prelude.{None, Option, Some}
 use mathlib.Core.Path.{◌≡◌, refl, sym, ap, ◌∙◌, subst}
 use mathlib.Core.Bool.{Bool, true, false, cond, ◌&&◌}
-use mathlib.Core.Option.{Option, none, some}
 use mathlib.Core.List.{List, [], ◌∷◌}
 use Prim.Native.Nat.{ℕ, zero, suc, ◌+◌, ◌*◌, ◌<◌}
 use native.Mathlib.Omega.{arith}
@@ -44,12 +44,12 @@ heads_agree f (x ∷ xs) (y ∷ ys) e =
 
 -- what two readers give who agree: nothing, or the same and then lists that agree
 data After : Bool → Option (List ℕ) → Option (List ℕ) → Type 0 where
-  no-rest : {f : Bool} → After f none none
-  rest : {f : Bool} {s t : List ℕ} → Agree f s t → After f (some s) (some t)
+  no-rest : {f : Bool} → After f None None
+  rest : {f : Bool} {s t : List ℕ} → Agree f s t → After f (Some s) (Some t)
 
 data Found {A : Type 0} : Bool → Option (A × List ℕ) → Option (A × List ℕ) → Type 0 where
-  not_found : {f : Bool} → Found f none none
-  found : {f : Bool} {x : A} {s t : List ℕ} → Agree f s t → Found f (some (x, s)) (some (x, t))
+  not_found : {f : Bool} → Found f None None
+  found : {f : Bool} {x : A} {s t : List ℕ} → Agree f s t → Found f (Some (x, s)) (Some (x, t))
 
 some-found : {A : Type 0} {f : Bool} {o q : Option (A × List ℕ)} → Found f o q → is_some o ≡ is_some q
 some-found not_found = refl
@@ -194,18 +194,18 @@ skip_agree w (suc k) a b r = past_agree (λ c. skip_parents w k c) (skip_agree w
 
 -- one byte more before a line's end
 abbrev longer : ℕ → Option (List ℕ × List ℕ) → Option (List ℕ × List ℕ)
-longer x none = none
-longer x (some t) = some (x ∷ t.0, t.1)
+longer x None = None
+longer x (Some t) = Some (x ∷ t.0, t.1)
 
 line-more : (x : ℕ) (s : List ℕ) → eqb x 10 ≡ false → line (x ∷ s) ≡ longer x (line s)
 unfolding line first_of
 line-more x s e = rw e (go (first_of 10 s))
   where
-    go : (o : Option ℕ) → if_some (further o) none (λ k. some (take k (x ∷ s), drop (suc k) (x ∷ s))) ≡ longer x (if_some o none (λ k. some (take k s, drop (suc k) s)))
-    go none = refl
-    go (some k) = refl
+    go : (o : Option ℕ) → if_some (further o) None (λ k. Some (take k (x ∷ s), drop (suc k) (x ∷ s))) ≡ longer x (if_some o None (λ k. Some (take k s, drop (suc k) s)))
+    go None = refl
+    go (Some k) = refl
 
-line-ends : (x : ℕ) (s : List ℕ) → eqb x 10 ≡ true → line (x ∷ s) ≡ some ([], s)
+line-ends : (x : ℕ) (s : List ℕ) → eqb x 10 ≡ true → line (x ∷ s) ≡ Some ([], s)
 unfolding line first_of
 line-ends x s e = rw e
 
@@ -213,7 +213,7 @@ longer_agree : (x : ℕ) {f : Bool} {o q : Option (List ℕ × List ℕ)} → Fo
 longer_agree x not_found = not_found
 longer_agree x (found r) = found r
 
-no_line : line [] ≡ none
+no_line : line [] ≡ None
 unfolding line first_of
 no_line = refl
 
@@ -225,12 +225,12 @@ line_agree (at_byte {x = x} {s = s} {t = t} r) e =
     (λ h. rw (line-ends x s h, line-ends x t h) (found (subst (λ (f : Bool). Agree f s t) h r)))
     (λ h. rw (line-more x s h, line-more x t h) (longer_agree x (line_agree r h)))
 
-text_agree : {o q : Option (List ℕ)} → After false o q → Found true (if_some o none line) (if_some q none line)
+text_agree : {o q : Option (List ℕ)} → After false o q → Found true (if_some o None line) (if_some q None line)
 text_agree no-rest = not_found
 text_agree (rest r) = line_agree r refl
 
 author-kept : {f : Bool} {o q : Option (List ℕ × List ℕ)} → Found f o q
-    → After f (if_some o none (λ t. cond (has_email t.0) (some t.1) none)) (if_some q none (λ t. cond (has_email t.0) (some t.1) none))
+    → After f (if_some o None (λ t. cond (has_email t.0) (Some t.1) None)) (if_some q None (λ t. cond (has_email t.0) (Some t.1) None))
 author-kept not_found = no-rest
 author-kept (found {x = x} r) = by_cases (has_email x) (λ h. rw h (rest r)) (λ h. rw h no-rest)
 
@@ -239,7 +239,7 @@ unfolding author_line word_line
 author_agree r = author-kept (text_agree (word_agree 97 _ refl r))
 
 stamp_kept : {f : Bool} {o q : Option (List ℕ × List ℕ)} → Found f o q
-    → if_some o none (λ t. stamped (line_seconds t.0) (line_zone t.0)) ≡ if_some q none (λ t. stamped (line_seconds t.0) (line_zone t.0))
+    → if_some o None (λ t. stamped (line_seconds t.0) (line_zone t.0)) ≡ if_some q None (λ t. stamped (line_seconds t.0) (line_zone t.0))
 stamp_kept not_found = refl
 stamp_kept (found r) = refl
 

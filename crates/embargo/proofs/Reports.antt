@@ -1,9 +1,11 @@
 -- A report is made of the opening, of the answers, and of what its reader is given of each commit: for an outside reader the readings of commits that
 -- are not embargoed, whose bodies are the same, and for the report by terms the seconds, which stand in the header. So the reports are the same.
 -- Assumes nothing.
+use Rattle.std.specs.Prelude.{None, Option, Result}
+use Rattle.feed.specs.declared.Feed.{Feed}
+use Rattle.walk.specs.declared.Refusal.{Refusal}
 use mathlib.Core.Path.{◌≡◌, refl, sym, ap, ◌∙◌}
 use mathlib.Core.Bool.{Bool, true, false, cond, ◌&&◌}
-use mathlib.Core.Option.{Option}
 use mathlib.Core.List.{List, [], ◌∷◌}
 use Prim.Native.Nat.{ℕ, ◌+◌, ◌%◌}
 use lib.ListN.{length}
@@ -12,14 +14,12 @@ use lib.IntN.{ℤ}
 use Rattle.hash.specs.Bytes.{Id, among, if_some}
 use Rattle.hash.proofs.Tests.{by_cases}
 use Rattle.calendar.specs.Terms.{good_terms}
-use Rattle.feed.specs.declared.FeedOutcome.{FeedOutcome}
 use Rattle.feed.specs.Feed.{feed_of}
 use Rattle.walk.specs.declared.Refusal.TheVariants.{InputTooLarge, PartialId}
 use Rattle.walk.specs.Lookup.{world_of, store_seconds}
 use Rattle.walk.specs.Opening.{Input, width_in, list_ids, list_limit, sizes_ok, whole_ids, room_for, Opening, closed, opened, open_walk}
 use Rattle.walk.specs.Calls.{up_to}
 use Rattle.traverse.specs.Contract.{Lent, lengths_of}
-use Rattle.tally.specs.declared.terms.Spot.TheVariants as spots
 use Rattle.tally.specs.Feeds.{no_reading, feed_at, feed_for, feeds_over}
 use Rattle.tally.specs.Terms.{spot_at, term_of, zeros}
 use Rattle.lister.specs.Walked.{first_refusal}
@@ -80,7 +80,7 @@ module _ (i : Input) (e a b : List ℕ) (d : DifferOnlyInFeed (width_in i) (list
   module _ (terms : List ℕ) where
     term-same : (x : Id) → term_of (width_in i) terms a x ≡ term_of (width_in i) terms b x
     unfolding term_of
-    term-same x = ap (λ (o : Option ℤ). if_some o spots.Outside (λ t. spot_at terms t)) (seconds-same x)
+    term-same x = ap (λ (o : Option ℤ). if_some o None (λ t. spot_at terms t)) (seconds-same x)
 
     count_same : (l : List Id) (k : ℕ) → count_in (width_in i) terms a l k ≡ count_in (width_in i) terms b l k
     unfolding count_in

@@ -1,8 +1,8 @@
 -- Two stores with the same bytes from the start of the entries on have the same entries: each id, each end and the trailer stand there. So both are
 -- good, and an id is found in both under the same number. Assumes nothing.
+use Rattle.std.specs.Prelude.{None, Option, Some}
 use mathlib.Core.Path.{◌≡◌, refl, sym, ap, ◌∙◌, subst}
 use mathlib.Core.Bool.{Bool, true, false, cond, ◌&&◌}
-use mathlib.Core.Option.{Option, none, some}
 use mathlib.Core.List.{List}
 use Prim.Native.Nat.{ℕ, zero, suc, ◌+◌, ◌*◌, ◌-◌, ◌≤◌, ◌<◌}
 use native.Mathlib.Omega.{arith}
@@ -48,7 +48,7 @@ module _ (l m : IdList) (e : (k : ℕ) → id_of l k ≡ id_of m k) where
   find_same : (x : Id) (n : ℕ) → find_in l x n ≡ find_in m x n
   unfolding find_in
   find_same x zero = refl
-  find_same x (suc n) = λ j. if_some (find_same x n j) (cond (eq_id x (e n j)) (some n) none) (λ k. some k)
+  find_same x (suc n) = λ j. if_some (find_same x n j) (cond (eq_id x (e n j)) (Some n) None) (λ k. Some k)
 
 module _ (w : ℕ) (a b : List ℕ) (ok : store_is_ok w a ≡ true) (long : length a ≡ length b) (e : drop (start a) a ≡ drop (start a) b) where
   pub start-same : start a ≡ start b

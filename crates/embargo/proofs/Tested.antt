@@ -1,5 +1,7 @@
 -- A tested opening goes by the headers of what is reached, and they are the same: so are its tests, its answer, and the calls after it.
 -- Assumes nothing.
+use Rattle.std.specs.Prelude.{Err, Ok, Result}
+use Rattle.walk.specs.declared.Refusal.{Refusal}
 use mathlib.Core.Path.{◌≡◌, refl, sym, ap, ◌∙◌}
 use mathlib.Core.Bool.{Bool}
 use mathlib.Core.List.{List, [], ◌++◌}
@@ -8,8 +10,6 @@ use native.Mathlib.Omega.{arith}
 use lib.ListN.{length}
 use Rattle.hash.specs.Bytes.{Id}
 use Rattle.odb.specs.Store.{entries}
-use Rattle.walk.specs.declared.OpenOutcome.{OpenOutcome}
-use Rattle.walk.specs.declared.OpenOutcome.TheVariants.{Accepted, NotOpened}
 use Rattle.walk.specs.Opening.{Input, width_in, list_ids, room_for}
 use Rattle.walk.specs.Universe.{parents_up_to, store_parents}
 use Rattle.walk.specs.Given.{open_given}
@@ -70,9 +70,9 @@ module _ (i : Input) (es : List Id) (a b : List ℕ) (d : DifferOnlyInFeed (widt
       same : q.answer.outcome ≡ o.answer.outcome
       same = sym (ap (λ z. z.outcome) (tested-alike m n e o q m' n' s t))
 
-      go : (z : OpenOutcome) → o.answer.outcome ≡ z → Alike c f
-      go Accepted p = calls-alike i es a b d m n e o q m' n' (as-opened s p) (as-opened t (same ∙ p)) cs ds u v k c f x y
-      go (NotOpened r) p =
+      go : (z : Result (Unit {0}) Refusal) → o.answer.outcome ≡ z → Alike c f
+      go (Ok _) p = calls-alike i es a b d m n e o q m' n' (as-opened s p) (as-opened t (same ∙ p)) cs ds u v k c f x y
+      go (Err r) p =
           shut_alike (calls-shut (files_of (over i a)) o.record m' cs (refused-closed s r p) u k c x)
           (calls-shut (files_of (over i b)) q.record n' ds (refused-closed t r (same ∙ p)) v k f y)
 

@@ -1,8 +1,8 @@
 -- A walk is a function of each id's header and row, of the places and of the opening's refusals, and all of these are the same: so are the opening,
 -- every state and every answer. Assumes nothing.
+use Rattle.std.specs.Prelude.{None, Option, Some}
 use mathlib.Core.Path.{◌≡◌, refl, sym, ap, ◌∙◌}
 use mathlib.Core.Bool.{Bool, true, cond, ◌&&◌}
-use mathlib.Core.Option.{Option, none, some}
 use mathlib.Core.List.{List, []}
 use Prim.Native.Nat.{ℕ, zero, suc, ◌+◌, ◌*◌, ◌/◌}
 use lib.ListN.{length}
@@ -54,8 +54,8 @@ module _ (i : Input) (es : List Id) (a b : List ℕ) (d : DifferOnlyInFeed (widt
 
   or_same : (room : Bool) (o : Option Refusal) → open_or (over i a) room o ≡ open_or (over i b) room o
   unfolding open_or
-  or_same room none = tips-same room
-  or_same room (some r) = refl
+  or_same room None = tips-same room
+  or_same room (Some r) = refl
 
   opening-same : (room : Bool) → open_walk (over i a) room ≡ open_walk (over i b) room
   unfolding open_walk

@@ -1,8 +1,8 @@
 -- What a walk reads of a store is each entry's header, and no message: so over two stores that differ only in feed digits of embargoed commits all
 -- that a walk goes by is the same. Assumes nothing.
+use Rattle.std.specs.Prelude.{None, Option, Some}
 use mathlib.Core.Path.{◌≡◌, refl, sym, ap, ◌∙◌}
 use mathlib.Core.Bool.{Bool, true, false}
-use mathlib.Core.Option.{Option, none, some}
 use mathlib.Core.List.{List}
 use Prim.Native.Nat.{ℕ, ◌-◌, ◌<◌}
 use native.Mathlib.Omega.{arith}
@@ -37,22 +37,22 @@ module _ (w : ℕ) (es : List Id) (a b : List ℕ) (d : DifferOnlyInFeed w es a 
       (λ m. ap (header w) (d.others k h m))
 
   -- and so what a walk reads of an id
-  pub header-found : (x : Id) → if_some (store_find w a x) none (λ c. some (header w c)) ≡ if_some (store_find w b x) none (λ c. some (header w c))
+  pub header-found : (x : Id) → if_some (store_find w a x) None (λ c. Some (header w c)) ≡ if_some (store_find w b x) None (λ c. Some (header w c))
   unfolding store_find
-  header-found x = go (find_entry w a x) refl ∙ ap (λ (o : Option ℕ). if_some (if_some o none (λ k. some (body w b k))) none (λ c. some (header w c))) (found-same w a b d.good d.same_length d.same_entries x)
+  header-found x = go (find_entry w a x) refl ∙ ap (λ (o : Option ℕ). if_some (if_some o None (λ k. Some (body w b k))) None (λ c. Some (header w c))) (found-same w a b d.good d.same_length d.same_entries x)
     where
       go : (o : Option ℕ) → find_entry w a x ≡ o
-          → if_some (if_some o none (λ k. some (body w a k))) none (λ c. some (header w c)) ≡ if_some (if_some o none (λ k. some (body w b k))) none (λ c. some (header w c))
-      go none e = refl
-      go (some k) e = ap some (entry-same k (entry-hit w a x k e).0)
+          → if_some (if_some o None (λ k. Some (body w a k))) None (λ c. Some (header w c)) ≡ if_some (if_some o None (λ k. Some (body w b k))) None (λ c. Some (header w c))
+      go None e = refl
+      go (Some k) e = ap Some (entry-same k (entry-hit w a x k e).0)
 
   -- the body of an id that is not embargoed is the same
   pub other-found : (x : Id) → among x es ≡ false → store_find w a x ≡ store_find w b x
   unfolding store_find
-  other-found x m = go (find_entry w a x) refl ∙ ap (λ (o : Option ℕ). if_some o none (λ k. some (body w b k))) (found-same w a b d.good d.same_length d.same_entries x)
+  other-found x m = go (find_entry w a x) refl ∙ ap (λ (o : Option ℕ). if_some o None (λ k. Some (body w b k))) (found-same w a b d.good d.same_length d.same_entries x)
     where
-      go : (o : Option ℕ) → find_entry w a x ≡ o → if_some o none (λ k. some (body w a k)) ≡ if_some o none (λ k. some (body w b k))
-      go none e = refl
-      go (some k) e =
+      go : (o : Option ℕ) → find_entry w a x ≡ o → if_some o None (λ k. Some (body w a k)) ≡ if_some o None (λ k. Some (body w b k))
+      go None e = refl
+      go (Some k) e =
           let h = entry-hit w a x k e in
-          ap some (d.others k h.0 (ap (λ (y : Id). among y es) h.1 ∙ m))
+          ap Some (d.others k h.0 (ap (λ (y : Id). among y es) h.1 ∙ m))

@@ -1,12 +1,11 @@
 -- Two stores that differ in one feed digit of an embargoed commit: what the shop's reader and an outside reader are given. Assumes nothing.
-use Rattle.std.specs.Prelude.{◌≡◌, ℕ, ◌+◌, List, [], ◌∷◌, ◌++◌, length, pos}
+use Rattle.std.specs.Prelude.{◌≡◌, ℕ, ◌+◌, List, [], ◌∷◌, ◌++◌, length, pos, Ok}
 use Rattle.hash.specs.Bytes.{id_bytes}
 use Rattle.walk.specs.Opening.{Input, list_ids}
 use Rattle.walk.specs.Runs.{id_for, hexes, u32, who, zone, decimal, parents_text, body_of, input, all, newest, id_wide, names_wide}
 use Rattle.walk.specs.Runs as runs
 use Rattle.feed.specs.Feed.{cone_start}
 use Rattle.reports.specs.declared.Reader.TheVariants.{Shop, Outside}
-use Rattle.reports.specs.declared.Reported.TheVariants.{Whole}
 use Rattle.reports.specs.declared.FeedReport.{FeedReport}
 use Rattle.reports.specs.Report.{feed_report}
 use Rattle.embargo.specs.Embargo.{DifferOnlyInFeed}
@@ -34,10 +33,10 @@ fed_input d = input (store_with d) (2 ∷ []) [] [] (all newest)
 
 -- a report with this cone's reading, of one commit, and another without; and one without any
 abbrev pub cone_alone : ℕ → FeedReport
-cone_alone n = record { outcome = Whole; both = 0; cone = 1; bed = 0; neither = 1; cone_sum = n; bed_sum = 0; difference = pos 0 }
+cone_alone n = record { outcome = (Ok tt); both = 0; cone = 1; bed = 0; neither = 1; cone_sum = n; bed_sum = 0; difference = pos 0 }
 
 abbrev pub neither_of : FeedReport
-neither_of = record { outcome = Whole; both = 0; cone = 0; bed = 0; neither = 2; cone_sum = 0; bed_sum = 0; difference = pos 0 }
+neither_of = record { outcome = (Ok tt); both = 0; cone = 0; bed = 0; neither = 2; cone_sum = 0; bed_sum = 0; difference = pos 0 }
 
 -- with the digits 5 and 7, where commit 1 is embargoed
 pub record OneDigit : Type 0 where

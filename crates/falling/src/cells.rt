@@ -58,13 +58,11 @@ pub fn hint_of(line: &[u32], slot: u32) -> usize
 pub fn clear_cells(line: &mut [u32], n: usize)
     ensures { line.new ≡ cleared n line.old }
 {
-    let mut k = 0;
-    while k < line.len() {
+    for k in 0..line.len() {
         if n <= k {
             return;
         }
         line[k] = 0;
-        k += 1;
     }
 }
 
@@ -131,12 +129,10 @@ fn is_low(levels: &[u32], times: &[i64], line: &[u32], slot: u32) -> bool
 pub fn all_low(levels: &[u32], times: &[i64], line: &[u32], from: usize, n: usize) -> bool
     ensures { AllLow line.now levels.now times.now from n result }
 {
-    let mut k = 0;
-    while k < n {
+    for k in 0..n {
         if !is_low(levels, times, line, slot_after(line, from, k)) {
             return false;
         }
-        k += 1;
     }
     true
 }

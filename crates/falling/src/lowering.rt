@@ -65,8 +65,7 @@ fn lower_from(
 )
     ensures { LowersFrom (width_of kind) (slots_in names.now marks.now levels.now times.now) cap child (header (width_of kind) body.now) n line.old line.new }
 {
-    let mut k = 0;
-    while k < n {
+    for k in 0..n {
         let id = reading::body_parent(kind, body, k);
         let hint = as_hint(parents::parent(kind, graph, l, position, k));
         lower_to(
@@ -81,7 +80,6 @@ fn lower_from(
             object::id_slice(kind, &id.bytes),
             hint,
         );
-        k += 1;
     }
 }
 
@@ -99,12 +97,10 @@ fn lower_new(
 )
     ensures { LowersNew (width_of kind) from n c child line.old line.new }
 {
-    let mut k = 0;
-    while k < c {
+    for k in 0..c {
         let hint = as_hint(parents::parent(kind, graph, l, position, k));
         let slot = cells::slot_past(line, from, n, k);
         cells::fill_at(line, slot, child, hint);
-        k += 1;
     }
 }
 

@@ -1,7 +1,7 @@
 -- Laws of the number of a reading: one digit at a place moves the value on by one digit; of 10 digits it stays below 10 ^ 10. Assumes nothing.
+use Rattle.std.specs.Prelude.{None, Option, Some}
 use mathlib.Core.Path.{◌≡◌, refl, sym, ap, ◌∙◌}
 use mathlib.Core.Bool.{true, false}
-use mathlib.Core.Option.{Option, none, some}
 use mathlib.Core.List.{List, [], ◌∷◌}
 use Prim.Native.Nat.{ℕ, suc, ◌+◌, ◌-◌, ◌*◌, ◌≤◌, ◌<◌}
 use native.Mathlib.Numerals.{add-one}
@@ -12,11 +12,10 @@ use borrow.Author.Tests.{le-leb, lt-leb}
 use Rattle.hash.specs.Bytes.{if_some}
 use Rattle.actor.specs.Person.{digit}
 use Rattle.feed.specs.declared.Told.TheVariants.{Millimetres, Unreadable}
-use Rattle.feed.specs.declared.Number.TheVariants.{Good, Bad}
 use Rattle.feed.specs.Feed.{decimal, at_most, millimetres, told_by}
 use Rattle.feed.specs.Passing.{number_read}
 
-front-none : (v x : ℕ) (xs : List ℕ) → digit x ≡ false → decimal v (x ∷ xs) ≡ none
+front-none : (v x : ℕ) (xs : List ℕ) → digit x ≡ false → decimal v (x ∷ xs) ≡ None
 unfolding decimal
 front-none v x xs e = rw e
 
@@ -26,24 +25,24 @@ front-digit v x xs e = rw e
 
 -- at place i of b
 module _ (v i : ℕ) (b : List ℕ) (h : i < length b) where
-  pub at_none : digit (get_or b i 0) ≡ false → decimal v (drop i b) ≡ none
+  pub at_none : digit (get_or b i 0) ≡ false → decimal v (drop i b) ≡ None
   at_none e = ap (decimal v) (drop-cons b i 0 h) ∙ front-none v (get_or b i 0) (drop (suc i) b) e
 
   pub at-digit : digit (get_or b i 0) ≡ true → decimal v (drop i b) ≡ decimal (v * 10 + (get_or b i 0 - 48)) (drop (i + 1) b)
   at-digit e = rw add-one (ap (decimal v) (drop-cons b i 0 h) ∙ front-digit v (get_or b i 0) (drop (suc i) b) e)
 
-pub at-end : (v i : ℕ) (b : List ℕ) → length b ≤ i → decimal v (drop i b) ≡ some v
+pub at-end : (v i : ℕ) (b : List ℕ) → length b ≤ i → decimal v (drop i b) ≡ Some v
 unfolding decimal
 at-end v i b h = rw (drop_of_length-le b h)
 
 -- the answer tells the number
-pub number-good : (o : Option ℕ) (v : ℕ) → number_read o ≡ Good v → o ≡ some v
-number-good none v e = let z : ◌≡◌ {A = ℕ} 0 1 = cc in absurd (omega arith)
-number-good (some u) v e = cc
+pub number-good : (o : Option ℕ) (v : ℕ) → number_read o ≡ Some v → o ≡ Some v
+number-good None v e = let z : ◌≡◌ {A = ℕ} 0 1 = cc in absurd (omega arith)
+number-good (Some u) v e = cc
 
-pub number-bad : (o : Option ℕ) → number_read o ≡ Bad → o ≡ none
-number-bad none e = refl
-number-bad (some u) e = let z : ◌≡◌ {A = ℕ} 0 1 = cc in absurd (omega arith)
+pub number-bad : (o : Option ℕ) → number_read o ≡ None → o ≡ None
+number-bad None e = refl
+number-bad (Some u) e = let z : ◌≡◌ {A = ℕ} 0 1 = cc in absurd (omega arith)
 
 -- the bound
 pub above_most : (v : ℕ) → 1000000000 < v → Unreadable ≡ told_by (at_most v)
@@ -65,12 +64,12 @@ pub some-digits : (t : List ℕ) → (length t ≡ 0 → ⊥) → 1 ≤ length t
 some-digits [] h = absurd (h refl)
 some-digits (x ∷ xs) h = omega arith
 
-pub few-digits : (t : List ℕ) → 1 ≤ length t → length t ≤ 10 → millimetres t ≡ if_some (decimal 0 t) none (λ v. at_most v)
+pub few-digits : (t : List ℕ) → 1 ≤ length t → length t ≤ 10 → millimetres t ≡ if_some (decimal 0 t) None (λ v. at_most v)
 unfolding millimetres
 few-digits t h k = rw (le-leb 1 (length t) h, le-leb (length t) 10 k)
 
-pub few-bad : (t : List ℕ) → 1 ≤ length t → length t ≤ 10 → decimal 0 t ≡ none → Unreadable ≡ told_by (millimetres t)
-few-bad t h k e = sym (ap told_by (few-digits t h k ∙ ap (λ (o : Option ℕ). if_some o none (λ v. at_most v)) e))
+pub few-bad : (t : List ℕ) → 1 ≤ length t → length t ≤ 10 → decimal 0 t ≡ None → Unreadable ≡ told_by (millimetres t)
+few-bad t h k e = sym (ap told_by (few-digits t h k ∙ ap (λ (o : Option ℕ). if_some o None (λ v. at_most v)) e))
 
-pub few-good : (t : List ℕ) (v : ℕ) → 1 ≤ length t → length t ≤ 10 → decimal 0 t ≡ some v → told_by (at_most v) ≡ told_by (millimetres t)
-few-good t v h k e = sym (ap told_by (few-digits t h k ∙ ap (λ (o : Option ℕ). if_some o none (λ u. at_most u)) e))
+pub few-good : (t : List ℕ) (v : ℕ) → 1 ≤ length t → length t ≤ 10 → decimal 0 t ≡ Some v → told_by (at_most v) ≡ told_by (millimetres t)
+few-good t v h k e = sym (ap told_by (few-digits t h k ∙ ap (λ (o : Option ℕ). if_some o None (λ u. at_most u)) e))

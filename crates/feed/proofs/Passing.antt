@@ -1,17 +1,18 @@
 -- Passing the lines one by one tells what the lines with each start tell together: a second line with a start makes the reading given twice, and
 -- no further line takes that back. Assumes nothing.
+use Rattle.std.specs.Prelude.{Err, None, Ok, Option, Result, Some}
 use mathlib.Core.Path.{◌≡◌, refl, ap, ◌∙◌}
 use mathlib.Core.Bool.{Bool, true, false, ◌||◌}
-use mathlib.Core.Option.{Option, none, some}
 use mathlib.Core.List.{List, [], ◌∷◌}
 use Prim.Native.Nat.{ℕ}
 use Rattle.hash.specs.Bytes.{if_some, pick}
 use Rattle.object.specs.Header.{strip}
+use Rattle.walk.specs.declared.Refusal.{Refusal}
 use Rattle.walk.specs.declared.Refusal.TheVariants.{ReadingTwice, ReadingUnreadable}
+use Rattle.feed.specs.declared.Feed.{Feed}
 use Rattle.feed.specs.declared.Told.{Told}
 use Rattle.feed.specs.declared.Told.TheVariants.{Nothing, Twice}
 use Rattle.feed.specs.declared.Lines.{Lines}
-use Rattle.feed.specs.declared.FeedOutcome.TheVariants.{Read, Faulty}
 use Rattle.feed.specs.Feed.{cone_start, bed_start, millimetres, told_by, told, starting_so, twice, unreadable, reading_in, judged, lines_of, message_of, feed_in, feed_of}
 use Rattle.feed.specs.Passing.{another, with_line, pass_line, pass_lines, nothing_yet}
 
@@ -32,8 +33,8 @@ joined-told (t ∷ []) = refl
 joined-told (t ∷ u ∷ us) = go (millimetres t)
   where
     go : (o : Option ℕ) → joined (another (told_by o) u) us ≡ Twice
-    go none = stays_twice us
-    go (some v) = stays_twice us
+    go None = stays_twice us
+    go (Some v) = stays_twice us
 
 -- a line that has the start joins those that had it
 one_more : (t : Told) (start l : List ℕ) (ls : List (List ℕ)) → joined (with_line t start l) (starting_so start ls) ≡ joined t (starting_so start (l ∷ ls))
@@ -41,8 +42,8 @@ unfolding joined with_line starting_so
 one_more t start l ls = go (strip start l)
   where
     go : (o : Option (List ℕ)) → joined (if_some o t (λ x. another t x)) (starting_so start ls) ≡ joined t (if_some o (starting_so start ls) (λ x. x ∷ starting_so start ls))
-    go none = refl
-    go (some x) = refl
+    go None = refl
+    go (Some x) = refl
 
 pass-joined : (s : Lines) (ls : List (List ℕ)) → pass_lines s ls ≡ record { cone = joined s.cone (starting_so cone_start ls); bed = joined s.bed (starting_so bed_start ls) }
 unfolding joined starting_so pass_line pass_lines
@@ -63,26 +64,26 @@ judged_feed b m s e f = ap (λ (t : Lines). judged t.cone t.bed) (f ∙ all-pass
 
 -- ---- the judgement, test by test
 module _ (c b : Told) where
-  pub cone-twice : twice c ≡ true → Faulty ReadingTwice ≡ judged c b
+  pub cone-twice : twice c ≡ true → Err ReadingTwice ≡ judged c b
   unfolding judged
   cone-twice e = rw e
 
-  pub bed-twice : twice b ≡ true → Faulty ReadingTwice ≡ judged c b
+  pub bed-twice : twice b ≡ true → Err ReadingTwice ≡ judged c b
   unfolding judged
   bed-twice e = rw e (go (twice c))
     where
-      go : (t : Bool) → Faulty ReadingTwice ≡ pick (t || true) (Faulty ReadingTwice) (pick (unreadable c || unreadable b) (Faulty ReadingUnreadable) (Read (record { cone = reading_in c; bed = reading_in b })))
+      go : (t : Bool) → ◌≡◌ {A = Result Feed Refusal} (Err ReadingTwice) (pick (t || true) (Err ReadingTwice) (pick (unreadable c || unreadable b) (Err ReadingUnreadable) (Ok (record { cone = reading_in c; bed = reading_in b }))))
       go true = refl
       go false = refl
 
-  pub cone-unreadable : twice c ≡ false → twice b ≡ false → unreadable c ≡ true → Faulty ReadingUnreadable ≡ judged c b
+  pub cone-unreadable : twice c ≡ false → twice b ≡ false → unreadable c ≡ true → Err ReadingUnreadable ≡ judged c b
   unfolding judged
   cone-unreadable e f g = rw (e, f, g)
 
-  pub bed-unreadable : twice c ≡ false → twice b ≡ false → unreadable c ≡ false → unreadable b ≡ true → Faulty ReadingUnreadable ≡ judged c b
+  pub bed-unreadable : twice c ≡ false → twice b ≡ false → unreadable c ≡ false → unreadable b ≡ true → Err ReadingUnreadable ≡ judged c b
   unfolding judged
   bed-unreadable e f g h = rw (e, f, g, h)
 
-  pub both_read : twice c ≡ false → twice b ≡ false → unreadable c ≡ false → unreadable b ≡ false → Read (record { cone = reading_in c; bed = reading_in b }) ≡ judged c b
+  pub both_read : twice c ≡ false → twice b ≡ false → unreadable c ≡ false → unreadable b ≡ false → Ok (record { cone = reading_in c; bed = reading_in b }) ≡ judged c b
   unfolding judged
   both_read e f g h = rw (e, f, g, h)

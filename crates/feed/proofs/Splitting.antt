@@ -1,7 +1,7 @@
 -- Laws of lines: the first ends at the first newline, or is all there is; so lines can be passed one by one. Assumes nothing.
+use Rattle.std.specs.Prelude.{None, Option, Some}
 use mathlib.Core.Path.{◌≡◌, refl, sym, ap, ◌∙◌}
 use mathlib.Core.Bool.{true, false}
-use mathlib.Core.Option.{Option, none, some}
 use mathlib.Core.List.{List, [], ◌∷◌}
 use Prim.Native.Nat.{ℕ, suc, ◌+◌, ◌≤◌}
 use native.Mathlib.Omega.{arith}
@@ -21,8 +21,8 @@ use Rattle.feed.specs.Passing.{line_length, another, with_line, pass_line, pass_
 
 -- the lines, by the place of the first newline
 abbrev cut_at : List ℕ → Option ℕ → List (List ℕ)
-cut_at b none = b ∷ []
-cut_at b (some k) = take k b ∷ lines_of (drop (suc k) b)
+cut_at b None = b ∷ []
+cut_at b (Some k) = take k b ∷ lines_of (drop (suc k) b)
 
 cuts : (b : List ℕ) → lines_of b ≡ cut_at b (first_of 10 b)
 unfolding lines_of first_of
@@ -30,8 +30,8 @@ cuts [] = refl
 cuts (x ∷ xs) = by_cases (eqb x 10) (λ h. rw h) (λ h. rw h (ap (longer x) (cuts xs) ∙ go (first_of 10 xs)))
   where
     go : (o : Option ℕ) → longer x (cut_at xs o) ≡ cut_at (x ∷ xs) (further o)
-    go none = refl
-    go (some k) = refl
+    go None = refl
+    go (Some k) = refl
 
 -- an empty line starts in no way
 pub empty-line : (s : Lines) → pass_line s [] ≡ s
@@ -48,16 +48,16 @@ unfolding with_line
 no_start t start l e = go (strip start l) e
   where
     go : (o : Option (List ℕ)) → is_some o ≡ false → t ≡ if_some o t (λ x. another t x)
-    go none e = refl
-    go (some x) e = clash refl e
+    go None e = refl
+    go (Some x) e = clash refl e
 
 pub has-start : (t : Told) (start l : List ℕ) → is_some (strip start l) ≡ true → another t (drop (length start) l) ≡ with_line t start l
 unfolding with_line
 has-start t start l e = go (strip start l) e (strip-rest start l)
   where
-    go : (o : Option (List ℕ)) → is_some o ≡ true → ((r : List ℕ) → o ≡ some r → r ≡ drop (length start) l) → another t (drop (length start) l) ≡ if_some o t (λ x. another t x)
-    go none e f = clash e refl
-    go (some x) e f = sym (ap (another t) (f x refl))
+    go : (o : Option (List ℕ)) → is_some o ≡ true → ((r : List ℕ) → o ≡ Some r → r ≡ drop (length start) l) → another t (drop (length start) l) ≡ if_some o t (λ x. another t x)
+    go None e f = clash e refl
+    go (Some x) e f = sym (ap (another t) (f x refl))
 
 -- the first n bytes of a rest
 pub front-part : (r b : List ℕ) (p n : ℕ) → r ≡ drop p b → at r 0 n ≡ take n (drop p b)
@@ -70,14 +70,14 @@ unfolding line_length
 length_within b = go (first_of 10 b) refl
   where
     go : (o : Option ℕ) → first_of 10 b ≡ o → if_some o (length b) (λ k. k) ≤ length b
-    go none e = omega arith
-    go (some k) e = omega (arith, first_below 10 b k e)
+    go None e = omega arith
+    go (Some k) e = omega (arith, first_below 10 b k e)
 
-pub length_first : (b : List ℕ) (n : ℕ) → first_of 10 b ≡ some n → n ≡ line_length b
+pub length_first : (b : List ℕ) (n : ℕ) → first_of 10 b ≡ Some n → n ≡ line_length b
 unfolding line_length
 length_first b n e = rw e
 
-pub length_all : (b : List ℕ) (n : ℕ) → first_of 10 b ≡ none → n ≡ length b → n ≡ line_length b
+pub length_all : (b : List ℕ) (n : ℕ) → first_of 10 b ≡ None → n ≡ length b → n ≡ line_length b
 unfolding line_length
 length_all b n e h = rw e h
 
@@ -87,10 +87,10 @@ unfolding line_length pass_lines
 one-passed s b = ap (pass_lines s) (cuts b) ∙ go (first_of 10 b)
   where
     go : (o : Option ℕ) → pass_lines s (cut_at b o) ≡ pass_lines (pass_line s (take (if_some o (length b) (λ k. k)) b)) (lines_of (drop (suc (if_some o (length b) (λ k. k))) b))
-    go none =
+    go None =
         ap (pass_line s) (sym (take_all (length b) b (omega arith)))
         ∙ sym (no_bytes (pass_line s (take (length b) b)) (drop (suc (length b)) b) (drop_of_length-le b {i = suc (length b)} (omega arith)))
-    go (some k) = refl
+    go (Some k) = refl
 
 -- the same from place p of b on, with the line's length n
 pub passed-at : (s : Lines) (b : List ℕ) (p n : ℕ) → n ≡ line_length (drop p b) → pass_lines s (lines_of (drop p b)) ≡ pass_lines (pass_line s (take n (drop p b))) (lines_of (drop (p + n + 1) b))

@@ -1,14 +1,11 @@
 -- The two readings in a commit's message (document 02, card 5, "Feed report"). Assumes nothing.
-use Rattle.std.specs.Prelude.{ℕ, ◌+◌, ◌*◌, ◌-◌, Bool, true, false, cond, ◌&&◌, ◌||◌, List, [], ◌∷◌, length, eqb, leb}
-use Rattle.std.proofs.Math.Option.{Option, none, some}
+use Rattle.std.specs.Prelude.{ℕ, ◌+◌, ◌*◌, ◌-◌, Bool, true, false, cond, ◌&&◌, ◌||◌, List, [], ◌∷◌, length, eqb, leb, Err, None, Ok, Option, Result, Some}
+use Rattle.feed.specs.declared.Feed.{Feed}
+use Rattle.walk.specs.declared.Refusal.{Refusal}
 use Rattle.hash.specs.Bytes.{if_some, pick}
 use Rattle.object.specs.Header.{strip}
 use Rattle.actor.specs.Person.{digit}
 use Rattle.walk.specs.declared.Refusal.TheVariants.{ReadingTwice, ReadingUnreadable}
-use Rattle.feed.specs.declared.Reading.{Reading}
-use Rattle.feed.specs.declared.Reading.TheVariants.{Absent, Given}
-use Rattle.feed.specs.declared.FeedOutcome.{FeedOutcome}
-use Rattle.feed.specs.declared.FeedOutcome.TheVariants.{Read, Faulty}
 use Rattle.feed.specs.declared.Told.{Told}
 use Rattle.feed.specs.declared.Told.TheVariants.{Nothing, Millimetres, Unreadable, Twice}
 
@@ -21,19 +18,19 @@ bed_start = 66 ∷ 101 ∷ 100 ∷ 45 ∷ 102 ∷ 101 ∷ 101 ∷ 100 ∷ 58 ∷
 
 -- "1 to 10 decimal digits, millimetres, at most 1,000,000,000": all bytes up to the line's end; v is the value of those before
 unfoldable pub decimal : ℕ → List ℕ → Option ℕ
-decimal v [] = some v
-decimal v (x ∷ xs) = let r = decimal (v * 10 + (x - 48)) xs in cond (digit x) r none
+decimal v [] = Some v
+decimal v (x ∷ xs) = let r = decimal (v * 10 + (x - 48)) xs in cond (digit x) r None
 
 abbrev pub most_millimetres : ℕ
 most_millimetres = 1000000000
 
 abbrev pub at_most : ℕ → Option ℕ
-at_most v = cond (leb v most_millimetres) (some v) none
+at_most v = cond (leb v most_millimetres) (Some v) None
 
 unfoldable pub millimetres : List ℕ → Option ℕ
 millimetres t =
-    let read : Option ℕ = if_some (decimal 0 t) none (λ v. at_most v) in
-    cond (leb 1 (length t) && leb (length t) 10) read none
+    let read : Option ℕ = if_some (decimal 0 t) None (λ v. at_most v) in
+    cond (leb 1 (length t) && leb (length t) 10) read None
 
 -- "the message is what follows the first empty line": the first newline that is the first byte of its line, which the flag says this byte is
 unfoldable pub message_from : Bool → List ℕ → List ℕ
@@ -60,8 +57,8 @@ starting_so start (l ∷ ls) = let r = starting_so start ls in if_some (strip st
 
 -- "one that starts so and goes on otherwise is unreadable"
 abbrev pub told_by : Option ℕ → Told
-told_by none = Unreadable
-told_by (some v) = Millimetres v
+told_by None = Unreadable
+told_by (Some v) = Millimetres v
 
 -- "two lines with the same start, readable or not"
 abbrev pub told : List (List ℕ) → Told
@@ -82,22 +79,22 @@ unreadable (Millimetres n) = false
 unreadable Unreadable = true
 unreadable Twice = false
 
-abbrev pub reading_in : Told → Reading
-reading_in Nothing = Absent
-reading_in (Millimetres n) = Given n
-reading_in Unreadable = Absent
-reading_in Twice = Absent
+abbrev pub reading_in : Told → Option ℕ
+reading_in Nothing = None
+reading_in (Millimetres n) = Some n
+reading_in Unreadable = None
+reading_in Twice = None
 
-unfoldable pub judged : Told → Told → FeedOutcome
+unfoldable pub judged : Told → Told → Result Feed Refusal
 judged c b =
-    pick (twice c || twice b) (Faulty ReadingTwice)
-    (pick (unreadable c || unreadable b) (Faulty ReadingUnreadable) (Read (record { cone = reading_in c; bed = reading_in b })))
+    pick (twice c || twice b) (Err ReadingTwice)
+    (pick (unreadable c || unreadable b) (Err ReadingUnreadable) (Ok (record { cone = reading_in c; bed = reading_in b })))
 
 -- the readings of a commit's message, over its lines; and of its body
-unfoldable pub feed_in : List (List ℕ) → FeedOutcome
+unfoldable pub feed_in : List (List ℕ) → Result Feed Refusal
 feed_in ls = judged (told (starting_so cone_start ls)) (told (starting_so bed_start ls))
 
-unfoldable pub feed_of : List ℕ → FeedOutcome
+unfoldable pub feed_of : List ℕ → Result Feed Refusal
 feed_of b = feed_in (lines_of (message_of b))
 
 -- opens every definition of this file, for theorems that compute

@@ -1,20 +1,17 @@
 -- What the functions of this crate answer, which pass the lines of a message one by one. Assumes nothing.
-use Rattle.std.specs.Prelude.{ℕ, List, [], ◌∷◌, length}
-use Rattle.std.proofs.Math.Option.{Option, none, some}
+use Rattle.std.specs.Prelude.{ℕ, List, [], ◌∷◌, length, None, Option, Some}
 use Rattle.hash.specs.Bytes.{if_some}
 use Rattle.object.specs.Header.{strip}
 use Rattle.actor.specs.Person.{first_of}
 use Rattle.feed.specs.declared.Told.{Told}
 use Rattle.feed.specs.declared.Told.TheVariants.{Nothing, Millimetres, Unreadable, Twice}
 use Rattle.feed.specs.declared.Lines.{Lines}
-use Rattle.feed.specs.declared.Number.{Number}
-use Rattle.feed.specs.declared.Number.TheVariants.{Good, Bad}
 use Rattle.feed.specs.Feed.{cone_start, bed_start, millimetres, told_by}
 
 -- a number that was read
-abbrev pub number_read : Option ℕ → Number
-number_read none = Bad
-number_read (some v) = Good v
+abbrev pub number_read : Option ℕ → Option ℕ
+number_read None = None
+number_read (Some v) = Some v
 
 -- the length of the line in front
 unfoldable pub line_length : List ℕ → ℕ

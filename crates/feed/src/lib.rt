@@ -10,25 +10,11 @@ ghost use Rattle.feed.specs.Passing.{number_read, line_length, another, with_lin
 use hash::part;
 use walk::Refusal;
 
-// One of a commit's two readings.
-#[derive(Clone, Copy)]
-pub enum Reading {
-    Absent,
-    Given(u64),
-}
-
 // Both of them.
 #[derive(Clone, Copy)]
 pub struct Feed {
-    pub cone: Reading,
-    pub bed: Reading,
-}
-
-// A commit's readings, or the first fault in them.
-#[derive(Clone, Copy)]
-pub enum FeedOutcome {
-    Read(Feed),
-    Faulty(Refusal),
+    pub cone: Option<u64>,
+    pub bed: Option<u64>,
 }
 
 // What the lines with one start tell: there is none, one is read, one can't be read, there are more.
@@ -45,13 +31,6 @@ enum Told {
 struct Lines {
     cone: Told,
     bed: Told,
-}
-
-// A number that was read.
-#[derive(Clone, Copy)]
-enum Number {
-    Good(u64),
-    Bad,
 }
 
 // The most digits of a reading, and the most millimetres.
@@ -106,21 +85,19 @@ fn digit_value(x: u8) -> u64
 }
 
 // The value of decimal digits, few enough for 64 bits.
-fn digits_value(b: &[u8]) -> Number
+fn digits_value(b: &[u8]) -> Option<u64>
     requires { length b.now ≤ 10 }
     ensures { result ≡ number_read (decimal 0 b.now) }
 {
     let mut value: u64 = 0;
-    let mut i = 0;
-    while i < b.len() {
+    for i in 0..b.len() {
         let x = b[i];
         if !is_digit(x) {
-            return Number::Bad;
+            return None;
         }
         value = value * 10 + digit_value(x);
-        i += 1;
     }
-    Number::Good(value)
+    Some(value)
 }
 
 // A value of at most 1,000,000,000.
@@ -144,8 +121,8 @@ fn told_by(text: &[u8]) -> Told
         return Told::Unreadable;
     }
     match digits_value(text) {
-        Number::Bad => Told::Unreadable,
-        Number::Good(value) => bounded(value),
+        None => Told::Unreadable,
+        Some(value) => bounded(value),
     }
 }
 
@@ -223,41 +200,41 @@ fn is_unreadable(told: Told) -> bool
     }
 }
 
-fn reading_in(told: Told) -> Reading
+fn reading_in(told: Told) -> Option<u64>
     ensures { result ≡ reading_in told }
 {
     match told {
-        Told::Nothing => Reading::Absent,
-        Told::Millimetres(n) => Reading::Given(n),
-        Told::Unreadable => Reading::Absent,
-        Told::Twice => Reading::Absent,
+        Told::Nothing => None,
+        Told::Millimetres(n) => Some(n),
+        Told::Unreadable => None,
+        Told::Twice => None,
     }
 }
 
 // What both starts tell together: given twice goes before unreadable.
-fn judge(cone: Told, bed: Told) -> FeedOutcome
+fn judge(cone: Told, bed: Told) -> Result<Feed, Refusal>
     ensures { result ≡ judged cone bed }
 {
     if is_twice(cone) {
-        return FeedOutcome::Faulty(Refusal::ReadingTwice);
+        return Err(Refusal::ReadingTwice);
     }
     if is_twice(bed) {
-        return FeedOutcome::Faulty(Refusal::ReadingTwice);
+        return Err(Refusal::ReadingTwice);
     }
     if is_unreadable(cone) {
-        return FeedOutcome::Faulty(Refusal::ReadingUnreadable);
+        return Err(Refusal::ReadingUnreadable);
     }
     if is_unreadable(bed) {
-        return FeedOutcome::Faulty(Refusal::ReadingUnreadable);
+        return Err(Refusal::ReadingUnreadable);
     }
-    FeedOutcome::Read(Feed {
+    Ok(Feed {
         cone: reading_in(cone),
         bed: reading_in(bed),
     })
 }
 
 // The two readings of a commit.
-pub fn read(body: &[u8]) -> FeedOutcome
+pub fn read(body: &[u8]) -> Result<Feed, Refusal>
     ensures { result ≡ feed_of body.now }
 {
     let lines = pass_lines(body, message_at(body));

@@ -23,7 +23,6 @@ use Rattle.hashtable.proofs.TableRoom.{within, room}
 use Rattle.revwalk.specs.Order.{seconds_of, insert_by, In}
 use Rattle.pending.specs.Pending.{level_of, pair_at, ahead, slots_in, Room, Entered}
 use Rattle.pending.specs.declared.Pending.{Pending}
-use Rattle.pending.specs.declared.Pushed.{Pushed}
 use Rattle.pending.proofs.Laws.{few-room, map_agree, insert-map, pushed-all, slots_frame}
 use Rattle.walk.specs.Lookup.{World, Pair, lt_pair, fail, good, read}
 use Rattle.walk.specs.Painting.{Paint, stop, going, add_pending, also, mark, mark_read}
@@ -235,8 +234,8 @@ module _ {width : ℕ} {w : World} {cap : ℕ} {u : List Id} {names marks levels
       still-wait : slots_in levels' times' p line ≡ slots_in levels times p line
       still-wait = slots_frame levels levels' times times' p line (λ s i. let o = h.reads.queued s i in (level-same g q s o.1, time-same g q s o.1))
 
-      module _ {line' : List ℕ} {d : Pushed} (e : Entered levels' times' k p line d line') where
-        queue-now : add_pending (pair_at levels' times' k) x st.pending ≡ map (entry_at width names' levels' times') (slots_in levels' times' d.pending line')
+      module _ {line' : List ℕ} {d : Pending} (e : Entered levels' times' k p line d line') where
+        queue-now : add_pending (pair_at levels' times' k) x st.pending ≡ map (entry_at width names' levels' times') (slots_in levels' times' d line')
         queue-now =
             ap (add_pending (pair_at levels' times' k) x) h.reads.queue
             ∙ ap (λ (y : Id). add_pending (pair_at levels' times' k) y (map (entry_at width names levels times) (slots_in levels times p line))) (sym g.holds.is)
@@ -247,7 +246,7 @@ module _ {width : ℕ} {w : World} {cap : ℕ} {u : List Id} {names marks levels
             ∙ ap (λ (l : List ℕ). map (entry_at width names' levels' times') (insert_by (ahead levels' times') k l)) (sym still-wait)
             ∙ ap (map (entry_at width names' levels' times')) (sym e.slots)
 
-        marked-reads : PaintReads width w cap (lent names' marks' levels' times' line') d.pending (marked st x bits (pair_at levels' times' k))
+        marked-reads : PaintReads width w cap (lent names' marks' levels' times' line') d (marked st x bits (pair_at levels' times' k))
         marked-reads = record {
           table = g.table;
           for_levels = levels-long g q h.reads.for_levels;
@@ -267,7 +266,7 @@ module _ {width : ℕ} {w : World} {cap : ℕ} {u : List Id} {names marks levels
 
         -- painting goes on
         pub goes-here : take p.base line' ≡ take p.base line
-            → Goes width w cap u p (lent names marks levels times line) (lent names' marks' levels' times' line') d.pending (mark w (marks_of bits) x st)
+            → Goes width w cap u p (lent names marks levels times line) (lent names' marks' levels' times' line') d (mark w (marks_of bits) x st)
         goes-here below = record {
           state = marked st x bits (pair_at levels' times' k);
           is = is-marked;

@@ -1,5 +1,7 @@
 -- All of painting: marks without painting's, the waiting commits by rising id, VISIBLE to these, HIDDEN to the hidden tips, and the turns;
 -- each part goes on where the one before it came to, and a refusal ends them all. Assumes nothing.
+use Rattle.std.specs.Prelude.{Option, Ok, Err}
+use Rattle.commitgraph.specs.declared.Layout.{Layout}
 use mathlib.Core.Path.{◌≡◌, refl, sym, ◌∙◌, ap, subst}
 use Prim.Native.Nat.{ℕ, ◌+◌, ◌*◌, ◌≤◌, ◌<◌}
 use mathlib.Core.Bool.{true, false, ◌||◌}
@@ -10,7 +12,6 @@ use lib.ListN.{length, take, get_or}
 use lib.Seq.{take-take}
 use Rattle.hash.specs.Bytes.{Id}
 use Rattle.hash.proofs.Tests.{clash, or_left, or_right, not_yes}
-use Rattle.commit.specs.declared.Cache.{Cache}
 use Rattle.hashtable.specs.Marks.{visible, hidden, stale, seen}
 use Rattle.hashtable.specs.Table.{mark_for}
 use Rattle.hashtable.proofs.MarksBits.{seen-live}
@@ -25,12 +26,12 @@ use Rattle.walk.specs.Lookup.{World}
 use Rattle.walk.specs.Painting.{Paint, Painting, going, then, VISIBLE, HIDDEN, Marks, mark_all, turns, unpainted, sorted, paint}
 use Rattle.walk.proofs.Painted.{sorted-out}
 use Rattle.reading.specs.Files.{world_under}
-use Rattle.frontier.specs.declared.marking.Marked.{Marked}
-use Rattle.frontier.specs.declared.marking.Marked.TheVariants.{Going, Stop, NoRoom}
+use Rattle.frontier.specs.declared.marking.MarkError.{MarkError}
+use Rattle.frontier.specs.declared.marking.MarkError.TheVariants.{Stop, NoRoom}
 use Rattle.frontier.specs.Bits.{is_painted, marks_of}
-use Rattle.frontier.specs.Paint.{Lent, lent, Files, entry_at, PaintReads, Spares, Named, Goes, Stops, Ends}
-use Rattle.frontier.specs.Lists.{MarksRun, AllTakenAfter, TakesAllAfter}
-use Rattle.frontier.specs.Turns.{TurnsTakenAfter, TakesTurnsAfter}
+use Rattle.frontier.specs.Paint.{Marked, Lent, lent, Files, entry_at, PaintReads, Spares, Named, Goes, Stops, Ends}
+use Rattle.frontier.specs.Lists.{MarksRun, TakesAll}
+use Rattle.frontier.specs.Turns.{TakesTurns}
 use Rattle.frontier.specs.Prepare.{washed, Collects}
 use Rattle.frontier.specs.Painted.{lowered_to, empty_in, start_of, waiting_ids, MayPaint, Paints, MayStart, inputs_marked, MarksInputs, PaintsFrom}
 use Rattle.frontier.proofs.Steps.{ends-then, then_is, then-stop}
@@ -85,11 +86,11 @@ spares_less {width} {m = m} {m' = m'} base low h k = record {
 abbrev pub run_of : ℕ → ℕ → Pending
 run_of cap n = empty_in (2 * cap + n) (5 * cap)
 
-module _ (width : ℕ) (c : Cache) (g s : List ℕ) (cap : ℕ) (m : Lent) (n : ℕ) (hide : List Id) (f : Files width c g s) (u waiting : List Id) (h : MayStart width (world_under width c g s) cap u m n waiting hide) where
+module _ (width : ℕ) (c : Option Layout) (g s : List ℕ) (cap : ℕ) (m : Lent) (n : ℕ) (hide : List Id) (f : Files width c g s) (u waiting : List Id) (h : MayStart width (world_under width c g s) cap u m n waiting hide) where
   abbrev w : World
   w = world_under width c g s
 
-  module _ (m₁ m₂ : Lent) (r₁ r₂ : Marked) (large : 5 * cap ≤ length m.line) (few : n ≤ cap) where
+  module _ (m₁ : Lent) (r₁ : Marked) (large : 5 * cap ≤ length m.line) (few : n ≤ cap) where
     -- the waiting commits get VISIBLE
     shown : MarksRun width c g s cap m m₁ (run_of cap n) (2 * cap) n 1 r₁ → Ends width w cap u (run_of cap n) m m₁ r₁ (mark_all w VISIBLE (sorted waiting) unpainted)
     shown o =
@@ -106,11 +107,11 @@ module _ (width : ℕ) (c : Cache) (g s : List ℕ) (cap : ℕ) (m : Lent) (n : 
               omega (arith, shown-room h.ample i (marks_of 1) st (ap (λ (xs : List Id). mark_all w (marks_of 1) (take i xs) unpainted) (sym h.ids) ∙ e), h.ample.short);
         })))
 
+  module _ (m₁ m₂ : Lent) (r₂ : Marked) (p : Pending) (gone : Goes width w cap u (run_of cap n) m m₁ p (mark_all w VISIBLE (sorted waiting) unpainted)) where
     -- the hidden tips get HIDDEN
-    hiding : (r : Marked) → Ends width w cap u (run_of cap n) m m₁ r (mark_all w VISIBLE (sorted waiting) unpainted) → AllTakenAfter width mark_all c g s cap m₁ m₂ (lowered_to (2 * cap) r) hide 2 r₂
-        → Ends width w cap u (start_of cap) m m₂ r₂ (inputs_marked w waiting hide)
-    hiding (Going p) gone o =
-        let low : Goes width w cap u (start_of cap) m m₁ (record { base = 2 * cap; low = p.low; high = p.high; start = p.start; end = p.end }) (mark_all w VISIBLE (sorted waiting) unpainted) =
+    hiding : TakesAll width mark_all c g s cap m₁ m₂ (lowered_to (2 * cap) p) hide 2 r₂ → Ends width w cap u (start_of cap) m m₂ r₂ (inputs_marked w waiting hide)
+    hiding o =
+        let low : Goes width w cap u (start_of cap) m m₁ (lowered_to (2 * cap) p) (mark_all w VISIBLE (sorted waiting) unpainted) =
         record {
           state = gone.state;
           is = gone.is;
@@ -131,56 +132,65 @@ module _ (width : ℕ) (c : Cache) (g s : List ℕ) (cap : ℕ) (m : Lent) (n : 
           some-mark = hidden-some;
           room = λ i st e. omega (arith, hidden-room h.ample VISIBLE gone.is i (marks_of 2) st e, gone.end);
         }))
-    hiding (Stop k) gone o =
-        subst (λ (a : Marked). Ends width w cap u (start_of cap) m m₂ a (inputs_marked w waiting hide)) (sym o.1)
-        (subst (λ (b : Lent). Stops width cap (start_of cap) m b k (inputs_marked w waiting hide)) (sym o.0)
-        (record {
-          is = ap (λ (a : Painting). then a (λ st. mark_all w HIDDEN hide st)) gone.is ∙ then-stop k (λ st. mark_all w HIDDEN hide st);
-          table = gone.table;
-          spares = spares_less (2 * cap + n) (2 * cap) (omega arith) gone.spares;
-        }))
-    hiding NoRoom gone o = absurd gone
 
-  module _ (m₂ m₃ : Lent) (r₃ : Marked) where
-    -- the turns
-    turning : (r : Marked) → Ends width w cap u (start_of cap) m m₂ r (inputs_marked w waiting hide)
-        → TurnsTakenAfter width c g s cap m₂ m₃ r (4 * cap) r₃ → Ends width w cap u (start_of cap) m m₃ r₃ (paint w (4 * cap) waiting hide)
-    turning (Going p) gone o =
-        ends-then m₃ r₃ gone
-        (sym
-        (ap (λ (a : Painting). then a (λ st. turns w (4 * cap) st)) gone.is ∙ then_is (λ st. turns w (4 * cap) st) gone.state)
-        ∙ paint-parts w (4 * cap) waiting hide)
-        (o.right f u gone.state
-        (record {
-          reads = gone.reads;
-          named = gone.named;
-          parents_in = h.ample.parents_in;
-          room = λ i st e fr q qs z j st' d. omega (arith, turns-room h.ample gone.is i st e fr q qs z j st' d, gone.base, gone.end);
-        }))
-    turning (Stop k) gone o =
-        subst (λ (a : Marked). Ends width w cap u (start_of cap) m m₃ a (paint w (4 * cap) waiting hide)) (sym o.1)
-        (subst (λ (b : Lent). Stops width cap (start_of cap) m b k (paint w (4 * cap) waiting hide)) (sym o.0)
-        (record {
-          is = sym (paint-parts w (4 * cap) waiting hide) ∙ ap (λ (a : Painting). then a (λ st. turns w (4 * cap) st)) gone.is ∙ then-stop k (λ st. turns w (4 * cap) st);
-          table = gone.table;
-          spares = gone.spares;
-        }))
-    turning NoRoom gone o = absurd gone
+  -- a waiting commit at which painting ends
+  not-shown : (m₁ : Lent) (e : MarkError) → Ends width w cap u (run_of cap n) m m₁ (Err e) (mark_all w VISIBLE (sorted waiting) unpainted) → Ends width w cap u (start_of cap) m m₁ (Err e) (inputs_marked w waiting hide)
+  not-shown m₁ (Stop k) gone =
+      record {
+        is = ap (λ (a : Painting). then a (λ st. mark_all w HIDDEN hide st)) gone.is ∙ then-stop k (λ st. mark_all w HIDDEN hide st);
+        table = gone.table;
+        spares = spares_less (2 * cap + n) (2 * cap) (omega arith) gone.spares;
+      }
+  not-shown m₁ NoRoom gone = absurd gone
 
-pub marks_inputs : {width : ℕ} {c : Cache} {g s : List ℕ} {cap : ℕ} {m m₁ m₂ : Lent} {n : ℕ} {hide : List Id} {p : Pending} {low r₁ r₂ : Marked} → 5 * cap ≤ length m.line → n ≤ cap → p ≡ run_of cap n
-    → MarksRun width c g s cap m m₁ p (2 * cap) n 1 r₁ → low ≡ lowered_to (2 * cap) r₁ → TakesAllAfter width mark_all c g s cap m₁ m₂ low hide 2 r₂ → MarksInputs width c g s cap m m₂ n hide r₂
-marks_inputs {width} {c} {g} {s} {cap} {m} {m₁} {m₂} {n} {hide} {p} {low} {r₁} {r₂} large few i a e b = record {
-  right = λ f u waiting h.
-      hiding width c g s cap m n hide f u waiting h m₁ m₂ r₁ r₂ large few r₁
-      (shown width c g s cap m n hide f u waiting h m₁ m₂ r₁ r₂ large few (subst (λ (q : Pending). MarksRun width c g s cap m m₁ q (2 * cap) n 1 r₁) i a))
-      (subst (λ (q : Marked). AllTakenAfter width mark_all c g s cap m₁ m₂ q hide 2 r₂) e b.does);
-}
+  -- the turns
+  turning : (m₂ m₃ : Lent) (r₃ : Marked) (p : Pending) → Goes width w cap u (start_of cap) m m₂ p (inputs_marked w waiting hide)
+      → TakesTurns width c g s cap m₂ m₃ p (4 * cap) r₃ → Ends width w cap u (start_of cap) m m₃ r₃ (paint w (4 * cap) waiting hide)
+  turning m₂ m₃ r₃ p gone o =
+      ends-then m₃ r₃ gone
+      (sym
+      (ap (λ (a : Painting). then a (λ st. turns w (4 * cap) st)) gone.is ∙ then_is (λ st. turns w (4 * cap) st) gone.state)
+      ∙ paint-parts w (4 * cap) waiting hide)
+      (o.right f u gone.state
+      (record {
+        reads = gone.reads;
+        named = gone.named;
+        parents_in = h.ample.parents_in;
+        room = λ i st e fr q qs z j st' d. omega (arith, turns-room h.ample gone.is i st e fr q qs z j st' d, gone.base, gone.end);
+      }))
 
-pub paints_from : {width : ℕ} {c : Cache} {g s : List ℕ} {cap : ℕ} {m m₂ m₃ : Lent} {n : ℕ} {hide : List Id} {r₂ r₃ : Marked} → MarksInputs width c g s cap m m₂ n hide r₂
-    → TakesTurnsAfter width c g s cap m₂ m₃ r₂ (4 * cap) r₃ → PaintsFrom width c g s cap m m₃ n hide r₃
-paints_from {width} {c} {g} {s} {cap} {m} {m₂} {m₃} {n} {hide} {r₂} {r₃} b d = record {
-  right = λ f u waiting h. turning width c g s cap m n hide f u waiting h m₂ m₃ r₃ r₂ (b.right f u waiting h) d.does;
-}
+  -- an input at which painting ends
+  not-turning : (m₂ : Lent) (e : MarkError) → Ends width w cap u (start_of cap) m m₂ (Err e) (inputs_marked w waiting hide) → Ends width w cap u (start_of cap) m m₂ (Err e) (paint w (4 * cap) waiting hide)
+  not-turning m₂ (Stop k) gone =
+      record {
+        is = sym (paint-parts w (4 * cap) waiting hide) ∙ ap (λ (a : Painting). then a (λ st. turns w (4 * cap) st)) gone.is ∙ then-stop k (λ st. turns w (4 * cap) st);
+        table = gone.table;
+        spares = gone.spares;
+      }
+  not-turning m₂ NoRoom gone = absurd gone
+
+module _ {width : ℕ} {c : Option Layout} {g s : List ℕ} {cap : ℕ} {m m₁ : Lent} {n : ℕ} {hide : List Id} {p : Pending} (large : 5 * cap ≤ length m.line) (few : n ≤ cap) (i : p ≡ run_of cap n) where
+  pub marks_inputs : {m₂ : Lent} {q : Pending} {r : Marked} → MarksRun width c g s cap m m₁ p (2 * cap) n 1 (Ok q) → TakesAll width mark_all c g s cap m₁ m₂ (lowered_to (2 * cap) q) hide 2 r
+      → MarksInputs width c g s cap m m₂ n hide r
+  marks_inputs {m₂} {q} {r} a b = record {
+    right = λ f u waiting h.
+        hiding width c g s cap m n hide f u waiting h m₁ m₂ r q
+        (shown width c g s cap m n hide f u waiting h m₁ (Ok q) large few (subst (λ (x : Pending). MarksRun width c g s cap m m₁ x (2 * cap) n 1 (Ok q)) i a)) b;
+  }
+
+  pub stops_inputs : {e : MarkError} → MarksRun width c g s cap m m₁ p (2 * cap) n 1 (Err e) → MarksInputs width c g s cap m m₁ n hide (Err e)
+  stops_inputs {e} a = record {
+    right = λ f u waiting h.
+        not-shown width c g s cap m n hide f u waiting h m₁ e
+        (shown width c g s cap m n hide f u waiting h m₁ (Err e) large few (subst (λ (x : Pending). MarksRun width c g s cap m m₁ x (2 * cap) n 1 (Err e)) i a));
+  }
+
+module _ {width : ℕ} {c : Option Layout} {g s : List ℕ} {cap : ℕ} {m m₂ : Lent} {n : ℕ} {hide : List Id} where
+  pub paints_from : {m₃ : Lent} {q : Pending} {r : Marked} → MarksInputs width c g s cap m m₂ n hide (Ok q) → TakesTurns width c g s cap m₂ m₃ q (4 * cap) r → PaintsFrom width c g s cap m m₃ n hide r
+  paints_from {m₃} {q} {r} b d = record { right = λ f u waiting h. turning width c g s cap m n hide f u waiting h m₂ m₃ r q (b.right f u waiting h) d }
+
+  pub stops_from : {e : MarkError} → MarksInputs width c g s cap m m₂ n hide (Err e) → PaintsFrom width c g s cap m m₂ n hide (Err e)
+  stops_from {e} b = record { right = λ f u waiting h. not-turning width c g s cap m n hide f u waiting h m₂ e (b.right f u waiting h) }
 
 -- ---- before that
 
@@ -260,7 +270,7 @@ module _ {width : ℕ} {w : World} {cap : ℕ} {u : List Id} {names marks levels
   begun : Goes width w cap u (start_of cap) (lent names marks levels times line) clean (start_of cap) (going unpainted)
   begun = record { state = unpainted; is = refl; reads = clean-reads; named = clean-named; spares = clean-spares; base = refl; end = refl }
 
-pub paints : {width : ℕ} {c : Cache} {g s : List ℕ} {cap : ℕ} {names marks levels : List ℕ} {times : List ℤ} {line marks₁ line₁ : List ℕ} {m' : Lent} {q : Queue} {hide : List Id} {r : Marked}
+pub paints : {width : ℕ} {c : Option Layout} {g s : List ℕ} {cap : ℕ} {names marks levels : List ℕ} {times : List ℤ} {line marks₁ line₁ : List ℕ} {m' : Lent} {q : Queue} {hide : List Id} {r : Marked}
     → marks₁ ≡ washed cap marks → Collects width names line q (2 * cap) line₁ → PaintsFrom width c g s cap (lent names marks₁ levels times line₁) m' q.count hide r
     → Paints width c g s cap (lent names marks levels times line) m' q hide r
 paints {width} {c} {g} {s} {cap} {names} {marks} {levels} {times} {line} {marks₁} {line₁} {m'} {q} {hide} {r} e o p = record {
@@ -270,8 +280,8 @@ paints {width} {c} {g} {s} {cap} {names} {marks} {levels} {times} {line} {marks�
 }
 
 -- the memory is too small
-pub too_small : {width : ℕ} {c : Cache} {g s : List ℕ} {cap : ℕ} {m m' : Lent} {q : Queue} {hide : List Id} → (5 * cap ≤ length m.line → ⊥) → Paints width c g s cap m m' q hide NoRoom
+pub too_small : {width : ℕ} {c : Option Layout} {g s : List ℕ} {cap : ℕ} {m m' : Lent} {q : Queue} {hide : List Id} → (5 * cap ≤ length m.line → ⊥) → Paints width c g s cap m m' q hide (Err NoRoom)
 too_small k = record { right = λ f u h. k h.for_line }
 
-pub too_many : {width : ℕ} {c : Cache} {g s : List ℕ} {cap : ℕ} {m m' : Lent} {q : Queue} {hide : List Id} → cap < q.count → Paints width c g s cap m m' q hide NoRoom
+pub too_many : {width : ℕ} {c : Option Layout} {g s : List ℕ} {cap : ℕ} {m m' : Lent} {q : Queue} {hide : List Id} → cap < q.count → Paints width c g s cap m m' q hide (Err NoRoom)
 too_many k = record { right = λ f u h. omega (arith, good-size h.good, h.queue-cap) }

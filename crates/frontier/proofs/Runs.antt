@@ -1,5 +1,7 @@
 -- The commits in the slots of a part of the line get marks. The part lies below the queue's memory, and painting changes neither it nor
 -- the ids in slots that are taken: so each slot still has the id that it had at first. Assumes nothing.
+use Rattle.std.specs.Prelude.{Option, Ok, Err}
+use Rattle.commitgraph.specs.declared.Layout.{Layout}
 use mathlib.Core.Path.{◌≡◌, refl, sym, ◌∙◌, ap, subst}
 use mathlib.Core.Logic.{inl, inr}
 use mathlib.Core.Bool.{false}
@@ -9,7 +11,6 @@ use native.Mathlib.Omega.{arith}
 use lib.ListN.{length, take, get_or, length-map}
 use lib.Seq.{slice, length-slice, get_or-take, get_or-drop}
 use Rattle.hash.specs.Bytes.{Id}
-use Rattle.commit.specs.declared.Cache.{Cache}
 use Rattle.hashtable.specs.Table.{id_of, Table}
 use Rattle.hashtable.proofs.TableIds.{width_of_lem}
 use Rattle.revwalk.specs.Order.{In}
@@ -19,12 +20,11 @@ use Rattle.walk.specs.Painting.{mark, mark_all}
 use Rattle.reading.specs.Files.{world_under}
 use Rattle.object.specs.Ids.{id_room, padded, id_in}
 use Rattle.object.proofs.IdBytes.{id_in_lem}
-use Rattle.frontier.specs.declared.marking.Marked.{Marked}
-use Rattle.frontier.specs.declared.marking.Marked.TheVariants.{Going}
-use Rattle.frontier.specs.Paint.{Lent, Files, Spares}
-use Rattle.frontier.specs.Mark.{TakesAfter}
+use Rattle.frontier.specs.declared.marking.MarkError.{MarkError}
+use Rattle.frontier.specs.Paint.{Marked, Lent, Files, Spares}
+use Rattle.frontier.specs.Mark.{Takes}
 use Rattle.frontier.specs.Lists.{ids_in, RunBelow, MarksRun}
-use Rattle.frontier.proofs.Steps.{Upto, Long, long-none, long-then, upto_first, upto_next, upto_last, mark_all_nil, mark_all_snoc}
+use Rattle.frontier.proofs.Steps.{Upto, Long, long-none, long-then, upto_first, next-going, upto_stop, upto_last, mark_all_nil, mark_all_snoc}
 
 pub get_d_map : {A B : Type 0} (f : A → B) (l : List A) (i : ℕ) (d : A) (e : B) → i < length l → get_or (map f l) i e ≡ f (get_or l i d)
 get_d_map f [] i d e h = absurd (omega arith)
@@ -61,33 +61,34 @@ run_id {width} {cap} {m₀} {m} {p} {from} {n} {i} {x} {slot} small b t k l e d 
     ∙ id_in_lem width (id_of width m₀.names (get_or (slice from (from + n) m₀.line) i 0)) (width_of_lem (get_or (slice from (from + n) m₀.line) i 0) t.sized a.0) small
     ∙ sym (get_d_map (id_of width m₀.names) (slice from (from + n) m₀.line) i 0 [] (omega (arith, long)))
 
--- a loop over the part, begun at an answer, after i of n slots
-pub record Running (width : ℕ) (c : Cache) (g s : List ℕ) (cap : ℕ) (m₀ m : Lent) (past : Marked) (from n bits i : ℕ) (r : Marked) : Type 0 where
-  pub upto : i ≤ n
+-- a loop over the part, after i of n slots
+pub record Running (width : ℕ) (c : Option Layout) (g s : List ℕ) (cap : ℕ) (m₀ m : Lent) (p : Pending) (from n bits i : ℕ) (q : Pending) : Type 0 where
   pub long : Long m₀ m
-  pub begun : (p : Pending) → past ≡ Going p → Files width c g s → RunBelow cap m₀ p from n → Upto width mark_all (world_under width c g s) cap m₀ m p (ids_in width m₀ from n) bits i r
+  pub begun : Files width c g s → RunBelow cap m₀ p from n → Upto width mark_all (world_under width c g s) cap m₀ m p (ids_in width m₀ from n) bits i (Ok q)
 
-pub running_first : (width : ℕ) (c : Cache) (g s : List ℕ) (cap : ℕ) (m : Lent) (past : Marked) (from n bits : ℕ) → Running width c g s cap m m past from n bits 0 past
-running_first width c g s cap m past from n bits = record {
-  upto = omega arith;
+pub running_first : (width : ℕ) (c : Option Layout) (g s : List ℕ) (cap : ℕ) (m : Lent) (p : Pending) (from n bits : ℕ) → Running width c g s cap m m p from n bits 0 p
+running_first width c g s cap m p from n bits = record {
   long = long-none m;
-  begun = λ p e f b.
-      subst (λ (a : Marked). Upto width mark_all (world_under width c g s) cap m m p (ids_in width m from n) bits 0 a) (sym e)
-      (upto_first width mark mark_all mark_all_nil mark_all_snoc (world_under width c g s) cap m p (ids_in width m from n) bits);
+  begun = λ f b. upto_first width mark mark_all mark_all_nil mark_all_snoc (world_under width c g s) cap m p (ids_in width m from n) bits;
 }
 
-pub running_next : {width : ℕ} {c : Cache} {g s : List ℕ} {cap : ℕ} {m₀ m m' : Lent} {past : Marked} {from n bits i : ℕ} {r r' : Marked} {x : Id} (slot : ℕ) → Running width c g s cap m₀ m past from n bits i r
-    → i < n → slot ≡ get_or m.line (from + i) 0 → x ≡ id_in width (padded (id_of width m.names slot)) → length x ≡ width → Long m m' → TakesAfter width mark c g s cap m m' r x bits r'
-    → Running width c g s cap m₀ m' past from n bits (i + 1) r'
-running_next {width} {m₀ = m₀} {from = from} {n = n} slot v l e d wd b o = record {
-  upto = omega arith;
-  long = long-then v.long b;
-  begun = λ p q f k.
-      upto_next width mark mark_all mark_all_nil mark_all_snoc f (omega (arith, ids_length width m₀ from n k.inside)) wd (λ u st t h gone. run_id f.small k h.reads.table gone.spares l e d) (v.begun p q f k) o;
-}
+module _ {width : ℕ} {c : Option Layout} {g s : List ℕ} {cap : ℕ} {m₀ m : Lent} {p : Pending} {from n bits i : ℕ} {q : Pending} (v : Running width c g s cap m₀ m p from n bits i q) where
+  run-one : {m' : Lent} {r : Marked} {x : Id} (slot : ℕ) → i < n → slot ≡ get_or m.line (from + i) 0 → x ≡ id_in width (padded (id_of width m.names slot)) → length x ≡ width → Takes width mark c g s cap m m' q x bits r
+      → Files width c g s → RunBelow cap m₀ p from n → Upto width mark_all (world_under width c g s) cap m₀ m' p (ids_in width m₀ from n) bits (i + 1) r
+  run-one slot l e d wd o f k =
+      next-going width mark mark_all mark_all_nil mark_all_snoc f (omega (arith, ids_length width m₀ from n k.inside)) wd (λ u st t h gone. run_id f.small k h.reads.table gone.spares l e d) q (v.begun f k) o
 
-pub running_last : {width : ℕ} {c : Cache} {g s : List ℕ} {cap : ℕ} {m₀ m : Lent} {p : Pending} {from n bits i : ℕ} {r : Marked} → Running width c g s cap m₀ m (Going p) from n bits i r → n ≤ i
-    → MarksRun width c g s cap m₀ m p from n bits r
-running_last {width} {m₀ = m₀} {p = p} {from = from} {n = n} v l = record {
-  right = λ f u st k h. upto_last width mark mark_all mark_all_nil mark_all_snoc (v.begun p refl f k) (omega (arith, ids_length width m₀ from n k.inside)) u st h;
-}
+  pub running_next : {m' : Lent} {q' : Pending} {x : Id} (slot : ℕ) → i < n → slot ≡ get_or m.line (from + i) 0 → x ≡ id_in width (padded (id_of width m.names slot)) → length x ≡ width → Long m m'
+      → Takes width mark c g s cap m m' q x bits (Ok q') → Running width c g s cap m₀ m' p from n bits (i + 1) q'
+  running_next slot l e d wd b o = record { long = long-then v.long b; begun = run-one slot l e d wd o }
+
+  pub running_stop : {m' : Lent} {e : MarkError} {x : Id} (slot : ℕ) → i < n → slot ≡ get_or m.line (from + i) 0 → x ≡ id_in width (padded (id_of width m.names slot)) → length x ≡ width
+      → Takes width mark c g s cap m m' q x bits (Err e) → MarksRun width c g s cap m₀ m' p from n bits (Err e)
+  running_stop {e = e} slot l a d wd o = record {
+    right = λ f u st k h. upto_stop width mark mark_all mark_all_nil mark_all_snoc e (run-one slot l a d wd o f k) (omega (arith, ids_length width m₀ from n k.inside)) u st h;
+  }
+
+  pub running_last : n ≤ i → MarksRun width c g s cap m₀ m p from n bits (Ok q)
+  running_last l = record {
+    right = λ f u st k h. upto_last width mark mark_all mark_all_nil mark_all_snoc (v.begun f k) (omega (arith, ids_length width m₀ from n k.inside)) u st h;
+  }

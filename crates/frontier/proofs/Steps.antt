@@ -1,7 +1,9 @@
 -- Painting over a list of commits, step by step: after i steps the memory reads as the painting over the first i commits. Where painting
 -- is ended by a refusal, the steps that are left do nothing, in the memory and in the walk's painting alike. Assumes nothing.
+use Rattle.std.specs.Prelude.{Option, Ok, Err}
+use Rattle.commitgraph.specs.declared.Layout.{Layout}
 use mathlib.Core.Path.{◌≡◌, refl, sym, ◌∙◌, ap, subst}
-use Prim.Native.Nat.{ℕ, ◌+◌, ◌≤◌, ◌<◌}
+use Prim.Native.Nat.{ℕ, zero, suc, ◌+◌, ◌-◌, ◌≤◌, ◌<◌}
 use mathlib.Core.Bool.{Bool, true, false}
 use mathlib.Core.List.{List, [], ◌∷◌, ◌++◌, Memᴰ}
 use native.Mathlib.Omega.{arith}
@@ -9,7 +11,6 @@ use lib.ListN.{length, take, get_or}
 use lib.Seq.{take_all}
 use Rattle.hash.specs.Bytes.{Id}
 use Rattle.hash.proofs.Tests.{by_cases}
-use Rattle.commit.specs.declared.Cache.{Cache}
 use Rattle.hashtable.specs.Table.{Table, mark_for, Finds}
 use Rattle.hashtable.specs.declared.table.Slot.{Slot}
 use Rattle.hashtable.specs.declared.table.Slot.TheVariants.{Found, Vacant, Full as TableFull}
@@ -24,20 +25,20 @@ use Rattle.reading.proofs.IdLists.{mem-at, one_more}
 use Rattle.reading.specs.declared.Commit.{Commit}
 use Rattle.object.specs.Ids.{id_in}
 use Rattle.object.specs.declared.ObjectId.{ObjectId}
-use Rattle.frontier.specs.declared.marking.Marked.{Marked}
-use Rattle.frontier.specs.declared.marking.Marked.TheVariants.{Going, Stop, NoRoom}
+use Rattle.frontier.specs.declared.marking.MarkError.{MarkError}
+use Rattle.frontier.specs.declared.marking.MarkError.TheVariants.{Stop, NoRoom}
 use Rattle.frontier.specs.Bits.{marks_of, lacks_bits}
-use Rattle.frontier.specs.Paint.{Lent, Files, PaintReads, Spares, Named, Goes, Stops, Ends}
-use Rattle.frontier.specs.Mark.{Step, MayStep, Takes, TakenAfter, TakesAfter, pass_to, LacksMark}
+use Rattle.frontier.specs.Paint.{Marked, Lent, Files, PaintReads, Spares, Named, Goes, Stops, Ends}
+use Rattle.frontier.specs.Mark.{Step, MayStep, Takes, pass_to, LacksMark}
 use Rattle.frontier.specs.Parents.{HasParents}
-use Rattle.frontier.specs.Lists.{Steps, MayTake, AllTakenAfter, TakesAllAfter, PassesAll}
+use Rattle.frontier.specs.Lists.{Steps, MayTake, TakesAll, PassesAll}
 use Rattle.frontier.proofs.MarkStep.{spares-none, spares_then}
 
 -- ---- a part that goes on, and a part after it
 
 pub ends-then : {width : ℕ} {w : World} {cap : ℕ} {u : List Id} {p p' : Pending} {m₀ m : Lent} {a b d : Painting} (m' : Lent) (r : Marked) → Goes width w cap u p m₀ m p' a → b ≡ d → Ends width w cap u p' m m' r b
     → Ends width w cap u p m₀ m' r d
-ends-then {width} {cap = cap} {m = m} m' (Going q) g e o = record {
+ends-then {width} {cap = cap} {m = m} m' (Ok q) g e o = record {
   state = o.state;
   is = sym e ∙ o.is;
   reads = o.reads;
@@ -46,12 +47,12 @@ ends-then {width} {cap = cap} {m = m} m' (Going q) g e o = record {
   base = o.base ∙ g.base;
   end = o.end ∙ g.end;
 }
-ends-then {width} {cap = cap} {m = m} m' (Stop n) g e o = record {
+ends-then {width} {cap = cap} {m = m} m' (Err (Stop n)) g e o = record {
   is = sym e ∙ o.is;
   table = o.table;
   spares = spares_then g.spares (subst (λ (k : ℕ). Spares width cap k m m') g.base o.spares);
 }
-ends-then {width} m' NoRoom g e o = o
+ends-then {width} m' (Err NoRoom) g e o = o
 
 -- nothing is done
 pub goes-still : {width : ℕ} {w : World} {cap : ℕ} {u : List Id} {p : Pending} {m : Lent} {st : Paint} {a : Painting} → a ≡ going st → PaintReads width w cap m p st → Named width cap u m → Goes width w cap u p m m p a
@@ -118,13 +119,13 @@ pub record Upto (width : ℕ) (steps : Steps) (w : World) (cap : ℕ) (m₀ m : 
   pub ends : (u : List Id) (st : Paint) → MayTake width steps w cap u m₀ p xs bits st → Ends width w cap u p m₀ m r (steps w (marks_of bits) (take i xs) st)
 
 module _ (width : ℕ) (step : Step) (steps : Steps) (nil : Nil steps) (snoc : Snoc step steps) where
-  pub upto_first : (w : World) (cap : ℕ) (m : Lent) (p : Pending) (xs : List Id) (bits : ℕ) → Upto width steps w cap m m p xs bits 0 (Going p)
+  pub upto_first : (w : World) (cap : ℕ) (m : Lent) (p : Pending) (xs : List Id) (bits : ℕ) → Upto width steps w cap m m p xs bits 0 (Ok p)
   upto_first w cap m p xs bits = record { ends = λ u st h. goes-still (nil w (marks_of bits) st) h.reads h.named }
 
-  module _ {c : Cache} {g s : List ℕ} {cap : ℕ} {m₀ m m' : Lent} {p : Pending} {xs : List Id} {bits i : ℕ} {r' : Marked} {x : Id} (f : Files width c g s) (l : i < length xs) (wd : length x ≡ width)
+  module _ {c : Option Layout} {g s : List ℕ} {cap : ℕ} {m₀ m m' : Lent} {p : Pending} {xs : List Id} {bits i : ℕ} {r' : Marked} {x : Id} (f : Files width c g s) (l : i < length xs) (wd : length x ≡ width)
       (here : (u : List Id) (st : Paint) (q : Pending) → MayTake width steps (world_under width c g s) cap u m₀ p xs bits st
       → Goes width (world_under width c g s) cap u p m₀ m q (steps (world_under width c g s) (marks_of bits) (take i xs) st) → x ≡ get_or xs i []) where
-    next-going : (q : Pending) → Upto width steps (world_under width c g s) cap m₀ m p xs bits i (Going q) → Takes width step c g s cap m m' q x bits r'
+    pub next-going : (q : Pending) → Upto width steps (world_under width c g s) cap m₀ m p xs bits i (Ok q) → Takes width step c g s cap m m' q x bits r'
         → Upto width steps (world_under width c g s) cap m₀ m' p xs bits (i + 1) r'
     next-going q so o = record {
       ends = λ u st h.
@@ -147,27 +148,29 @@ module _ (width : ℕ) (step : Step) (steps : Steps) (nil : Nil steps) (snoc : S
           }));
     }
 
-    next-stop : (n : Refusal) → Upto width steps (world_under width c g s) cap m₀ m p xs bits i (Stop n) → m' ≡ m → r' ≡ Stop n → Upto width steps (world_under width c g s) cap m₀ m' p xs bits (i + 1) r'
-    next-stop n so v o = record {
-      ends = λ u st h.
-          let gone = so.ends u st h in
-          let k : steps (world_under width c g s) (marks_of bits) (take (i + 1) xs) st ≡ stop n =
-          ap (λ (l : List Id). steps (world_under width c g s) (marks_of bits) l st) (one_more xs i l)
-          ∙ snoc (world_under width c g s) (marks_of bits) (take i xs) (get_or xs i []) st
-          ∙ ap (λ (a : Painting). then a (λ st'. step (world_under width c g s) (marks_of bits) (get_or xs i []) st')) gone.is
-          ∙ then-stop n (λ st'. step (world_under width c g s) (marks_of bits) (get_or xs i []) st') in
-          subst (λ (a : Marked). Ends width (world_under width c g s) cap u p m₀ m' a (steps (world_under width c g s) (marks_of bits) (take (i + 1) xs) st)) (sym o)
-          (subst (λ (b : Lent). Stops width cap p m₀ b n (steps (world_under width c g s) (marks_of bits) (take (i + 1) xs) st)) (sym v)
-          (record { is = k; table = gone.table; spares = gone.spares }));
-    }
+  -- where painting is ended by a refusal, the commits that are left change nothing
+  stop_stays : (w : World) (m : Marks) (xs : List Id) (st : Paint) (n : Refusal) (i d : ℕ) → i + d ≤ length xs → steps w m (take i xs) st ≡ stop n → steps w m (take (i + d) xs) st ≡ stop n
+  stop_stays w m xs st n i zero l e = let k : i + 0 ≡ i = omega arith in ap (λ (j : ℕ). steps w m (take j xs) st) k ∙ e
+  stop_stays w m xs st n i (suc d) l e =
+      let k : i + suc d ≡ i + d + 1 = omega arith in
+      ap (λ (j : ℕ). steps w m (take j xs) st) k
+      ∙ ap (λ (l : List Id). steps w m l st) (one_more xs (i + d) (omega arith))
+      ∙ snoc w m (take (i + d) xs) (get_or xs (i + d) []) st
+      ∙ ap (λ (a : Painting). then a (λ st'. step w m (get_or xs (i + d) []) st')) (stop_stays w m xs st n i d (omega arith) e)
+      ∙ then-stop n (λ st'. step w m (get_or xs (i + d) []) st')
 
-    next-case : (r : Marked) → Upto width steps (world_under width c g s) cap m₀ m p xs bits i r → TakenAfter width step c g s cap m m' r x bits r' → Upto width steps (world_under width c g s) cap m₀ m' p xs bits (i + 1) r'
-    next-case (Going q) so o = next-going q so o
-    next-case (Stop n) so o = next-stop n so o.0 o.1
-    next-case NoRoom so o = record { ends = λ u st h. absurd (so.ends u st h) }
-
-    pub upto_next : {r : Marked} → Upto width steps (world_under width c g s) cap m₀ m p xs bits i r → TakesAfter width step c g s cap m m' r x bits r' → Upto width steps (world_under width c g s) cap m₀ m' p xs bits (i + 1) r'
-    upto_next {r} so o = next-case r so o.does
+  pub upto_stop : {w : World} {cap : ℕ} {m₀ m : Lent} {p : Pending} {xs : List Id} {bits i : ℕ} (e : MarkError) → Upto width steps w cap m₀ m p xs bits i (Err e) → i ≤ length xs
+      → (u : List Id) (st : Paint) → MayTake width steps w cap u m₀ p xs bits st → Ends width w cap u p m₀ m (Err e) (steps w (marks_of bits) xs st)
+  upto_stop {w} {xs = xs} {bits} {i} (Stop n) so l u st h =
+      let gone = so.ends u st h in
+      let k : i + (length xs - i) ≡ length xs = omega arith in
+      record {
+        is = ap (λ (ys : List Id). steps w (marks_of bits) ys st) (sym (take_all (i + (length xs - i)) xs (omega arith)))
+            ∙ stop_stays w (marks_of bits) xs st n i (length xs - i) (omega arith) gone.is;
+        table = gone.table;
+        spares = gone.spares;
+      }
+  upto_stop NoRoom so l u st h = absurd (so.ends u st h)
 
   -- all of them
   pub upto_last : {w : World} {cap : ℕ} {m₀ m : Lent} {p : Pending} {xs : List Id} {bits i : ℕ} {r : Marked} → Upto width steps w cap m₀ m p xs bits i r → length xs ≤ i
@@ -175,7 +178,7 @@ module _ (width : ℕ) (step : Step) (steps : Steps) (nil : Nil steps) (snoc : S
   upto_last {w} {cap} {m₀} {m} {p} {xs} {bits} {i} {r} so l u st h =
       subst (λ (ys : List Id). Ends width w cap u p m₀ m r (steps w (marks_of bits) ys st)) (take_all i xs l) (so.ends u st h)
 
--- ---- a list that is begun after an answer
+-- ---- a loop over a list
 
 -- the lengths of the buffers do not change
 pub record Long (m₀ m : Lent) : Type 0 where
@@ -185,16 +188,10 @@ pub record Long (m₀ m : Lent) : Type 0 where
   pub times : length m.times ≡ length m₀.times
   pub line : length m.line ≡ length m₀.line
 
-abbrev Begun : ℕ → Steps → Cache → List ℕ → List ℕ → ℕ → Lent → Lent → Marked → List Id → ℕ → ℕ → Marked → Type 0
-Begun width steps c g s cap m₀ m (Going p) xs bits i r = Files width c g s → Upto width steps (world_under width c g s) cap m₀ m p xs bits i r
-Begun width steps c g s cap m₀ m (Stop n) xs bits i r = (m ≡ m₀) × (r ≡ Stop n)
-Begun width steps c g s cap m₀ m NoRoom xs bits i r = (m ≡ m₀) × (r ≡ NoRoom)
-
 -- a loop over the list xs, after i of n turns
-pub record Turning (width : ℕ) (steps : Steps) (c : Cache) (g s : List ℕ) (cap : ℕ) (m₀ m : Lent) (past : Marked) (xs : List Id) (bits n i : ℕ) (r : Marked) : Type 0 where
-  pub upto : i ≤ n
+pub record Turning (width : ℕ) (steps : Steps) (c : Option Layout) (g s : List ℕ) (cap : ℕ) (m₀ m : Lent) (p : Pending) (xs : List Id) (bits n i : ℕ) (q : Pending) : Type 0 where
   pub long : Long m₀ m
-  pub begun : Begun width steps c g s cap m₀ m past xs bits i r
+  pub begun : Files width c g s → Upto width steps (world_under width c g s) cap m₀ m p xs bits i (Ok q)
 
 pub long-none : (m : Lent) → Long m m
 long-none m = record { names = refl; marks = refl; levels = refl; times = refl; line = refl }
@@ -203,35 +200,25 @@ pub long-then : {a b d : Lent} → Long a b → Long b d → Long a d
 long-then p q = record { names = q.names ∙ p.names; marks = q.marks ∙ p.marks; levels = q.levels ∙ p.levels; times = q.times ∙ p.times; line = q.line ∙ p.line }
 
 module _ (width : ℕ) (step : Step) (steps : Steps) (nil : Nil steps) (snoc : Snoc step steps) where
-  pub on-first : (c : Cache) (g s : List ℕ) (cap : ℕ) (m : Lent) (xs : List Id) (bits n : ℕ) (past : Marked) → Turning width steps c g s cap m m past xs bits n 0 past
-  on-first c g s cap m xs bits n past = record { upto = omega arith; long = long-none m; begun = go past }
-    where
-      go : (past : Marked) → Begun width steps c g s cap m m past xs bits 0 past
-      go (Going p) = λ f. upto_first width step steps nil snoc (world_under width c g s) cap m p xs bits
-      go (Stop k) = (refl, refl)
-      go NoRoom = (refl, refl)
+  pub on-first : (c : Option Layout) (g s : List ℕ) (cap : ℕ) (m : Lent) (xs : List Id) (bits n : ℕ) (p : Pending) → Turning width steps c g s cap m m p xs bits n 0 p
+  on-first c g s cap m xs bits n p = record { long = long-none m; begun = λ f. upto_first width step steps nil snoc (world_under width c g s) cap m p xs bits }
 
-  pub on-next : {c : Cache} {g s : List ℕ} {cap : ℕ} {m₀ m m' : Lent} {past : Marked} {xs : List Id} {bits n i : ℕ} {r r' : Marked} {x : Id} → Turning width steps c g s cap m₀ m past xs bits n i r
-      → i < n → n ≡ length xs → length x ≡ width → x ≡ get_or xs i [] → Long m m' → TakesAfter width step c g s cap m m' r x bits r' → Turning width steps c g s cap m₀ m' past xs bits n (i + 1) r'
-  on-next {c} {g} {s} {cap} {m₀} {m} {m'} {past} {xs} {bits} {n} {i} {r} {r'} {x} v l z wd e b o = record { upto = omega arith; long = long-then v.long b; begun = go past v.begun }
-    where
-      -- where painting had not gone on, nothing is done
-      same : (a : Marked) → (m ≡ m₀) × (r ≡ a) → TakenAfter width step c g s cap m m' a x bits r'
-      same a k = subst (λ (b : Marked). TakenAfter width step c g s cap m m' b x bits r') k.1 o.does
+  module _ {c : Option Layout} {g s : List ℕ} {cap : ℕ} {m₀ m : Lent} {p : Pending} {xs : List Id} {bits n i : ℕ} {q : Pending} (v : Turning width steps c g s cap m₀ m p xs bits n i q) where
+    one : {m' : Lent} {r : Marked} {x : Id} → i < n → n ≡ length xs → length x ≡ width → x ≡ get_or xs i [] → Takes width step c g s cap m m' q x bits r → Files width c g s
+        → Upto width steps (world_under width c g s) cap m₀ m' p xs bits (i + 1) r
+    one l z wd e o f = next-going width step steps nil snoc f (omega arith) wd (λ u st q h gone. e) q (v.begun f) o
 
-      go : (past : Marked) → Begun width steps c g s cap m₀ m past xs bits i r → Begun width steps c g s cap m₀ m' past xs bits (i + 1) r'
-      go (Going p) so = λ f. upto_next width step steps nil snoc f (omega arith) wd (λ u st q h gone. e) (so f) o
-      go (Stop k) so = let d = same (Stop k) so in (d.0 ∙ so.0, d.1)
-      go NoRoom so = let d = same NoRoom so in (d.0 ∙ so.0, d.1)
+    pub on-next : {m' : Lent} {q' : Pending} {x : Id} → i < n → n ≡ length xs → length x ≡ width → x ≡ get_or xs i [] → Long m m' → Takes width step c g s cap m m' q x bits (Ok q')
+        → Turning width steps c g s cap m₀ m' p xs bits n (i + 1) q'
+    on-next l z wd e b o = record { long = long-then v.long b; begun = one l z wd e o }
 
-  pub on-last : {c : Cache} {g s : List ℕ} {cap : ℕ} {m₀ m : Lent} {past : Marked} {xs : List Id} {bits n i : ℕ} {r : Marked} → Turning width steps c g s cap m₀ m past xs bits n i r → n ≤ i → n ≡ length xs
-      → TakesAllAfter width steps c g s cap m₀ m past xs bits r
-  on-last {c} {g} {s} {cap} {m₀} {m} {past} {xs} {bits} {n} {i} {r} v l z = record { does = go past v.begun }
-    where
-      go : (past : Marked) → Begun width steps c g s cap m₀ m past xs bits i r → AllTakenAfter width steps c g s cap m₀ m past xs bits r
-      go (Going p) so = record { right = λ f. upto_last width step steps nil snoc (so f) (omega arith) }
-      go (Stop k) so = so
-      go NoRoom so = so
+    -- a commit at which painting ends
+    pub on-stop : {m' : Lent} {e : MarkError} {x : Id} → i < n → n ≡ length xs → length x ≡ width → x ≡ get_or xs i [] → Takes width step c g s cap m m' q x bits (Err e)
+        → TakesAll width steps c g s cap m₀ m' p xs bits (Err e)
+    on-stop {e = e} l z wd k o = record { right = λ f. upto_stop width step steps nil snoc e (one l z wd k o f) (omega arith) }
+
+    pub on-last : n ≤ i → n ≡ length xs → TakesAll width steps c g s cap m₀ m p xs bits (Ok q)
+    on-last l z = record { right = λ f. upto_last width step steps nil snoc (v.begun f) (omega arith) }
 
 -- ---- one parent
 
@@ -256,7 +243,7 @@ module _ {width : ℕ} {names marks : List ℕ} {cap : ℕ} {x : Id} {bits : ℕ
       ∙ ap (λ (l : List ℕ). lacks_bits bits (mark_for width false names l cap x)) j
       ∙ sym (v.right (subst (λ (l : List ℕ). Table width false names l cap) j (subst (λ (l : List ℕ). Table width false l m.marks cap) i r.table)))
 
-  pub passes-mark : {c : Cache} {g s : List ℕ} {m m' : Lent} {p : Pending} {r : Marked} → m.names ≡ names → m.marks ≡ marks → b ≡ true → Takes width mark c g s cap m m' p x bits r
+  pub passes-mark : {c : Option Layout} {g s : List ℕ} {m m' : Lent} {p : Pending} {r : Marked} → m.names ≡ names → m.marks ≡ marks → b ≡ true → Takes width mark c g s cap m m' p x bits r
       → Takes width pass_to c g s cap m m' p x bits r
   passes-mark {c} {g} {s} {m} {m'} {p} {r} i j e o = record {
     right = λ f u st h.
@@ -265,7 +252,7 @@ module _ {width : ℕ} {names marks : List ℕ} {cap : ℕ} {x : Id} {bits : ℕ
         (o.right f u st (subst (λ (a : Painting). MayStep width (world_under width c g s) cap u m p x bits st a) k h));
   }
 
-  pub passes_none : {c : Cache} {g s : List ℕ} {m : Lent} {p : Pending} → m.names ≡ names → m.marks ≡ marks → b ≡ false → Takes width pass_to c g s cap m m p x bits (Going p)
+  pub passes_none : {c : Option Layout} {g s : List ℕ} {m : Lent} {p : Pending} → m.names ≡ names → m.marks ≡ marks → b ≡ false → Takes width pass_to c g s cap m m p x bits (Ok p)
   passes_none {c} {g} {s} {m} {p} i j e = record {
     right = λ f u st h. goes-still (pass-not (world_under width c g s) (marks_of bits) x st (told-lacks i j h.reads ∙ e)) h.reads h.named;
   }
@@ -282,30 +269,30 @@ module _ {width : ℕ} {names marks : List ℕ} {cap : ℕ} {x : Id} {a : Slot} 
 
 -- ---- the parents of a commit
 
--- a loop over the parents of d, begun at an answer, after i of them
-pub record Passing (width : ℕ) (c : Cache) (g s : List ℕ) (cap : ℕ) (m₀ m : Lent) (past : Marked) (d : Commit) (bits i : ℕ) (r : Marked) : Type 0 where
-  pub upto : i ≤ parent_count d
+-- a loop over the parents of d, after i of them
+pub record Passing (width : ℕ) (c : Option Layout) (g s : List ℕ) (cap : ℕ) (m₀ m : Lent) (p : Pending) (d : Commit) (bits i : ℕ) (q : Pending) : Type 0 where
   pub long : Long m₀ m
-  pub begun : (p : Pending) → past ≡ Going p → Files width c g s → (y : Id) → HasParents width c g s y d
-      → Upto width pass (world_under width c g s) cap m₀ m p (parents_of (read (world_under width c g s) y)) bits i r
+  pub begun : Files width c g s → (y : Id) → HasParents width c g s y d → Upto width pass (world_under width c g s) cap m₀ m p (parents_of (read (world_under width c g s) y)) bits i (Ok q)
 
-pub passing_first : (width : ℕ) (c : Cache) (g s : List ℕ) (cap : ℕ) (m : Lent) (past : Marked) (d : Commit) (bits : ℕ) → Passing width c g s cap m m past d bits 0 past
-passing_first width c g s cap m past d bits = record {
-  upto = omega arith;
+pub passing_first : (width : ℕ) (c : Option Layout) (g s : List ℕ) (cap : ℕ) (m : Lent) (p : Pending) (d : Commit) (bits : ℕ) → Passing width c g s cap m m p d bits 0 p
+passing_first width c g s cap m p d bits = record {
   long = long-none m;
-  begun = λ p e f y i.
-      subst (λ (a : Marked). Upto width pass (world_under width c g s) cap m m p (parents_of (read (world_under width c g s) y)) bits 0 a) (sym e)
-      (upto_first width pass_to pass pass_nil pass_snoc (world_under width c g s) cap m p (parents_of (read (world_under width c g s) y)) bits);
+  begun = λ f y i. upto_first width pass_to pass pass_nil pass_snoc (world_under width c g s) cap m p (parents_of (read (world_under width c g s) y)) bits;
 }
 
-pub passing_next : {width : ℕ} {c : Cache} {g s : List ℕ} {cap : ℕ} {m₀ m m' : Lent} {past : Marked} {d : Commit} {bits i : ℕ} {r r' : Marked} {z : ObjectId} {x : Id} → Passing width c g s cap m₀ m past d bits i r
-    → i < parent_count d → x ≡ id_in width z.bytes → length x ≡ width → GivesParent width c g s d i z → Long m m' → TakesAfter width pass_to c g s cap m m' r x bits r' → Passing width c g s cap m₀ m' past d bits (i + 1) r'
-passing_next {width} {d = d} {i = i} {z = z} v l a wd k b o = record {
-  upto = omega arith;
-  long = long-then v.long b;
-  begun = λ p e f y h. upto_next width pass_to pass pass_nil pass_snoc f (omega (arith, h.count)) wd (λ u st q j gone. a ∙ h.each i z l k) (v.begun p e f y h) o;
-}
+module _ {width : ℕ} {c : Option Layout} {g s : List ℕ} {cap : ℕ} {m₀ m : Lent} {p : Pending} {d : Commit} {bits i : ℕ} {q : Pending} (v : Passing width c g s cap m₀ m p d bits i q) where
+  passed-one : {m' : Lent} {r : Marked} {z : ObjectId} {x : Id} → i < parent_count d → x ≡ id_in width z.bytes → length x ≡ width → GivesParent width c g s d i z → Takes width pass_to c g s cap m m' q x bits r
+      → Files width c g s → (y : Id) → HasParents width c g s y d → Upto width pass (world_under width c g s) cap m₀ m' p (parents_of (read (world_under width c g s) y)) bits (i + 1) r
+  passed-one {z = z} l a wd k o f y h =
+      next-going width pass_to pass pass_nil pass_snoc f (omega (arith, h.count)) wd (λ u st q j gone. a ∙ h.each i z l k) q (v.begun f y h) o
 
-pub passing_last : {width : ℕ} {c : Cache} {g s : List ℕ} {cap : ℕ} {m₀ m : Lent} {p : Pending} {d : Commit} {bits i : ℕ} {r : Marked} → Passing width c g s cap m₀ m (Going p) d bits i r → parent_count d ≤ i
-    → PassesAll width c g s cap m₀ m p d bits r
-passing_last {width} {p = p} {d = d} v l = record { right = λ f y h. upto_last width pass_to pass pass_nil pass_snoc (v.begun p refl f y h) (omega (arith, h.count)) }
+  pub passing_next : {m' : Lent} {q' : Pending} {z : ObjectId} {x : Id} → i < parent_count d → x ≡ id_in width z.bytes → length x ≡ width → GivesParent width c g s d i z → Long m m'
+      → Takes width pass_to c g s cap m m' q x bits (Ok q') → Passing width c g s cap m₀ m' p d bits (i + 1) q'
+  passing_next l a wd k b o = record { long = long-then v.long b; begun = passed-one l a wd k o }
+
+  pub passing_stop : {m' : Lent} {e : MarkError} {z : ObjectId} {x : Id} → i < parent_count d → x ≡ id_in width z.bytes → length x ≡ width → GivesParent width c g s d i z
+      → Takes width pass_to c g s cap m m' q x bits (Err e) → PassesAll width c g s cap m₀ m' p d bits (Err e)
+  passing_stop {e = e} l a wd k o = record { right = λ f y h. upto_stop width pass_to pass pass_nil pass_snoc e (passed-one l a wd k o f y h) (omega (arith, h.count)) }
+
+  pub passing_last : parent_count d ≤ i → PassesAll width c g s cap m₀ m p d bits (Ok q)
+  passing_last l = record { right = λ f y h. upto_last width pass_to pass pass_nil pass_snoc (v.begun f y h) (omega (arith, h.count)) }

@@ -1,6 +1,8 @@
 -- A turn: the slot that leaves has the first commit of the walk's queue, its mark is that commit's, and it was read, so its parents are
 -- there. The turns: after i of them the memory reads as the painting after i turns, and when no queued commit lacks STALE, or no turn is
 -- left, more turns change nothing. Assumes nothing.
+use Rattle.std.specs.Prelude.{Option, Some, None, Ok, Err}
+use Rattle.commitgraph.specs.declared.Layout.{Layout}
 use mathlib.Core.Path.{◌≡◌, refl, sym, ◌∙◌, ap, subst}
 use mathlib.Core.Logic.{◌⊎◌, inl, inr, ⊎_elim}
 use Prim.Native.Nat.{ℕ, zero, suc, ◌+◌, ◌-◌, ◌≤◌, ◌<◌}
@@ -12,7 +14,6 @@ use lib.ListN.{take, get_or}
 use borrow.Author.Tests.{ltb-true, ltb-false}
 use Rattle.hash.specs.Bytes.{Id}
 use Rattle.hash.proofs.Tests.{by_cases, clash, guard_test, guarded}
-use Rattle.commit.specs.declared.Cache.{Cache}
 use Rattle.hashtable.specs.Marks.{visible, hidden, stale}
 use Rattle.hashtable.specs.Table.{id_of, mark_for}
 use Rattle.hashtable.proofs.TableIds.{less?}
@@ -25,13 +26,13 @@ use Rattle.walk.specs.Lookup.{World, Pair, read, parents_of}
 use Rattle.walk.specs.Painting.{Paint, Painting, going, then, Marks, pass, passed, with_pending, fresh, turn, turns}
 use Rattle.reading.specs.Files.{world_under}
 use Rattle.reading.specs.declared.Commit.{Commit}
-use Rattle.frontier.specs.declared.marking.Marked.{Marked}
-use Rattle.frontier.specs.declared.marking.Marked.TheVariants.{Going, Stop, NoRoom}
+use Rattle.frontier.specs.declared.marking.MarkError.{MarkError}
+use Rattle.frontier.specs.declared.marking.MarkError.TheVariants.{Stop, NoRoom}
 use Rattle.frontier.specs.Bits.{is_painted, marks_of, passed_bits}
-use Rattle.frontier.specs.Paint.{Lent, Files, entry_at, PaintReads, Goes, Ends}
+use Rattle.frontier.specs.Paint.{Marked, Lent, Files, entry_at, PaintReads, Goes, Ends}
 use Rattle.frontier.specs.Parents.{ReadsParents}
 use Rattle.frontier.specs.Lists.{PassesAll}
-use Rattle.frontier.specs.Turns.{TakesTurn, TurnTakenAfter, TakesTurnAfter, any_lacking, due_after, MayTurns, TurnsTakenAfter, TakesTurnsAfter}
+use Rattle.frontier.specs.Turns.{TakesTurn, any_lacking, MayTurns, TakesTurns}
 use Rattle.frontier.proofs.PaintBits.{painted-live, visible-passed, hidden-passed, stale-passed, painted-passed}
 use Rattle.frontier.proofs.MarkStep.{spares-none}
 use Rattle.frontier.proofs.ReadAgain.{has-parents}
@@ -115,12 +116,12 @@ module _ {width : ℕ} {w : World} {cap : ℕ} {m : Lent} {p : Pending} {st : Pa
   turn_is : turn w st st.pending ≡ pass w (passed st (id_of width m.names t.slot)) (parents_of (read w (id_of width m.names t.slot))) (with_pending rest st)
   turn_is = ap (turn w st) first-is ∙ turn-first w st (entry_at width m.names m.levels m.times t.slot) rest
 
-module _ {width : ℕ} {c : Cache} {g s : List ℕ} {cap : ℕ} {m : Lent} {p : Pending} {t : Taken} (v : Pops m.levels m.times p m.line t) where
-  pub turn-some : {m' : Lent} {d : Commit} {y : Id} {n b : ℕ} {r : Marked} → t.found ≡ true → n ≡ get_or m.marks t.slot 0 → b ≡ passed_bits n → y ≡ id_of width m.names t.slot
+module _ {width : ℕ} {c : Option Layout} {g s : List ℕ} {cap : ℕ} {m : Lent} {p : Pending} where
+  pub turn-some : {t : Taken} {m' : Lent} {d : Commit} {y : Id} {n b : ℕ} {r : Marked} → Pops m.levels m.times p m.line (Some t) → n ≡ get_or m.marks t.slot 0 → b ≡ passed_bits n → y ≡ id_of width m.names t.slot
       → ReadsParents width c g s y d → PassesAll width c g s cap m m' t.pending d b r → TakesTurn width c g s cap m m' p r
-  turn-some {m'} {d} {y} {n} {b} {r} fd en eb ey rd o = record {
+  turn-some {t} {m'} {d} {y} {n} {b} {r} v en eb ey rd o = record {
     right = λ f u st h.
-        let e = v.took (v.waits fd) in
+        let e = v.1 in
         let i = h.reads.queued t.slot (taken_in e t.slot (inl refl)) in
         let x : Id = id_of width m.names t.slot in
         let ebits : b ≡ passed_bits (get_or m.marks t.slot 0) = eb ∙ ap passed_bits en in
@@ -157,10 +158,10 @@ module _ {width : ℕ} {c : Cache} {g s : List ℕ} {cap : ℕ} {m : Lent} {p : 
         }));
   }
 
-  pub turn-none : t.found ≡ false → TakesTurn width c g s cap m m p (Going p)
-  turn-none fd = record {
+  pub turn-none : Pops m.levels m.times p m.line None → TakesTurn width c g s cap m m p (Ok p)
+  turn-none v = record {
     right = λ f u st h.
-        let l : waiting p ≡ 0 = ⊎_elim (λ k. clash (v.took (record { right = h.reads.right; some = k })).found fd) (λ k. omega (arith, k)) (less? 0 (waiting p)) in
+        let l : waiting p ≡ 0 = ⊎_elim (λ k. absurd (v (record { right = h.reads.right; some = k }))) (λ k. omega (arith, k)) (less? 0 (waiting p)) in
         let e : st.pending ≡ [] = h.reads.queue ∙ ap (map (entry_at width m.names m.levels m.times)) (empty-slots m.levels m.times p m.line l) in
         goes-still (ap (turn (world_under width c g s) st) e ∙ turn-empty (world_under width c g s) st) h.reads h.named;
   }
@@ -192,66 +193,73 @@ turns-add w (suc i) d st =
 
 -- ---- the loop
 
-due-some : (marks line : List ℕ) (left : ℕ) (p : Pending) → due_after marks line left (Going p) ≡ true → (0 < left) × (any_lacking marks line p ≡ true)
-due-some marks line left p e =
-    (ltb-true 0 left (guard_test (ltb 0 left) (any_lacking marks line p) e), guarded (ltb 0 left) (any_lacking marks line p) e)
-
-due-left : (marks line : List ℕ) (left : ℕ) (r : Marked) → due_after marks line left r ≡ true → 0 < left
-due-left marks line left (Going p) e = (due-some marks line left p e).0
-due-left marks line left (Stop n) e = clash e refl
-due-left marks line left NoRoom e = clash e refl
-
-due-none : (marks line : List ℕ) (left : ℕ) (p : Pending) → due_after marks line left (Going p) ≡ false → (left ≡ 0) ⊎ (any_lacking marks line p ≡ false)
-due-none marks line left p e =
-    by_cases (ltb 0 left)
-    (λ h. inr (sym (ap (λ (b : Bool). cond b (any_lacking marks line p) false) h) ∙ e))
-    (λ h. inl (omega (arith, ltb-false 0 left h)))
-
 -- painting has come to the memory m and the answer r after i turns
 pub record AfterTurns (width : ℕ) (w : World) (cap : ℕ) (m₀ m : Lent) (p : Pending) (i : ℕ) (r : Marked) : Type 0 where
   pub ends : (u : List Id) (st : Paint) → MayTurns width w cap u m₀ p st → Ends width w cap u p m₀ m r (turns w i st)
 
-module _ {width : ℕ} {c : Cache} {g s : List ℕ} {cap : ℕ} {m₀ m m' : Lent} {p : Pending} {left most : ℕ} {r' : Marked} (f : Files width c g s) (l : left ≤ most) where
-  next-turn : (r : Marked) → due_after m.marks m.line left r ≡ true → AfterTurns width (world_under width c g s) cap m₀ m p (most - left) r → TurnTakenAfter width c g s cap m m' r r'
-      → AfterTurns width (world_under width c g s) cap m₀ m' p (most - (left - 1)) r'
-  next-turn (Going q) e so o = record {
+-- the loop, after i turns
+pub record Taking (width : ℕ) (c : Option Layout) (g s : List ℕ) (cap : ℕ) (m₀ m : Lent) (p : Pending) (i : ℕ) (q : Pending) : Type 0 where
+  pub long : Long m₀ m
+  pub begun : Files width c g s → AfterTurns width (world_under width c g s) cap m₀ m p i (Ok q)
+
+pub taking_first : (width : ℕ) (c : Option Layout) (g s : List ℕ) (cap : ℕ) (m : Lent) (p : Pending) → Taking width c g s cap m m p 0 p
+taking_first width c g s cap m p = record { long = long-none m; begun = λ f. record { ends = λ u st h. goes-still (turns-zero (world_under width c g s) st) h.reads h.named } }
+
+most-is : (w : World) (i most : ℕ) (st : Paint) → i ≤ most → turns w most st ≡ then (turns w i st) (λ st'. turns w (most - i) st')
+most-is w i most st l = let e : most ≡ i + (most - i) = omega arith in ap (λ (k : ℕ). turns w k st) e ∙ turns-add w i (most - i) st
+
+module _ {width : ℕ} {c : Option Layout} {g s : List ℕ} {cap : ℕ} {m₀ m : Lent} {p : Pending} {i : ℕ} {q : Pending} (v : Taking width c g s cap m₀ m p i q) where
+  -- one turn more
+  taken-one : {m' : Lent} {r : Marked} → any_lacking m.marks m.line q ≡ true → TakesTurn width c g s cap m m' q r → Files width c g s → AfterTurns width (world_under width c g s) cap m₀ m' p (i + 1) r
+  taken-one {m'} {r} e o f = record {
     ends = λ u st h.
-        let gone = so.ends u st h in
-        let a = due-some m.marks m.line left q e in
-        let fr : fresh gone.state.stale gone.state.pending ≡ true = sym (fresh-is gone.reads) ∙ a.1 in
-        let n : most - (left - 1) ≡ most - left + 1 = omega (arith, a.0) in
-        let k : turns (world_under width c g s) (most - (left - 1)) st ≡ turn (world_under width c g s) gone.state gone.state.pending =
-        ap (λ (j : ℕ). turns (world_under width c g s) j st) n
-        ∙ turns-add (world_under width c g s) (most - left) 1 st
+        let gone = (v.begun f).ends u st h in
+        let fr : fresh gone.state.stale gone.state.pending ≡ true = sym (fresh-is gone.reads) ∙ e in
+        let k : turns (world_under width c g s) (i + 1) st ≡ turn (world_under width c g s) gone.state gone.state.pending =
+        turns-add (world_under width c g s) i 1 st
         ∙ ap (λ (b : Painting). then b (λ st'. turns (world_under width c g s) 1 st')) gone.is
         ∙ then_is (λ st'. turns (world_under width c g s) 1 st') gone.state
         ∙ one-turn (world_under width c g s) gone.state fr in
-        ends-then m' r' gone (sym k)
+        ends-then m' r gone (sym k)
         (o.right f u gone.state
         (record {
           reads = gone.reads;
           named = gone.named;
           parents_in = h.parents_in;
-          room = λ x xs z j st' d. omega (arith, h.room (most - left) gone.state gone.is fr x xs z j st' d, gone.base, gone.end);
+          room = λ x xs z j st' d. omega (arith, h.room i gone.state gone.is fr x xs z j st' d, gone.base, gone.end);
         }));
   }
-  next-turn (Stop n) e so o = clash e refl
-  next-turn NoRoom e so o = clash e refl
 
-most-is : (w : World) (left most : ℕ) (st : Paint) → left ≤ most → turns w most st ≡ then (turns w (most - left) st) (λ st'. turns w left st')
-most-is w left most st l = let e : most ≡ most - left + left = omega arith in ap (λ (k : ℕ). turns w k st) e ∙ turns-add w (most - left) left st
+  pub taking_next : {m' : Lent} {q' : Pending} → any_lacking m.marks m.line q ≡ true → Long m m' → TakesTurn width c g s cap m m' q (Ok q') → Taking width c g s cap m₀ m' p (i + 1) q'
+  taking_next e b o = record { long = long-then v.long b; begun = taken-one e o }
 
-module _ {width : ℕ} {w : World} {cap : ℕ} {m₀ m : Lent} {p : Pending} {left most : ℕ} (l : left ≤ most) where
-  last_turn : (r : Marked) → due_after m.marks m.line left r ≡ false → AfterTurns width w cap m₀ m p (most - left) r → AfterTurns width w cap m₀ m p most r
-  last_turn (Going q) e so = record {
-    ends = λ u st h.
-        let gone = so.ends u st h in
-        let still : turns w left gone.state ≡ going gone.state =
-        ⊎_elim (λ z. ap (λ (k : ℕ). turns w k gone.state) z ∙ turns-zero w gone.state) (λ z. no-turn w left gone.state (sym (fresh-is gone.reads) ∙ z))
-        (due-none m.marks m.line left q e) in
+  -- a turn at which painting ends
+  pub taking_stop : {m' : Lent} {most : ℕ} {e : MarkError} → i < most → any_lacking m.marks m.line q ≡ true → TakesTurn width c g s cap m m' q (Err e) → TakesTurns width c g s cap m₀ m' p most (Err e)
+  taking_stop {m'} {most} {e} l y o = record { right = λ f u st h. go (world_under width c g s) u st e ((taken-one y o f).ends u st h) }
+    where
+      go : (w : World) (u : List Id) (st : Paint) (e : MarkError) → Ends width w cap u p m₀ m' (Err e) (turns w (i + 1) st) → Ends width w cap u p m₀ m' (Err e) (turns w most st)
+      go w u st (Stop n) gone = record {
+        is = most-is w (i + 1) most st (omega arith) ∙ ap (λ (b : Painting). then b (λ st'. turns w (most - (i + 1)) st')) gone.is ∙ then-stop n (λ st'. turns w (most - (i + 1)) st');
+        table = gone.table;
+        spares = gone.spares;
+      }
+      go w u st NoRoom gone = absurd gone
+
+  -- no turn is due
+  pub taking_last : {most : ℕ} → i ≤ most → ((0 < most - i) → any_lacking m.marks m.line q ≡ false) → TakesTurns width c g s cap m₀ m p most (Ok q)
+  taking_last {most} l e = record {
+    right = λ f u st h.
+        let w : World = world_under width c g s in
+        let gone = (v.begun f).ends u st h in
+        let still : turns (world_under width c g s) (most - i) gone.state ≡ going gone.state =
+        ⊎_elim (λ z. no-turn (world_under width c g s) (most - i) gone.state (sym (fresh-is gone.reads) ∙ e z))
+        (λ z. let none : most - i ≡ 0 = omega arith in ap (λ (k : ℕ). turns (world_under width c g s) k gone.state) none ∙ turns-zero (world_under width c g s) gone.state) (less? 0 (most - i)) in
         record {
           state = gone.state;
-          is = most-is w left most st l ∙ ap (λ (b : Painting). then b (λ st'. turns w left st')) gone.is ∙ then_is (λ st'. turns w left st') gone.state ∙ still;
+          is = most-is (world_under width c g s) i most st l
+              ∙ ap (λ (b : Painting). then b (λ st'. turns (world_under width c g s) (most - i) st')) gone.is
+              ∙ then_is (λ st'. turns (world_under width c g s) (most - i) st') gone.state
+              ∙ still;
           reads = gone.reads;
           named = gone.named;
           spares = gone.spares;
@@ -259,59 +267,3 @@ module _ {width : ℕ} {w : World} {cap : ℕ} {m₀ m : Lent} {p : Pending} {le
           end = gone.end;
         };
   }
-  last_turn (Stop n) e so = record {
-    ends = λ u st h.
-        let gone = so.ends u st h in
-        record { is = most-is w left most st l ∙ ap (λ (b : Painting). then b (λ st'. turns w left st')) gone.is ∙ then-stop n (λ st'. turns w left st'); table = gone.table; spares = gone.spares };
-  }
-  last_turn NoRoom e so = record { ends = λ u st h. absurd (so.ends u st h) }
-
--- after an answer
-abbrev BegunTurns : ℕ → Cache → List ℕ → List ℕ → ℕ → Lent → Lent → Marked → ℕ → Marked → Type 0
-BegunTurns width c g s cap m₀ m (Going p) i r = Files width c g s → AfterTurns width (world_under width c g s) cap m₀ m p i r
-BegunTurns width c g s cap m₀ m (Stop n) i r = (m ≡ m₀) × (r ≡ Stop n)
-BegunTurns width c g s cap m₀ m NoRoom i r = (m ≡ m₀) × (r ≡ NoRoom)
-
--- the loop, with some turns left
-pub record Taking (width : ℕ) (c : Cache) (g s : List ℕ) (cap : ℕ) (m₀ m : Lent) (past : Marked) (most left : ℕ) (due : Bool) (r : Marked) : Type 0 where
-  pub few : left ≤ most
-  pub long : Long m₀ m
-  pub due-is : due ≡ due_after m.marks m.line left r
-  pub begun : BegunTurns width c g s cap m₀ m past (most - left) r
-
-pub taking_first : (width : ℕ) (c : Cache) (g s : List ℕ) (cap : ℕ) (m : Lent) (past : Marked) (most : ℕ) {due : Bool} → due ≡ due_after m.marks m.line most past
-    → Taking width c g s cap m m past most most due past
-taking_first width c g s cap m past most e = record { few = omega arith; long = long-none m; due-is = e; begun = go past }
-  where
-    go : (past : Marked) → BegunTurns width c g s cap m m past (most - most) past
-    go (Going p) = λ f. record {
-      ends = λ u st h.
-          let z : most - most ≡ 0 = omega arith in
-          goes-still (ap (λ (k : ℕ). turns (world_under width c g s) k st) z ∙ turns-zero (world_under width c g s) st) h.reads h.named;
-    }
-    go (Stop n) = (refl, refl)
-    go NoRoom = (refl, refl)
-
-pub taking_next : {width : ℕ} {c : Cache} {g s : List ℕ} {cap : ℕ} {m₀ m m' : Lent} {past : Marked} {most left : ℕ} {due due' : Bool} {r r' : Marked} → Taking width c g s cap m₀ m past most left due r
-    → due ≡ true → Long m m' → TakesTurnAfter width c g s cap m m' r r' → due' ≡ due_after m'.marks m'.line (left - 1) r' → Taking width c g s cap m₀ m' past most (left - 1) due' r'
-taking_next {width} {c} {g} {s} {cap} {m₀} {m} {m'} {past} {most} {left} {due} {due'} {r} {r'} v y b o e = record { few = omega (arith, v.few); long = long-then v.long b; due-is = e; begun = go past v.begun }
-  where
-    d : due_after m.marks m.line left r ≡ true
-    d = sym v.due-is ∙ y
-
-    go : (past : Marked) → BegunTurns width c g s cap m₀ m past (most - left) r → BegunTurns width c g s cap m₀ m' past (most - (left - 1)) r'
-    go (Going p) so = λ f. next-turn f v.few r d (so f) o.does
-    go (Stop n) so = clash (ap (due_after m.marks m.line left) (sym so.1) ∙ d) refl
-    go NoRoom so = clash (ap (due_after m.marks m.line left) (sym so.1) ∙ d) refl
-
-pub taking_left : {width : ℕ} {c : Cache} {g s : List ℕ} {cap : ℕ} {m₀ m : Lent} {past : Marked} {most left : ℕ} {due : Bool} {r : Marked} → Taking width c g s cap m₀ m past most left due r → due ≡ true → 0 < left
-taking_left {width} {m = m} {left = left} {r = r} v y = due-left m.marks m.line left r (sym v.due-is ∙ y)
-
-pub taking_last : {width : ℕ} {c : Cache} {g s : List ℕ} {cap : ℕ} {m₀ m : Lent} {past : Marked} {most left : ℕ} {due : Bool} {r : Marked} → Taking width c g s cap m₀ m past most left due r
-    → due ≡ false → TakesTurnsAfter width c g s cap m₀ m past most r
-taking_last {width} {c} {g} {s} {cap} {m₀} {m} {past} {most} {left} {due} {r} v y = record { does = go past v.begun }
-  where
-    go : (past : Marked) → BegunTurns width c g s cap m₀ m past (most - left) r → TurnsTakenAfter width c g s cap m₀ m past most r
-    go (Going p) so = record { right = λ f u st h. (last_turn v.few r (sym v.due-is ∙ y) (so f)).ends u st h }
-    go (Stop n) so = so
-    go NoRoom so = so

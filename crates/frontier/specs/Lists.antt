@@ -1,9 +1,9 @@
 -- Painting over a list of commits: `mark_all` and `pass` of the walk's painting, told of the lent memory. Assumes nothing.
-use Rattle.std.specs.Prelude.{ℕ, ◌+◌, ◌-◌, ◌≤◌, ◌<◌, ◌≡◌, true, false, length, take}
+use Rattle.std.specs.Prelude.{ℕ, ◌+◌, ◌-◌, ◌≤◌, ◌<◌, ◌≡◌, true, false, length, take, Option}
+use Rattle.commitgraph.specs.declared.Layout.{Layout}
 use mathlib.Core.List.{List, map, Memᴰ}
 use Rattle.std.proofs.Math.Seq.{slice}
 use Rattle.hash.specs.Bytes.{Id}
-use Rattle.commit.specs.declared.Cache.{Cache}
 use Rattle.hashtable.specs.Table.{id_of, live_at}
 use Rattle.revwalk.specs.Order.{In}
 use Rattle.pending.specs.declared.Pending.{Pending}
@@ -11,10 +11,8 @@ use Rattle.walk.specs.Lookup.{World, read, parents_of}
 use Rattle.walk.specs.Painting.{Paint, Painting, Marks, mark_all, pass}
 use Rattle.reading.specs.Files.{world_under}
 use Rattle.reading.specs.declared.Commit.{Commit}
-use Rattle.frontier.specs.declared.marking.Marked.{Marked}
-use Rattle.frontier.specs.declared.marking.Marked.TheVariants.{Going, Stop, NoRoom}
 use Rattle.frontier.specs.Bits.{is_painted, marks_of}
-use Rattle.frontier.specs.Paint.{Lent, Files, PaintReads, Named, Short, Ends}
+use Rattle.frontier.specs.Paint.{Marked, Lent, Files, PaintReads, Named, Short, Ends}
 use Rattle.frontier.specs.Parents.{HasParents}
 
 -- a part of painting over a list of commits
@@ -30,18 +28,9 @@ pub record MayTake (width : ℕ) (steps : Steps) (w : World) (cap : ℕ) (u : Li
   pub room : (i : ℕ) → Short (p.end - p.base) (steps w (marks_of bits) (take i xs) st)
 
 -- the steps are taken for the commits xs
-pub record TakesAll (width : ℕ) (steps : Steps) (c : Cache) (g s : List ℕ) (cap : ℕ) (m m' : Lent) (p : Pending) (xs : List Id) (bits : ℕ) (r : Marked) : Type 0 where
+pub record TakesAll (width : ℕ) (steps : Steps) (c : Option Layout) (g s : List ℕ) (cap : ℕ) (m m' : Lent) (p : Pending) (xs : List Id) (bits : ℕ) (r : Marked) : Type 0 where
   pub right : Files width c g s → (u : List Id) (st : Paint) → MayTake width steps (world_under width c g s) cap u m p xs bits st
       → Ends width (world_under width c g s) cap u p m m' r (steps (world_under width c g s) (marks_of bits) xs st)
-
--- the same after an answer: where painting does not go on, nothing is done
-abbrev pub AllTakenAfter : ℕ → Steps → Cache → List ℕ → List ℕ → ℕ → Lent → Lent → Marked → List Id → ℕ → Marked → Type 0
-AllTakenAfter width steps c g s cap m m' (Going p) xs bits r = TakesAll width steps c g s cap m m' p xs bits r
-AllTakenAfter width steps c g s cap m m' (Stop n) xs bits r = (m' ≡ m) × (r ≡ Stop n)
-AllTakenAfter width steps c g s cap m m' NoRoom xs bits r = (m' ≡ m) × (r ≡ NoRoom)
-
-pub record TakesAllAfter (width : ℕ) (steps : Steps) (c : Cache) (g s : List ℕ) (cap : ℕ) (m m' : Lent) (past : Marked) (xs : List Id) (bits : ℕ) (r : Marked) : Type 0 where
-  pub does : AllTakenAfter width steps c g s cap m m' past xs bits r
 
 -- ---- slots that stand in the line
 
@@ -56,14 +45,14 @@ pub record RunBelow (cap : ℕ) (m : Lent) (p : Pending) (from n : ℕ) : Type 0
   pub taken : (s : ℕ) → In s (slice from (from + n) m.line) → (s < cap) × (live_at false m.marks s ≡ true)
 
 -- what `mark_run` does: `mark_all`
-pub record MarksRun (width : ℕ) (c : Cache) (g s : List ℕ) (cap : ℕ) (m m' : Lent) (p : Pending) (from n bits : ℕ) (r : Marked) : Type 0 where
+pub record MarksRun (width : ℕ) (c : Option Layout) (g s : List ℕ) (cap : ℕ) (m m' : Lent) (p : Pending) (from n bits : ℕ) (r : Marked) : Type 0 where
   pub right : Files width c g s → (u : List Id) (st : Paint) → RunBelow cap m p from n → MayTake width mark_all (world_under width c g s) cap u m p (ids_in width m from n) bits st
       → Ends width (world_under width c g s) cap u p m m' r (mark_all (world_under width c g s) (marks_of bits) (ids_in width m from n) st)
 
 -- ---- the parents of a commit
 
 -- what `pass_to_parents` does with an answer d that tells the parents of the commit y: `pass`
-pub record PassesAll (width : ℕ) (c : Cache) (g s : List ℕ) (cap : ℕ) (m m' : Lent) (p : Pending) (d : Commit) (bits : ℕ) (r : Marked) : Type 0 where
+pub record PassesAll (width : ℕ) (c : Option Layout) (g s : List ℕ) (cap : ℕ) (m m' : Lent) (p : Pending) (d : Commit) (bits : ℕ) (r : Marked) : Type 0 where
   pub right : Files width c g s → (y : Id) → HasParents width c g s y d → (u : List Id) (st : Paint)
       → MayTake width pass (world_under width c g s) cap u m p (parents_of (read (world_under width c g s) y)) bits st
       → Ends width (world_under width c g s) cap u p m m' r (pass (world_under width c g s) (marks_of bits) (parents_of (read (world_under width c g s) y)) st)

@@ -1,12 +1,12 @@
 -- Painting in lent memory (document 01: Painting): which marks and which queue the memory reads as, and how a part of painting ends.
 -- Assumes nothing.
-use Rattle.std.specs.Prelude.{ℕ, ◌≤◌, ◌<◌, ◌≡◌, true, false, length, take, get_or, ℤ}
+use Rattle.std.specs.Prelude.{ℕ, ◌≤◌, ◌<◌, ◌≡◌, true, false, length, take, get_or, ℤ, Option, Result, Ok, Err}
+use Rattle.commitgraph.specs.declared.Layout.{Layout}
 use mathlib.Core.List.{List, map, Memᴰ}
 use Rattle.hash.specs.Bytes.{Id}
 use Rattle.object.specs.Ids.{id_room}
 use Rattle.odb.specs.Store.{store_is_ok}
 use Rattle.commit.specs.Find.{GoodCache}
-use Rattle.commit.specs.declared.Cache.{Cache}
 use Rattle.hashtable.specs.Marks.{visible, hidden, stale, seen}
 use Rattle.hashtable.specs.Table.{id_of, live_at, Table, mark_for, has}
 use Rattle.revwalk.specs.Order.{In}
@@ -15,8 +15,8 @@ use Rattle.pending.specs.declared.Pending.{Pending}
 use Rattle.walk.specs.Lookup.{World, Pair, good, read}
 use Rattle.walk.specs.Painting.{Paint, Painting, stop, going}
 use Rattle.walk.specs.declared.Refusal.{Refusal}
-use Rattle.frontier.specs.declared.marking.Marked.{Marked}
-use Rattle.frontier.specs.declared.marking.Marked.TheVariants.{Going, Stop, NoRoom}
+use Rattle.frontier.specs.declared.marking.MarkError.{MarkError}
+use Rattle.frontier.specs.declared.marking.MarkError.TheVariants.{Stop, NoRoom}
 use Rattle.frontier.specs.Bits.{is_painted}
 use Rattle.frontier.specs.Slots.{most_slots}
 
@@ -32,7 +32,7 @@ abbrev pub lent : List ℕ → List ℕ → List ℕ → List ℤ → List ℕ �
 lent names marks levels times line = record { names = names; marks = marks; levels = levels; times = times; line = line }
 
 -- the two files are good
-pub record Files (width : ℕ) (c : Cache) (g s : List ℕ) : Type 0 where
+pub record Files (width : ℕ) (c : Option Layout) (g s : List ℕ) : Type 0 where
   pub store_ok : store_is_ok width s ≡ true
   pub graph-ok : GoodCache width c g
   -- an id of this width has room in a value
@@ -95,8 +95,12 @@ pub record Stops (width : ℕ) (cap : ℕ) (p : Pending) (m m' : Lent) (n : Refu
   pub table : Table width false m'.names m'.marks cap
   pub spares : Spares width cap p.base m m'
 
+-- how it ends, as the code answers: with the queue then, or with why it does not go on
+abbrev pub Marked : Type 0
+Marked = Result Pending MarkError
+
 -- by the answer; where there is room, no answer says that there is none
 abbrev pub Ends : ℕ → World → ℕ → List Id → Pending → Lent → Lent → Marked → Painting → Type 0
-Ends width w cap u p m m' (Going p') a = Goes width w cap u p m m' p' a
-Ends width w cap u p m m' (Stop n) a = Stops width cap p m m' n a
-Ends width w cap u p m m' NoRoom a = ⊥
+Ends width w cap u p m m' (Ok p') a = Goes width w cap u p m m' p' a
+Ends width w cap u p m m' (Err (Stop n)) a = Stops width cap p m m' n a
+Ends width w cap u p m m' (Err NoRoom) a = ⊥

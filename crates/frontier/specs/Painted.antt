@@ -1,9 +1,9 @@
 -- All of painting: `paint` of the walk, told of the lent memory (document 01: Painting). Assumes nothing.
-use Rattle.std.specs.Prelude.{ℕ, ◌+◌, ◌*◌, ◌≤◌, ◌<◌, ◌≡◌, true, false, length, get_or}
+use Rattle.std.specs.Prelude.{ℕ, ◌+◌, ◌*◌, ◌≤◌, ◌<◌, ◌≡◌, true, false, length, get_or, Option}
+use Rattle.commitgraph.specs.declared.Layout.{Layout}
 use mathlib.Core.List.{List, map, Memᴰ}
 use Rattle.std.proofs.Math.Seq.{slice}
 use Rattle.hash.specs.Bytes.{Id}
-use Rattle.commit.specs.declared.Cache.{Cache}
 use Rattle.hashtable.specs.Marks.{seen}
 use Rattle.hashtable.specs.Table.{id_of, live_at, Table}
 use Rattle.revwalk.specs.Order.{In}
@@ -13,16 +13,12 @@ use Rattle.revwalk.specs.declared.queue.Queue.{Queue}
 use Rattle.walk.specs.Lookup.{World, read, parents_of}
 use Rattle.walk.specs.Painting.{Painting, then, VISIBLE, HIDDEN, mark_all, unpainted, sorted, paint}
 use Rattle.reading.specs.Files.{world_under}
-use Rattle.frontier.specs.declared.marking.Marked.{Marked}
-use Rattle.frontier.specs.declared.marking.Marked.TheVariants.{Going, Stop, NoRoom}
-use Rattle.frontier.specs.Paint.{Lent, Files, PaintReads, Named, Ends}
+use Rattle.frontier.specs.Paint.{Marked, Lent, Files, PaintReads, Named, Ends}
 use Rattle.frontier.specs.Lists.{ids_in}
 
--- an answer whose queue may reach down to another place
-abbrev pub lowered_to : ℕ → Marked → Marked
-lowered_to base (Going p) = Going (record { base = base; low = p.low; high = p.high; start = p.start; end = p.end })
-lowered_to base (Stop n) = Stop n
-lowered_to base NoRoom = NoRoom
+-- a queue that may reach down to another place
+abbrev pub lowered_to : ℕ → Pending → Pending
+lowered_to base p = record { base = base; low = p.low; high = p.high; start = p.start; end = p.end }
 
 -- painting's queue, empty, in line[base .. end)
 abbrev pub empty_in : ℕ → ℕ → Pending
@@ -60,7 +56,7 @@ pub record MayPaint (width : ℕ) (w : World) (cap : ℕ) (u : List Id) (m : Len
   pub ample : Ample w cap u (waiting_ids width q m) hidden
 
 -- what `paint` does: `paint`, with as many turns as a walk's fuel
-pub record Paints (width : ℕ) (c : Cache) (g s : List ℕ) (cap : ℕ) (m m' : Lent) (q : Queue) (hidden : List Id) (r : Marked) : Type 0 where
+pub record Paints (width : ℕ) (c : Option Layout) (g s : List ℕ) (cap : ℕ) (m m' : Lent) (q : Queue) (hidden : List Id) (r : Marked) : Type 0 where
   pub right : Files width c g s → (u : List Id) → MayPaint width (world_under width c g s) cap u m q hidden
       → Ends width (world_under width c g s) cap u (start_of cap) m m' r (paint (world_under width c g s) (4 * cap) (waiting_ids width q m) hidden)
 
@@ -79,11 +75,11 @@ abbrev pub inputs_marked : World → List Id → List Id → Painting
 inputs_marked w waiting hidden = then (mark_all w VISIBLE (sorted waiting) unpainted) (λ st. mark_all w HIDDEN hidden st)
 
 -- what `mark_inputs` does
-pub record MarksInputs (width : ℕ) (c : Cache) (g s : List ℕ) (cap : ℕ) (m m' : Lent) (n : ℕ) (hidden : List Id) (r : Marked) : Type 0 where
+pub record MarksInputs (width : ℕ) (c : Option Layout) (g s : List ℕ) (cap : ℕ) (m m' : Lent) (n : ℕ) (hidden : List Id) (r : Marked) : Type 0 where
   pub right : Files width c g s → (u waiting : List Id) → MayStart width (world_under width c g s) cap u m n waiting hidden
       → Ends width (world_under width c g s) cap u (start_of cap) m m' r (inputs_marked (world_under width c g s) waiting hidden)
 
 -- what `paint_from` does
-pub record PaintsFrom (width : ℕ) (c : Cache) (g s : List ℕ) (cap : ℕ) (m m' : Lent) (n : ℕ) (hidden : List Id) (r : Marked) : Type 0 where
+pub record PaintsFrom (width : ℕ) (c : Option Layout) (g s : List ℕ) (cap : ℕ) (m m' : Lent) (n : ℕ) (hidden : List Id) (r : Marked) : Type 0 where
   pub right : Files width c g s → (u waiting : List Id) → MayStart width (world_under width c g s) cap u m n waiting hidden
       → Ends width (world_under width c g s) cap u (start_of cap) m m' r (paint (world_under width c g s) (4 * cap) waiting hidden)

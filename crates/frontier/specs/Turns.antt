@@ -1,16 +1,14 @@
 -- The turns of painting: `turn` and `turns` of the walk's painting, told of the lent memory. Assumes nothing.
-use Rattle.std.specs.Prelude.{ℕ, ◌-◌, ◌≡◌, Bool, true, false, cond, take, ltb}
+use Rattle.std.specs.Prelude.{ℕ, ◌-◌, ◌≡◌, Bool, true, false, cond, take, ltb, Option}
+use Rattle.commitgraph.specs.declared.Layout.{Layout}
 use mathlib.Core.List.{List, ◌∷◌, ◌++◌, Memᴰ}
 use Rattle.hash.specs.Bytes.{Id}
-use Rattle.commit.specs.declared.Cache.{Cache}
 use Rattle.pending.specs.Pending.{stale_at, older_in, younger_in, fresh as anyFresh}
 use Rattle.pending.specs.declared.Pending.{Pending}
 use Rattle.walk.specs.Lookup.{World, Pair, read, parents_of}
 use Rattle.walk.specs.Painting.{Paint, going, pass, passed, with_pending, fresh, turn, turns}
 use Rattle.reading.specs.Files.{world_under}
-use Rattle.frontier.specs.declared.marking.Marked.{Marked}
-use Rattle.frontier.specs.declared.marking.Marked.TheVariants.{Going, Stop, NoRoom}
-use Rattle.frontier.specs.Paint.{Lent, Files, PaintReads, Named, Short, Ends}
+use Rattle.frontier.specs.Paint.{Marked, Lent, Files, PaintReads, Named, Short, Ends}
 
 -- a turn leaves room for k in the queue, whatever part of the parents has been looked at
 abbrev pub TurnFits : World → ℕ → Paint → Type 0
@@ -25,28 +23,13 @@ pub record MayTurn (width : ℕ) (w : World) (cap : ℕ) (u : List Id) (m : Lent
   pub room : TurnFits w (p.end - p.base) st
 
 -- what `turn` does: `turn`
-pub record TakesTurn (width : ℕ) (c : Cache) (g s : List ℕ) (cap : ℕ) (m m' : Lent) (p : Pending) (r : Marked) : Type 0 where
+pub record TakesTurn (width : ℕ) (c : Option Layout) (g s : List ℕ) (cap : ℕ) (m m' : Lent) (p : Pending) (r : Marked) : Type 0 where
   pub right : Files width c g s → (u : List Id) (st : Paint) → MayTurn width (world_under width c g s) cap u m p st
       → Ends width (world_under width c g s) cap u p m m' r (turn (world_under width c g s) st st.pending)
-
--- the same after an answer: where painting does not go on, nothing is done
-abbrev pub TurnTakenAfter : ℕ → Cache → List ℕ → List ℕ → ℕ → Lent → Lent → Marked → Marked → Type 0
-TurnTakenAfter width c g s cap m m' (Going p) r = TakesTurn width c g s cap m m' p r
-TurnTakenAfter width c g s cap m m' (Stop n) r = (m' ≡ m) × (r ≡ Stop n)
-TurnTakenAfter width c g s cap m m' NoRoom r = (m' ≡ m) × (r ≡ NoRoom)
-
-pub record TakesTurnAfter (width : ℕ) (c : Cache) (g s : List ℕ) (cap : ℕ) (m m' : Lent) (past r : Marked) : Type 0 where
-  pub does : TurnTakenAfter width c g s cap m m' past r
 
 -- "a queued commit lacks STALE": one of the younger or of the older slots that wait
 abbrev pub any_lacking : List ℕ → List ℕ → Pending → Bool
 any_lacking marks line p = anyFresh (stale_at marks) (younger_in p line ++ older_in p line)
-
--- another turn is due after an answer: some are left, painting goes on, and a queued commit lacks STALE
-abbrev pub due_after : List ℕ → List ℕ → ℕ → Marked → Bool
-due_after marks line left (Going p) = cond (ltb 0 left) (any_lacking marks line p) false
-due_after marks line left (Stop n) = false
-due_after marks line left NoRoom = false
 
 -- the turns may be taken: there is room for each
 pub record MayTurns (width : ℕ) (w : World) (cap : ℕ) (u : List Id) (m : Lent) (p : Pending) (st : Paint) : Type 0 where
@@ -56,14 +39,6 @@ pub record MayTurns (width : ℕ) (w : World) (cap : ℕ) (u : List Id) (m : Len
   pub room : (i : ℕ) (st' : Paint) → turns w i st ≡ going st' → fresh st'.stale st'.pending ≡ true → TurnFits w (p.end - p.base) st'
 
 -- what `turns` does: `turns`, at most k of them
-pub record TakesTurns (width : ℕ) (c : Cache) (g s : List ℕ) (cap : ℕ) (m m' : Lent) (p : Pending) (k : ℕ) (r : Marked) : Type 0 where
+pub record TakesTurns (width : ℕ) (c : Option Layout) (g s : List ℕ) (cap : ℕ) (m m' : Lent) (p : Pending) (k : ℕ) (r : Marked) : Type 0 where
   pub right : Files width c g s → (u : List Id) (st : Paint) → MayTurns width (world_under width c g s) cap u m p st
       → Ends width (world_under width c g s) cap u p m m' r (turns (world_under width c g s) k st)
-
-abbrev pub TurnsTakenAfter : ℕ → Cache → List ℕ → List ℕ → ℕ → Lent → Lent → Marked → ℕ → Marked → Type 0
-TurnsTakenAfter width c g s cap m m' (Going p) k r = TakesTurns width c g s cap m m' p k r
-TurnsTakenAfter width c g s cap m m' (Stop n) k r = (m' ≡ m) × (r ≡ Stop n)
-TurnsTakenAfter width c g s cap m m' NoRoom k r = (m' ≡ m) × (r ≡ NoRoom)
-
-pub record TakesTurnsAfter (width : ℕ) (c : Cache) (g s : List ℕ) (cap : ℕ) (m m' : Lent) (past : Marked) (k : ℕ) (r : Marked) : Type 0 where
-  pub does : TurnsTakenAfter width c g s cap m m' past k r

@@ -14,32 +14,15 @@ mod turns;
 ghost use Rattle.std.specs.Prelude.{◌≡◌, ◌*◌, ◌≤◌, length};
 ghost use Rattle.walk.specs.Opening.{list_ids};
 ghost use Rattle.frontier.specs.Paint.{lent};
-ghost use Rattle.frontier.specs.Painted.{empty_in, lowered_to, MarksInputs, PaintsFrom, Paints};
+ghost use Rattle.frontier.specs.Painted.{empty_in, MarksInputs, PaintsFrom, Paints};
 ghost use Rattle.hash.specs.Bytes.{width_of};
 
-use commit::Cache;
+use commitgraph::Layout;
 use hash::Kind;
 use hashtable::marks::{HIDDEN, VISIBLE};
-pub use marking::Marked;
+pub use marking::{MarkError, Marked};
 use pending::Pending;
 use revwalk::queue::Queue;
-
-// An answer whose queue may reach down to another place.
-fn lowered(past: Marked, base: usize) -> Marked
-    ensures { result ≡ lowered_to base past }
-{
-    match past {
-        Marked::Going(p) => Marked::Going(Pending {
-            base,
-            low: p.low,
-            high: p.high,
-            start: p.start,
-            end: p.end,
-        }),
-        Marked::Stop(n) => Marked::Stop(n),
-        Marked::NoRoom => Marked::NoRoom,
-    }
-}
 
 // Painting's queue, empty, in line[base..end).
 fn empty_queue(base: usize, end: usize) -> Pending
@@ -64,7 +47,7 @@ fn mark_inputs(
     times: &mut [i64],
     line: &mut [u32],
     cap: usize,
-    cache: Cache,
+    cache: Option<Layout>,
     graph: &[u8],
     store: &[u8],
     n: usize,
@@ -77,8 +60,11 @@ fn mark_inputs(
     let p = empty_queue(from + n, 5 * cap);
     let shown = lists::mark_run(
         kind, names, marks, levels, times, line, cap, cache, graph, store, p, from, n, VISIBLE,
-    );
-    let low = lowered(shown, from);
+    )?;
+    let low = Pending {
+        base: from,
+        ..shown
+    };
     lists::mark_list(
         kind, names, marks, levels, times, line, cap, cache, graph, store, low, hidden, HIDDEN,
     )
@@ -93,7 +79,7 @@ fn paint_from(
     times: &mut [i64],
     line: &mut [u32],
     cap: usize,
-    cache: Cache,
+    cache: Option<Layout>,
     graph: &[u8],
     store: &[u8],
     n: usize,
@@ -104,7 +90,7 @@ fn paint_from(
 {
     let both = mark_inputs(
         kind, names, marks, levels, times, line, cap, cache, graph, store, n, hidden,
-    );
+    )?;
     let most = 4 * cap;
     turns::turns(
         kind, names, marks, levels, times, line, cap, cache, graph, store, both, most,
@@ -121,7 +107,7 @@ pub fn compute_hidden_frontier(
     times: &mut [i64],
     line: &mut [u32],
     cap: usize,
-    cache: Cache,
+    cache: Option<Layout>,
     graph: &[u8],
     store: &[u8],
     waiting: Queue,
@@ -131,10 +117,10 @@ pub fn compute_hidden_frontier(
 {
     let n = waiting.count;
     if line.len() / 5 < cap {
-        return Marked::NoRoom;
+        return Err(MarkError::NoRoom);
     }
     if cap < n {
-        return Marked::NoRoom;
+        return Err(MarkError::NoRoom);
     }
     prepare::wash(marks, cap);
     prepare::visible_inputs_sorted(kind, line, names, waiting, 2 * cap);

@@ -6,13 +6,13 @@ ghost use Rattle.hashtable.specs.Table.{id_of};
 ghost use Rattle.object.specs.Ids.{padded};
 ghost use Rattle.reading.specs.Whole.{parent_count};
 ghost use Rattle.frontier.specs.Paint.{lent};
-ghost use Rattle.frontier.specs.Mark.{Takes, TakesAfter, pass_to, LacksMarkAt};
-ghost use Rattle.frontier.specs.Lists.{TakesAllAfter, MarksRun, PassesAll};
+ghost use Rattle.frontier.specs.Mark.{Takes, pass_to, LacksMarkAt};
+ghost use Rattle.frontier.specs.Lists.{TakesAll, MarksRun, PassesAll};
 ghost use Rattle.hash.specs.Bytes.{width_of};
 
 use crate::marking::Marked;
 use crate::{bits, marking, slots};
-use commit::Cache;
+use commitgraph::Layout;
 use hash::Kind;
 use hashtable::table;
 use hashtable::table::Slot;
@@ -36,26 +36,24 @@ pub fn mark_list(
     times: &mut [i64],
     line: &mut [u32],
     cap: usize,
-    cache: Cache,
+    cache: Option<Layout>,
     graph: &[u8],
     store: &[u8],
-    past: Marked,
+    p: Pending,
     list: &[u8],
     bits: u8,
 ) -> Marked
-    ensures { TakesAllAfter (width_of kind) mark_all cache graph.now store.now cap (lent names.old marks.old levels.old times.old line.old) (lent names.new marks.new levels.new times.new line.new) past (list_ids (width_of kind) list.now) bits result }
+    ensures { TakesAll (width_of kind) mark_all cache graph.now store.now cap (lent names.old marks.old levels.old times.old line.old) (lent names.new marks.new levels.new times.new line.new) p (list_ids (width_of kind) list.now) bits result }
 {
     let n = id_count(kind, list);
-    let mut r = past;
-    let mut i = 0;
-    while i < n {
+    let mut q = p;
+    for i in 0..n {
         let id = hash::nth(kind, list, i);
-        r = marking::mark_next(
-            kind, names, marks, levels, times, line, cap, cache, graph, store, r, id, bits,
-        );
-        i += 1;
+        q = marking::mark_one(
+            kind, names, marks, levels, times, line, cap, cache, graph, store, q, id, bits,
+        )?;
     }
-    r
+    Ok(q)
 }
 
 // The slot at a place of the line, i places after `from`; 0 past the end.
@@ -87,7 +85,7 @@ pub fn mark_run(
     times: &mut [i64],
     line: &mut [u32],
     cap: usize,
-    cache: Cache,
+    cache: Option<Layout>,
     graph: &[u8],
     store: &[u8],
     p: Pending,
@@ -97,12 +95,11 @@ pub fn mark_run(
 ) -> Marked
     ensures { MarksRun (width_of kind) cache graph.now store.now cap (lent names.old marks.old levels.old times.old line.old) (lent names.new marks.new levels.new times.new line.new) p from n bits result }
 {
-    let mut r = Marked::Going(p);
-    let mut i = 0;
-    while i < n {
+    let mut q = p;
+    for i in 0..n {
         let slot = slot_after(line, from, i);
         let id = id_in(kind, names, slot);
-        r = marking::mark_next(
+        q = marking::mark_one(
             kind,
             names,
             marks,
@@ -113,13 +110,12 @@ pub fn mark_run(
             cache,
             graph,
             store,
-            r,
+            q,
             object::id_slice(kind, &id.bytes),
             bits,
-        );
-        i += 1;
+        )?;
     }
-    r
+    Ok(q)
 }
 
 // Whether an id lacks one of the marks, by the slot that a search for it answered.
@@ -142,7 +138,7 @@ fn pass_one(
     times: &mut [i64],
     line: &mut [u32],
     cap: usize,
-    cache: Cache,
+    cache: Option<Layout>,
     graph: &[u8],
     store: &[u8],
     p: Pending,
@@ -161,37 +157,7 @@ fn pass_one(
             kind, levels, times, line, cache, graph, store, p, id, near, added,
         )
     } else {
-        Marked::Going(p)
-    }
-}
-
-// The same after an answer: where painting does not go on, nothing is done.
-fn pass_next(
-    kind: Kind,
-    names: &mut [u8],
-    marks: &mut [u8],
-    levels: &mut [u32],
-    times: &mut [i64],
-    line: &mut [u32],
-    cap: usize,
-    cache: Cache,
-    graph: &[u8],
-    store: &[u8],
-    past: Marked,
-    id: &[u8],
-    commit: Commit,
-    k: usize,
-    bits: u8,
-) -> Marked
-    ensures { TakesAfter (width_of kind) pass_to cache graph.now store.now cap (lent names.old marks.old levels.old times.old line.old) (lent names.new marks.new levels.new times.new line.new) past id.now bits result }
-{
-    match past {
-        Marked::Going(p) => pass_one(
-            kind, names, marks, levels, times, line, cap, cache, graph, store, p, id, commit, k,
-            bits,
-        ),
-        Marked::Stop(n) => Marked::Stop(n),
-        Marked::NoRoom => Marked::NoRoom,
+        Ok(p)
     }
 }
 
@@ -215,7 +181,7 @@ pub fn pass_to_parents(
     times: &mut [i64],
     line: &mut [u32],
     cap: usize,
-    cache: Cache,
+    cache: Option<Layout>,
     graph: &[u8],
     store: &[u8],
     p: Pending,
@@ -225,11 +191,10 @@ pub fn pass_to_parents(
     ensures { PassesAll (width_of kind) cache graph.now store.now cap (lent names.old marks.old levels.old times.old line.old) (lent names.new marks.new levels.new times.new line.new) p commit bits result }
 {
     let n = parent_count(commit);
-    let mut r = Marked::Going(p);
-    let mut i = 0;
-    while i < n {
+    let mut q = p;
+    for i in 0..n {
         let id = reading::parent_of(kind, commit, i, cache, graph, store);
-        r = pass_next(
+        q = pass_one(
             kind,
             names,
             marks,
@@ -240,13 +205,12 @@ pub fn pass_to_parents(
             cache,
             graph,
             store,
-            r,
+            q,
             object::id_slice(kind, &id.bytes),
             commit,
             i,
             bits,
-        );
-        i += 1;
+        )?;
     }
-    r
+    Ok(q)
 }

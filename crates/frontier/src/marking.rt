@@ -1,60 +1,56 @@
 // A commit gets marks: it is read when it first gets one, and its slot is queued.
 ghost use Rattle.std.specs.Prelude.{◌≡◌};
 ghost use Rattle.frontier.specs.Paint.{lent};
-ghost use Rattle.frontier.specs.Mark.{Learns, PlacesAdded, Queues, Takes, TakesAdded, TakesAfter};
+ghost use Rattle.frontier.specs.Mark.{Learns, PlacesAdded, Queues, Takes, TakesAdded};
 ghost use Rattle.walk.specs.Painting.{mark};
 ghost use Rattle.hash.specs.Bytes.{width_of};
 
 use crate::slots;
 use crate::slots::Added;
-use commit::Cache;
+use commitgraph::Layout;
 use hash::Kind;
 use hashtable::table;
 use pending::Pending;
 use reading::{Commit, NOWHERE};
 use walk::Refusal;
 
-// How a part of painting ends: it goes on with this queue; a commit cannot be read; or the lent memory is too small for it.
+// Why painting does not go on.
 #[derive(Clone, Copy)]
-pub enum Marked {
-    Going(Pending),
+pub enum MarkError {
+    // A commit cannot be read.
     Stop(Refusal),
+    // The lent memory is too small: an id has no slot in the table, or a slot no place in the queue.
     NoRoom,
 }
 
-// Where an id stands that gained marks; or its commit cannot be read; or there is no slot for it.
-#[derive(Clone, Copy)]
-pub enum Spot {
-    At(u32),
-    Unread(Refusal),
-    NoSlot,
-}
+// How a part of painting ends: it goes on with this queue, or it does not.
+pub type Marked = Result<Pending, MarkError>;
 
 // Reads a commit, which may stand at near, and sets down its generation and seconds in a slot.
 fn learn(
     kind: Kind,
     levels: &mut [u32],
     times: &mut [i64],
-    cache: Cache,
+    cache: Option<Layout>,
     graph: &[u8],
     store: &[u8],
     id: &[u8],
     near: usize,
     slot: u32,
-) -> Spot
+) -> Result<u32, MarkError>
     ensures { Learns (width_of kind) cache graph.now store.now levels.old times.old levels.new times.new id.now slot result }
 {
     let c = reading::read_commit(kind, cache, graph, store, id, near);
     match c {
         Commit::Row { pair, .. } => {
             slots::set_pair(levels, times, slot, pair);
-            Spot::At(slot)
+            Ok(slot)
         }
         Commit::Body { pair, .. } => {
             slots::set_pair(levels, times, slot, pair);
-            Spot::At(slot)
+            Ok(slot)
         }
-        Commit::Failed(n) => Spot::Unread(n),
+        Commit::Failed(n) => Err(MarkError::Stop(n)),
     }
 }
 
@@ -63,19 +59,19 @@ fn place(
     kind: Kind,
     levels: &mut [u32],
     times: &mut [i64],
-    cache: Cache,
+    cache: Option<Layout>,
     graph: &[u8],
     store: &[u8],
     id: &[u8],
     near: usize,
     added: Added,
-) -> Spot
+) -> Result<u32, MarkError>
     ensures { PlacesAdded (width_of kind) cache graph.now store.now levels.old times.old levels.new times.new id.now added result }
 {
     match added {
         Added::New(k) => learn(kind, levels, times, cache, graph, store, id, near, k),
-        Added::Known(k) => Spot::At(k),
-        Added::Full => Spot::NoSlot,
+        Added::Known(k) => Ok(k),
+        Added::Full => Err(MarkError::NoRoom),
     }
 }
 
@@ -83,13 +79,7 @@ fn place(
 fn queue_slot(p: Pending, line: &mut [u32], levels: &[u32], times: &[i64], slot: u32) -> Marked
     ensures { Queues levels.now times.now slot p line.old line.new result }
 {
-    let q = pending::push(p, line, levels, times, slot);
-    let after = q.pending;
-    if q.done {
-        Marked::Going(after)
-    } else {
-        Marked::NoRoom
-    }
+    pending::push(p, line, levels, times, slot).ok_or(MarkError::NoRoom)
 }
 
 // Queues a commit that gained marks in the table, as `added` says. The table is no part of it, so that the id is only handed on: where it
@@ -99,7 +89,7 @@ pub fn queue_added(
     levels: &mut [u32],
     times: &mut [i64],
     line: &mut [u32],
-    cache: Cache,
+    cache: Option<Layout>,
     graph: &[u8],
     store: &[u8],
     p: Pending,
@@ -109,16 +99,12 @@ pub fn queue_added(
 ) -> Marked
     ensures { TakesAdded (width_of kind) cache graph.now store.now levels.old times.old line.old levels.new times.new line.new p id.now added result }
 {
-    let s = place(kind, levels, times, cache, graph, store, id, near, added);
-    match s {
-        Spot::At(k) => queue_slot(p, line, levels, times, k),
-        Spot::Unread(n) => Marked::Stop(n),
-        Spot::NoSlot => Marked::NoRoom,
-    }
+    let slot = place(kind, levels, times, cache, graph, store, id, near, added)?;
+    queue_slot(p, line, levels, times, slot)
 }
 
 // Gives marks to a commit of which no place is known, and queues it.
-fn mark_one(
+pub fn mark_one(
     kind: Kind,
     names: &mut [u8],
     marks: &mut [u8],
@@ -126,7 +112,7 @@ fn mark_one(
     times: &mut [i64],
     line: &mut [u32],
     cap: usize,
-    cache: Cache,
+    cache: Option<Layout>,
     graph: &[u8],
     store: &[u8],
     p: Pending,
@@ -140,31 +126,4 @@ fn mark_one(
     queue_added(
         kind, levels, times, line, cache, graph, store, p, id, NOWHERE, added,
     )
-}
-
-// The same after an answer: where painting does not go on, nothing is done.
-pub fn mark_next(
-    kind: Kind,
-    names: &mut [u8],
-    marks: &mut [u8],
-    levels: &mut [u32],
-    times: &mut [i64],
-    line: &mut [u32],
-    cap: usize,
-    cache: Cache,
-    graph: &[u8],
-    store: &[u8],
-    past: Marked,
-    id: &[u8],
-    bits: u8,
-) -> Marked
-    ensures { TakesAfter (width_of kind) mark cache graph.now store.now cap (lent names.old marks.old levels.old times.old line.old) (lent names.new marks.new levels.new times.new line.new) past id.now bits result }
-{
-    match past {
-        Marked::Going(p) => mark_one(
-            kind, names, marks, levels, times, line, cap, cache, graph, store, p, id, bits,
-        ),
-        Marked::Stop(n) => Marked::Stop(n),
-        Marked::NoRoom => Marked::NoRoom,
-    }
 }

@@ -6,8 +6,7 @@ ghost use Rattle.reading.specs.declared.Commit.TheVariants.{Body};
 ghost use Rattle.frontier.specs.Parents.{no_pair, lines_in, ReadsParents};
 ghost use Rattle.hash.specs.Bytes.{width_of};
 
-use commit::{Cache, Either};
-use commitgraph::parents::ParentList;
+use commit::Either;
 use commitgraph::{Layout, Level, parents};
 use date::Seconds;
 use hash::Kind;
@@ -29,12 +28,12 @@ fn row_parents(kind: Kind, graph: &[u8], l: Layout, position: usize) -> Commit
     ensures { result ≡ row_commit position no_pair (parents_in (width_of kind) graph.now l position) }
 {
     match parents::parents(kind, graph, l, position) {
-        ParentList::Good(n) => Commit::Row {
+        Some(n) => Commit::Row {
             position,
             parents: n,
             pair: no_pair(),
         },
-        ParentList::Corrupt => Commit::Failed(Refusal::CommitUnreadable),
+        None => Commit::Failed(Refusal::CommitUnreadable),
     }
 }
 
@@ -51,7 +50,13 @@ fn body_parents(kind: Kind, body: &[u8], start: usize, end: usize) -> Commit
 }
 
 // One commit that was read before, without its pair: neither its level nor its author and committer lines are read again.
-pub fn read_parents(kind: Kind, cache: Cache, graph: &[u8], store: &[u8], id: &[u8]) -> Commit
+pub fn read_parents(
+    kind: Kind,
+    cache: Option<Layout>,
+    graph: &[u8],
+    store: &[u8],
+    id: &[u8],
+) -> Commit
     ensures { ReadsParents (width_of kind) cache graph.now store.now id.now result }
 {
     let at = commit::find(kind, cache, graph, store, id, NOWHERE);

@@ -11,13 +11,11 @@ use revwalk::queue::Queue;
 pub fn wash(marks: &mut [u8], cap: usize)
     ensures { marks.new ≡ washed cap marks.old }
 {
-    let mut slot = 0;
-    while slot < marks.len() {
+    for slot in 0..marks.len() {
         if cap <= slot {
             return;
         }
         marks[slot] = marks[slot] / 8 * 8;
-        slot += 1;
     }
 }
 
@@ -26,10 +24,8 @@ pub fn visible_inputs_sorted(kind: Kind, line: &mut [u32], names: &[u8], q: Queu
     ensures { Collects (width_of kind) names.now line.old q from line.new }
 {
     let n = q.count;
-    let mut i = 0;
-    while i < n {
+    for i in 0..n {
         let slot = queue::slot_at(q, line, i);
         pending::insert_by_id(kind, line, names, from, i, slot);
-        i += 1;
     }
 }

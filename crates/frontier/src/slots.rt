@@ -12,7 +12,8 @@ use hashtable::table;
 use hashtable::table::Slot;
 use walk::GenThenTime;
 
-// The slot of an id that gained marks: it had none of painting's, or it had one; or there is no slot for it.
+// The slot of an id that gained marks: it had none of painting's, or it had one; or there is no slot for it. (Of three cases each goes on
+// otherwise, so no Option would say more plainly which it is.)
 #[derive(Clone, Copy)]
 pub enum Added {
     New(u32),

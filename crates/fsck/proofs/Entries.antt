@@ -1,9 +1,9 @@
 -- The search for the first false name. It goes from entry to entry, so what is left to search from 0 on is what is left from k on while all names
 -- before k are true; what it finds is false, and every name before it is true. Assumes nothing.
+use Rattle.std.specs.Prelude.{None, Some}
 use mathlib.Core.Path.{◌≡◌, refl, sym, ◌∙◌, subst}
 use Prim.Native.Nat.{ℕ, zero, suc, ◌+◌, ◌-◌, ◌≤◌, ◌<◌}
 use mathlib.Core.Bool.{true, false}
-use mathlib.Core.Option.{none, some}
 use mathlib.Core.List.{List}
 use mathlib.Core.Logic.{⊎_elim}
 use native.Mathlib.Omega.{arith}
@@ -26,12 +26,12 @@ name-told kind b k ok h = rw (good-id (width_of kind) b k ok h, good-body (width
 module _ (kind : Kind) (b : List ℕ) where
   -- ---- the loop's steps
 
-  pub none_left : (k n : ℕ) → n ≡ 0 → first_false kind b k n ≡ none
+  pub none_left : (k n : ℕ) → n ≡ 0 → first_false kind b k n ≡ None
   unfolding first_false
   none_left k zero e = refl
   none_left k (suc n) e = absurd (omega arith)
 
-  pub one-false : (k n : ℕ) → 0 < n → true_name kind b k ≡ false → first_false kind b k n ≡ some k
+  pub one-false : (k n : ℕ) → 0 < n → true_name kind b k ≡ false → first_false kind b k n ≡ Some k
   unfolding first_false
   one-false k zero h e = absurd (omega arith)
   one-false k (suc n) h e = rw e
@@ -51,7 +51,7 @@ module _ (kind : Kind) (b : List ℕ) where
 
   -- ---- what is found
 
-  pub false-at : (n k j : ℕ) → first_false kind b k n ≡ some j → (k ≤ j) × (j < k + n) × (true_name kind b j ≡ false) × ((i : ℕ) → k ≤ i → i < j → true_name kind b i ≡ true)
+  pub false-at : (n k j : ℕ) → first_false kind b k n ≡ Some j → (k ≤ j) × (j < k + n) × (true_name kind b j ≡ false) × ((i : ℕ) → k ≤ i → i < j → true_name kind b i ≡ true)
   unfolding first_false
   false-at zero k j e = no-some e
   false-at (suc n) k j e =
@@ -67,7 +67,7 @@ module _ (kind : Kind) (b : List ℕ) where
       let q : k ≡ j = some_in (sym (one-false k (suc n) (omega arith) f) ∙ e) in
       (omega (arith, q), omega (arith, q), subst (λ (x : ℕ). true_name kind b x ≡ false) q f, λ i h l. absurd (omega (arith, q))))
 
-  pub all_true : (n k : ℕ) → first_false kind b k n ≡ none → (i : ℕ) → k ≤ i → i < k + n → true_name kind b i ≡ true
+  pub all_true : (n k : ℕ) → first_false kind b k n ≡ None → (i : ℕ) → k ≤ i → i < k + n → true_name kind b i ≡ true
   all_true zero k e i h l = absurd (omega arith)
   all_true (suc n) k e i h l =
       by_cases (true_name kind b k)
@@ -77,17 +77,17 @@ module _ (kind : Kind) (b : List ℕ) where
       (λ f. no-some (sym e ∙ one-false k (suc n) (omega arith) f))
 
   -- and the other way round
-  pub true-all : (n k : ℕ) → ((i : ℕ) → k ≤ i → i < k + n → true_name kind b i ≡ true) → first_false kind b k n ≡ none
+  pub true-all : (n k : ℕ) → ((i : ℕ) → k ≤ i → i < k + n → true_name kind b i ≡ true) → first_false kind b k n ≡ None
   true-all zero k f = none_left k 0 refl
   true-all (suc n) k f =
       next-true k n (f k (omega arith) (omega arith))
       ∙ true-all n (suc k) (λ i h l. f i (omega arith) (omega arith))
 
-  pub at_first : (n k j : ℕ) → k ≤ j → j < k + n → true_name kind b j ≡ false → ((i : ℕ) → k ≤ i → i < j → true_name kind b i ≡ true) → first_false kind b k n ≡ some j
+  pub at_first : (n k j : ℕ) → k ≤ j → j < k + n → true_name kind b j ≡ false → ((i : ℕ) → k ≤ i → i < j → true_name kind b i ≡ true) → first_false kind b k n ≡ Some j
   at_first zero k j h l f g = absurd (omega arith)
   at_first (suc n) k j h l f g =
       ⊎_elim
-      (λ q. one-false k (suc n) (omega arith) (subst (λ (x : ℕ). true_name kind b x ≡ false) (sym q) f) ∙ (λ i. some (q i)))
+      (λ q. one-false k (suc n) (omega arith) (subst (λ (x : ℕ). true_name kind b x ≡ false) (sym q) f) ∙ (λ i. Some (q i)))
       (λ m.
       next-true k n (g k (omega arith) m)
       ∙ at_first n (suc k) j m (omega arith) f (λ i p r. g i (omega arith) r))

@@ -9,14 +9,12 @@ ghost use Rattle.odb.specs.Store.{entries, store_is_ok};
 ghost use Rattle.fsck.specs.Names.{true_name, first_false, true_sum, sum_ok, sum_report, names_report, check_names, checked_number};
 
 use hash::Kind;
-use idlist::Found;
-use opening::Checked;
 use walk::Refusal;
 
 // What the check gives: no fault, or the refusal of the first fault; and the entry's number, counted from 0, where its name is false, else 0.
 #[derive(Clone, Copy)]
 pub struct Report {
-    pub outcome: Checked,
+    pub outcome: Result<(), Refusal>,
     pub entry: usize,
 }
 
@@ -27,12 +25,12 @@ fn wide(n: u8) -> u32
 }
 
 // The number of an outcome: 0 where there is no fault, else the refusal's.
-pub fn number(outcome: Checked) -> u32
+pub fn number(outcome: Result<(), Refusal>) -> u32
     ensures { result ≡ checked_number outcome }
 {
     match outcome {
-        Checked::Fine => 0,
-        Checked::Refused(r) => wide(walk::number(r)),
+        Ok(()) => 0,
+        Err(r) => wide(walk::number(r)),
     }
 }
 
@@ -46,19 +44,17 @@ fn is_named(kind: Kind, store: &[u8], k: usize) -> bool
 }
 
 // The first entry whose name is false. Ids rise, so it is the first in id order.
-fn first_false(kind: Kind, store: &[u8]) -> Found
+fn first_false(kind: Kind, store: &[u8]) -> Option<usize>
     requires { store_is_ok (width_of kind) store.now ≡ true }
     ensures { result ≡ found_of (first_false kind store.now 0 (entries store.now)) }
 {
     let n = odb::count(kind, store);
-    let mut k = 0;
-    while k < n {
+    for k in 0..n {
         if !is_named(kind, store, k) {
-            return Found::At(k);
+            return Some(k);
         }
-        k += 1;
     }
-    Found::Absent
+    None
 }
 
 // Where the checksum of a file of n bytes starts.
@@ -96,12 +92,12 @@ fn check_sum(kind: Kind, graph: &[u8]) -> Report
 {
     if sum_is_fine(kind, graph) {
         return Report {
-            outcome: Checked::Fine,
+            outcome: Ok(()),
             entry: 0,
         };
     }
     Report {
-        outcome: Checked::Refused(Refusal::FalseChecksum),
+        outcome: Err(Refusal::FalseChecksum),
         entry: 0,
     }
 }
@@ -112,11 +108,11 @@ fn check_digests(kind: Kind, store: &[u8], graph: &[u8]) -> Report
     ensures { result ≡ names_report kind graph.now (first_false kind store.now 0 (entries store.now)) }
 {
     match first_false(kind, store) {
-        Found::At(k) => Report {
-            outcome: Checked::Refused(Refusal::FalseName),
+        Some(k) => Report {
+            outcome: Err(Refusal::FalseName),
             entry: k,
         },
-        Found::Absent => check_sum(kind, graph),
+        None => check_sum(kind, graph),
     }
 }
 
@@ -125,10 +121,10 @@ pub fn check_names(kind: Kind, store: &[u8], graph: &[u8]) -> Report
     ensures { result ≡ check_names kind store.now graph.now }
 {
     match opening::check_input(kind, store, graph, &store[..0], &store[..0], &store[..0]) {
-        Checked::Refused(r) => Report {
-            outcome: Checked::Refused(r),
+        Err(r) => Report {
+            outcome: Err(r),
             entry: 0,
         },
-        Checked::Fine => check_digests(kind, store, graph),
+        Ok(()) => check_digests(kind, store, graph),
     }
 }

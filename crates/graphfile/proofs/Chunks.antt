@@ -1,7 +1,7 @@
 -- The table of the written file: the reader finds the chunks where they stand. Assumes nothing.
+use Rattle.std.specs.Prelude.{None, Some}
 use mathlib.Core.Path.{◌≡◌, refl, sym, ◌∙◌, subst}
 use mathlib.Core.Bool.{true}
-use mathlib.Core.Option.{none, some}
 use mathlib.Core.List.{List, [], ◌∷◌, ◌++◌}
 use Prim.Native.Nat.{ℕ, suc, ◌+◌, ◌*◌, ◌-◌, ◌≤◌, ◌<◌}
 use native.Mathlib.Omega.{arith}
@@ -45,15 +45,15 @@ of_right w g t =
       le-leb (chunks_of g EDGE (chunk_count g)) 1 t.few_edges,
     )
 
-start_of_lem : (g : List ℕ) (c n k : ℕ) → chunk_count g ≡ n → chunk_in g c n ≡ some k → chunk_start g c ≡ chunk_offset g k
+start_of_lem : (g : List ℕ) (c n k : ℕ) → chunk_count g ≡ n → chunk_in g c n ≡ Some k → chunk_start g c ≡ chunk_offset g k
 unfolding chunk_start
 start_of_lem g c n k ec e = rw (ec, e)
 
-size_of : (g : List ℕ) (c n k : ℕ) → chunk_count g ≡ n → chunk_in g c n ≡ some k → chunk_size g c ≡ chunk_offset g (suc k) - chunk_offset g k
+size_of : (g : List ℕ) (c n k : ℕ) → chunk_count g ≡ n → chunk_in g c n ≡ Some k → chunk_size g c ≡ chunk_offset g (suc k) - chunk_offset g k
 unfolding chunk_size
 size_of g c n k ec e = rw (ec, e)
 
-size_none : (g : List ℕ) (c n : ℕ) → chunk_count g ≡ n → chunk_in g c n ≡ none → chunk_size g c ≡ 0
+size_none : (g : List ℕ) (c n : ℕ) → chunk_count g ≡ n → chunk_in g c n ≡ None → chunk_size g c ≡ 0
 unfolding chunk_size
 size_none g c n ec e = rw (ec, e)
 
@@ -75,7 +75,7 @@ module _ (v w : ℕ) (g : List ℕ) (n : ℕ) (cc3 : chunk_count g ≡ 3) (i0 : 
   unfolding chunks_of
   ones3 = (rw (i0, i1, i2), rw (i0, i1, i2), rw (i0, i1, i2), rw (i0, i1, i2))
 
-  in3 : (chunk_in g OIDF 3 ≡ some 0) × (chunk_in g OIDL 3 ≡ some 1) × (chunk_in g CDAT 3 ≡ some 2) × (chunk_in g EDGE 3 ≡ none)
+  in3 : (chunk_in g OIDF 3 ≡ Some 0) × (chunk_in g OIDL 3 ≡ Some 1) × (chunk_in g CDAT 3 ≡ Some 2) × (chunk_in g EDGE 3 ≡ None)
   unfolding chunk_in
   in3 = (rw i0, rw (i0, i1), rw (i0, i1, i2), rw (i0, i1, i2))
 
@@ -127,7 +127,7 @@ module _ (v w : ℕ) (g : List ℕ) (n e : ℕ) (cc4 : chunk_count g ≡ 4) (i0 
   unfolding chunks_of
   ones4 = (rw (i0, i1, i2, i3), rw (i0, i1, i2, i3), rw (i0, i1, i2, i3), rw (i0, i1, i2, i3))
 
-  in4 : (chunk_in g OIDF 4 ≡ some 0) × (chunk_in g OIDL 4 ≡ some 1) × (chunk_in g CDAT 4 ≡ some 2) × (chunk_in g EDGE 4 ≡ some 3)
+  in4 : (chunk_in g OIDF 4 ≡ Some 0) × (chunk_in g OIDL 4 ≡ Some 1) × (chunk_in g CDAT 4 ≡ Some 2) × (chunk_in g EDGE 4 ≡ Some 3)
   unfolding chunk_in
   in4 = (rw i0, rw (i0, i1), rw (i0, i1, i2), rw (i0, i1, i2, i3))
 

@@ -1,7 +1,7 @@
 -- The reader takes the written file, and reads back each row. Assumes nothing.
+use Rattle.std.specs.Prelude.{Some}
 use mathlib.Core.Path.{◌≡◌, refl, sym, ◌∙◌, ap, subst}
 use mathlib.Core.Bool.{true, false, cond}
-use mathlib.Core.Option.{some}
 use mathlib.Core.List.{List, [], ◌∷◌, ◌++◌}
 use Prim.Native.Nat.{ℕ, zero, suc, ◌+◌, ◌*◌, ◌/◌, ◌%◌, ◌≤◌, ◌<◌}
 use native.Mathlib.Omega.{arith}
@@ -300,7 +300,7 @@ module _ (v w : ℕ) (some_bytes : 0 < w) (rs : List Row) (end front : List ℕ)
       unfolding e layout_of
       inside' i d = omega (arith, c.edge_size)
 
-      parents-there : graph_parents w g p ≡ some (row_at rs p).parents
+      parents-there : graph_parents w g p ≡ Some (row_at rs p).parents
       unfolding graph_parents
       parents-there =
           let h = R.each p l in

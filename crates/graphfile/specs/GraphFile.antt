@@ -1,7 +1,6 @@
 -- The commit-graph file that is written (document 02, card 4): "OIDF, OIDL, CDAT, then EDGE only if some commit has over two parents, its lists in row
 -- order", over rows alone. Ids are w bytes wide, and v is the hash version (card 13). The checksum is a function that is handed in. Assumes nothing.
-use Rattle.std.specs.Prelude.{◌≡◌, ℕ, zero, suc, ◌+◌, ◌*◌, ◌/◌, ◌%◌, ◌≤◌, ◌<◌, true, cond, length, get_or, eqb, leb, pos}
-use Rattle.std.proofs.Math.Option.{some}
+use Rattle.std.specs.Prelude.{◌≡◌, ℕ, zero, suc, ◌+◌, ◌*◌, ◌/◌, ◌%◌, ◌≤◌, ◌<◌, true, cond, length, get_or, eqb, leb, pos, Some}
 use mathlib.Core.List.{List, [], ◌∷◌, ◌++◌}
 use Rattle.hash.specs.Bytes.{Id, lt_id}
 use Rattle.commitgraph.specs.Graph.{OIDF, OIDL, CDAT, EDGE, no_parent, top_bit, row_size, graph_head, graph_ok, graph_count, graph_id, graph_parents, generation, graph_seconds}
@@ -151,7 +150,7 @@ pub record RowsRight (w : ℕ) (rs : List Row) : Type 0 where
 
 pub record RowRead (w : ℕ) (g : List ℕ) (p : ℕ) (r : Row) : Type 0 where
   pub id : graph_id w g p ≡ r.id
-  pub parents : graph_parents w g p ≡ some r.parents
+  pub parents : graph_parents w g p ≡ Some r.parents
   pub level : generation w g p ≡ r.level
   pub seconds : graph_seconds w g p ≡ pos r.seconds
 

@@ -1,7 +1,7 @@
 -- The tests before anything is written, one law for each way that they end. Assumes nothing.
+use Rattle.std.specs.Prelude.{None, Option, Some, Result, Ok, Err}
 use mathlib.Core.Path.{◌≡◌, refl, sym, ◌∙◌, ap, subst}
 use mathlib.Core.Bool.{Bool, true, false, cond}
-use mathlib.Core.Option.{Option, none, some}
 use mathlib.Core.List.{List}
 use Prim.Native.Nat.{ℕ, zero, suc, ◌+◌, ◌≤◌, ◌<◌}
 use native.Mathlib.Omega.{arith}
@@ -18,8 +18,8 @@ use Rattle.odb.proofs.Store.{standing_length, standing-count, broken_count}
 use Rattle.levels.specs.Levels.{fit, all_below}
 use Rattle.levels.specs.Search.{answer_of, most_nodes}
 use Rattle.levels.specs.StoreGraph.{graph_in, store_answer, StoreLevels}
-use Rattle.levels.specs.declared.Answer.{Answer}
-use Rattle.levels.specs.declared.Answer.TheVariants.{Levelled, NoLevels, Short, Torn}
+use Rattle.levels.specs.declared.LevelsError.{LevelsError}
+use Rattle.levels.specs.declared.LevelsError.TheVariants.{NoLevels, Short, Torn}
 use Rattle.walk.specs.declared.Refusal.{Refusal}
 use Rattle.walk.specs.declared.Refusal.TheVariants.{BufferTooSmall, InputTooLarge, CorruptStore, UnfitStore, UnfitSeconds, ShortOutput}
 use Rattle.walk.specs.Refusals.{number_of}
@@ -27,11 +27,9 @@ use Rattle.walk.proofs.Outcomes.{refusal_number_between}
 use Rattle.graphfile.specs.GraphFile.{edges_in}
 use Rattle.graphplan.specs.StoreRows.{Writable, rows_of, readable_body, fit_time, all_readable, all_in_time, fit_store}
 use Rattle.graphplan.specs.Entries.{edges_up_to, head_read, edges_count}
-use Rattle.graphplan.specs.Refusing.{most_bytes, refusal_for, survey_of, plan_after, plan_for, Plans}
-use Rattle.graphplan.specs.declared.Survey.TheVariants.{Unreadable, Late, Edges}
+use Rattle.graphplan.specs.Refusing.{most_bytes, refusal_for, survey_of, plan_after, plan_for, Plans, without_levels}
 use Rattle.graphplan.specs.declared.Plan.{Plan}
-use Rattle.graphplan.specs.declared.Plan.TheVariants.{Rows, Not}
-use Rattle.graphplan.specs.declared.entry.Head.TheVariants.{Good, NoHead}
+use Rattle.graphplan.specs.declared.entry.Head.{Head}
 use Rattle.graphplan.proofs.Heads.{head-told, head-none}
 use Rattle.graphplan.proofs.RowLaws.{edges-all, edges_few, count-few}
 use Rattle.levels.proofs.Lines.{lines_few}
@@ -55,15 +53,15 @@ pub reading_none : (w : ℕ) (b : List ℕ) → Reading w b true 0 0
 unfolding all_readable all_in_time all_below edges_up_to
 reading_none w b = record { readable = refl; in_time = refl; edges = refl }
 
-pub reading_next : {w : ℕ} {b : List ℕ} {good : Bool} {e k : ℕ} (n m : ℕ) (f : Bool) {d : ℕ} {good' : Bool} → Reading w b good e k → head_read w (entry_body w b k) ≡ Good n m f → d ≡ edges_count n
-    → good' ≡ cond good f false → Reading w b good' (e + d) (k + 1)
+pub reading_next : {w : ℕ} {b : List ℕ} {good : Bool} {e k : ℕ} (h : Head) {d : ℕ} {good' : Bool} → Reading w b good e k → head_read w (entry_body w b k) ≡ Some h → d ≡ edges_count h.parents
+    → good' ≡ cond good h.fits false → Reading w b good' (e + d) (k + 1)
 unfolding all_readable all_in_time all_below edges_up_to
-reading_next {w} {b} {good} {e} {k} n m f {d} {good'} r h a g =
-    let t = head-told w (entry_body w b k) n m f h in
+reading_next {w} {b} {good} {e} {k} h {d} {good'} r i a g =
+    let t = head-told w (entry_body w b k) h i in
     subst (λ (j : ℕ). Reading w b good' (e + d) j) (sym (add-one k))
     (record {
       readable = guard_of (all_below (λ k. readable_body w (entry_body w b k)) k) (readable_body w (entry_body w b k)) r.readable t.readable;
-      in_time = g ∙ ap (λ (x : Bool). cond x f false) r.in_time ∙ ap (λ (x : Bool). cond (all_below (λ k. fit_time w (entry_body w b k)) k) x false) t.fits;
+      in_time = g ∙ ap (λ (x : Bool). cond x h.fits false) r.in_time ∙ ap (λ (x : Bool). cond (all_below (λ k. fit_time w (entry_body w b k)) k) x false) t.fits;
       edges = ap (λ (x : ℕ). x + d) r.edges ∙ ap (λ (x : ℕ). edges_up_to w b k + x) (a ∙ ap edges_count t.count);
     })
 
@@ -82,33 +80,31 @@ unread w b (suc n) k h e =
     last true y = y
     last false y = refl
 
-pub survey_unread : (w : ℕ) (b : List ℕ) (n k : ℕ) → k < n → head_read w (entry_body w b k) ≡ NoHead → Unreadable ≡ survey_of w b n
+pub survey_unread : (w : ℕ) (b : List ℕ) (n k : ℕ) → k < n → head_read w (entry_body w b k) ≡ None → Err UnfitStore ≡ survey_of w b n
 unfolding survey_of all_readable
-survey_unread w b n k h e = sym (ap (λ (x : Bool). cond x (cond (all_in_time w b n) (Edges (edges_up_to w b n)) Late) Unreadable) (unread w b n k h (head-none w (entry_body w b k) e)))
+survey_unread w b n k h e = sym (ap (λ (x : Bool). cond x (cond (all_in_time w b n) (Ok (edges_up_to w b n)) (Err UnfitSeconds)) (Err UnfitStore)) (unread w b n k h (head-none w (entry_body w b k) e)))
 
-pub survey_edges : {w : ℕ} {b : List ℕ} {good : Bool} {e k : ℕ} (n : ℕ) → Reading w b good e k → k ≡ n → good ≡ true → Edges e ≡ survey_of w b n
+pub survey_edges : {w : ℕ} {b : List ℕ} {good : Bool} {e k : ℕ} (n : ℕ) → Reading w b good e k → k ≡ n → good ≡ true → Ok e ≡ survey_of w b n
 unfolding survey_of
 survey_edges {w} {b} {good} {e} {k} n r z g =
-    subst (λ (j : ℕ). Edges e ≡ survey_of w b j) z
-    (ap Edges r.edges
-    ∙ sym (ap (λ (x : Bool). cond x (cond (all_in_time w b k) (Edges (edges_up_to w b k)) Late) Unreadable) r.readable
-    ∙ ap (λ (x : Bool). cond x (Edges (edges_up_to w b k)) Late) (sym r.in_time ∙ g)))
+    subst (λ (j : ℕ). Ok e ≡ survey_of w b j) z
+    (ap Ok r.edges
+    ∙ sym (ap (λ (x : Bool). cond x (cond (all_in_time w b k) (Ok (edges_up_to w b k)) (Err UnfitSeconds)) (Err UnfitStore)) r.readable
+    ∙ ap (λ (x : Bool). cond x (Ok (edges_up_to w b k)) (Err UnfitSeconds)) (sym r.in_time ∙ g)))
 
-pub survey_late : {w : ℕ} {b : List ℕ} {good : Bool} {e k : ℕ} (n : ℕ) → Reading w b good e k → k ≡ n → good ≡ false → Late ≡ survey_of w b n
+pub survey_late : {w : ℕ} {b : List ℕ} {good : Bool} {e k : ℕ} (n : ℕ) → Reading w b good e k → k ≡ n → good ≡ false → Err UnfitSeconds ≡ survey_of w b n
 unfolding survey_of
 survey_late {w} {b} {good} {e} {k} n r z g =
-    subst (λ (j : ℕ). Late ≡ survey_of w b j) z
-    (sym (ap (λ (x : Bool). cond x (cond (all_in_time w b k) (Edges (edges_up_to w b k)) Late) Unreadable) r.readable
-    ∙ ap (λ (x : Bool). cond x (Edges (edges_up_to w b k)) Late) (sym r.in_time ∙ g)))
+    subst (λ (j : ℕ). Err UnfitSeconds ≡ survey_of w b j) z
+    (sym (ap (λ (x : Bool). cond x (cond (all_in_time w b k) (Ok (edges_up_to w b k)) (Err UnfitSeconds)) (Err UnfitStore)) r.readable
+    ∙ ap (λ (x : Bool). cond x (Ok (edges_up_to w b k)) (Err UnfitSeconds)) (sym r.in_time ∙ g)))
 
 -- ---- the refusals in their order
 
 -- what the search for levels leaves open
-after : Answer → Bool → Bool → Option Refusal
-after Torn r t = some CorruptStore
-after Short r t = some BufferTooSmall
-after NoLevels r t = some UnfitStore
-after Levelled r t = cond r (cond t none (some UnfitSeconds)) (some UnfitStore)
+after : Result (Unit {0}) LevelsError → Bool → Bool → Option Refusal
+after (Err e) r t = Some (without_levels e)
+after (Ok _) r t = cond r (cond t None (Some UnfitSeconds)) (Some UnfitStore)
 
 refusal_by_answer : (w : ℕ) (b : List ℕ) (lent : ℕ) → length b ≤ most_bytes → standing_entries w b ≤ most_nodes
     → refusal_for w b lent ≡ after (store_answer w b lent) (all_readable w b (standing_entries w b)) (all_in_time w b (standing_entries w b))
@@ -118,75 +114,80 @@ refusal_by_answer w b lent a h =
     (go (store_is_ok w b) (ltb lent (standing_entries w b)) (fit (graph_in w b)) (all_readable w b (standing_entries w b)) (all_in_time w b (standing_entries w b)))
   where
     go : (ok sh f r t : Bool)
-        → cond ok (cond sh (some BufferTooSmall) (cond (cond f r false) (cond t none (some UnfitSeconds)) (some UnfitStore))) (some CorruptStore)
-        ≡ after (pick ok (cond sh Short (cond f Levelled NoLevels)) Torn) r t
+        → cond ok (cond sh (Some BufferTooSmall) (cond (cond f r false) (cond t None (Some UnfitSeconds)) (Some UnfitStore))) (Some CorruptStore)
+        ≡ after (pick ok (cond sh (Err Short) (cond f (Ok tt) (Err NoLevels))) (Err Torn)) r t
     go false sh f r t = refl
     go true true f r t = refl
     go true false true r t = refl
     go true false false r t = refl
 
 unfoldable pub number : Option Refusal → ℕ
-number none = 0
-number (some r) = number_of r
+number None = 0
+number (Some r) = number_of r
 
 pub differ : {X : Type 0} (o p : Option Refusal) → (number o ≡ number p → ⊥) → o ≡ p → X
 differ o p h e = absurd (h (ap number e))
 
 -- ---- the plan
 
-module _ (w : ℕ) (b s s' : List ℕ) (a : Answer) (wide : 20 ≤ w) (small : length b ≤ most_bytes) (L : StoreLevels w b s s' a) where
+module _ (w : ℕ) (b s s' : List ℕ) (a : Result (Unit {0}) LevelsError) (wide : 20 ≤ w) (small : length b ≤ most_bytes) (L : StoreLevels w b s s' a) where
   known : refusal_for w b (length s) ≡ after a (all_readable w b (standing_entries w b)) (all_in_time w b (standing_entries w b))
   known =
       refusal_by_answer w b (length s) small (omega (arith, few-entries w b wide small))
-      ∙ ap (λ (x : Answer). after x (all_readable w b (standing_entries w b)) (all_in_time w b (standing_entries w b))) (sym L.answer)
+      ∙ ap (λ (x : Result (Unit {0}) LevelsError). after x (all_readable w b (standing_entries w b)) (all_in_time w b (standing_entries w b))) (sym L.answer)
 
-  pub plan-torn : a ≡ Torn → Plans w b s s' (Not CorruptStore)
+  plan-torn : a ≡ (Err Torn) → Plans w b s s' (Err CorruptStore)
   unfolding after number
   plan-torn e =
-      let r : refusal_for w b (length s) ≡ some CorruptStore = known ∙ ap (λ (x : Answer). after x (all_readable w b (standing_entries w b)) (all_in_time w b (standing_entries w b))) e in
+      let r : refusal_for w b (length s) ≡ Some CorruptStore = known ∙ ap (λ (x : Result (Unit {0}) LevelsError). after x (all_readable w b (standing_entries w b)) (all_in_time w b (standing_entries w b))) e in
       let k : s' ≡ s = L.torn e in
       record {
         answer = ap (plan_for w b) (sym r);
         spared = record { large = λ z. k; torn = λ z. k; short = λ z. k };
-        levels = λ z. differ (some CorruptStore) none (λ d. omega arith) (sym r ∙ z);
+        levels = λ z. differ (Some CorruptStore) None (λ d. omega arith) (sym r ∙ z);
       }
 
-  pub plan-short : a ≡ Short → Plans w b s s' (Not BufferTooSmall)
+  plan-short : a ≡ (Err Short) → Plans w b s s' (Err BufferTooSmall)
   unfolding after number
   plan-short e =
-      let r : refusal_for w b (length s) ≡ some BufferTooSmall = known ∙ ap (λ (x : Answer). after x (all_readable w b (standing_entries w b)) (all_in_time w b (standing_entries w b))) e in
+      let r : refusal_for w b (length s) ≡ Some BufferTooSmall = known ∙ ap (λ (x : Result (Unit {0}) LevelsError). after x (all_readable w b (standing_entries w b)) (all_in_time w b (standing_entries w b))) e in
       let k : s' ≡ s = L.short e in
       record {
         answer = ap (plan_for w b) (sym r);
         spared = record { large = λ z. k; torn = λ z. k; short = λ z. k };
-        levels = λ z. differ (some BufferTooSmall) none (λ d. omega arith) (sym r ∙ z);
+        levels = λ z. differ (Some BufferTooSmall) None (λ d. omega arith) (sym r ∙ z);
       }
 
-  pub plan-none : a ≡ NoLevels → Plans w b s s' (Not UnfitStore)
+  plan-none : a ≡ (Err NoLevels) → Plans w b s s' (Err UnfitStore)
   unfolding after number
   plan-none e =
-      let r : refusal_for w b (length s) ≡ some UnfitStore = known ∙ ap (λ (x : Answer). after x (all_readable w b (standing_entries w b)) (all_in_time w b (standing_entries w b))) e in
+      let r : refusal_for w b (length s) ≡ Some UnfitStore = known ∙ ap (λ (x : Result (Unit {0}) LevelsError). after x (all_readable w b (standing_entries w b)) (all_in_time w b (standing_entries w b))) e in
       record {
         answer = ap (plan_for w b) (sym r);
         spared = record {
-          large = λ z. differ (some UnfitStore) (some InputTooLarge) (λ d. omega arith) (sym r ∙ z);
-          torn = λ z. differ (some UnfitStore) (some CorruptStore) (λ d. omega arith) (sym r ∙ z);
-          short = λ z. differ (some UnfitStore) (some BufferTooSmall) (λ d. omega arith) (sym r ∙ z);
+          large = λ z. differ (Some UnfitStore) (Some InputTooLarge) (λ d. omega arith) (sym r ∙ z);
+          torn = λ z. differ (Some UnfitStore) (Some CorruptStore) (λ d. omega arith) (sym r ∙ z);
+          short = λ z. differ (Some UnfitStore) (Some BufferTooSmall) (λ d. omega arith) (sym r ∙ z);
         };
-        levels = λ z. differ (some UnfitStore) none (λ d. omega arith) (sym r ∙ z);
+        levels = λ z. differ (Some UnfitStore) None (λ d. omega arith) (sym r ∙ z);
       }
 
-  late-apart : (r t : Bool) (q : Refusal) → (18 ≡ number_of q → ⊥) → (19 ≡ number_of q → ⊥) → (0 ≡ number_of q → ⊥) → after Levelled r t ≡ some q → ⊥
+  pub plan-refused : (e : LevelsError) → a ≡ Err e → Plans w b s s' (Err (without_levels e))
+  plan-refused Torn h = plan-torn h
+  plan-refused Short h = plan-short h
+  plan-refused NoLevels h = plan-none h
+
+  late-apart : (r t : Bool) (q : Refusal) → (18 ≡ number_of q → ⊥) → (19 ≡ number_of q → ⊥) → (0 ≡ number_of q → ⊥) → after (Ok tt) r t ≡ Some q → ⊥
   unfolding after number
   late-apart false t q x y z e = x (ap number e)
   late-apart true false q x y z e = y (ap number e)
   late-apart true true q x y z e = z (ap number e)
 
-  pub plan-rows : (n : ℕ) (r : Plan) → a ≡ Levelled → n ≡ standing_entries w b → r ≡ plan_after n (survey_of w b n) → Plans w b s s' r
+  pub plan-rows : (n : ℕ) (r : Result Plan Refusal) → a ≡ (Ok tt) → n ≡ standing_entries w b → r ≡ plan_after n (survey_of w b n) → Plans w b s s' r
   unfolding survey_of after
   plan-rows n r e m p =
-      let k : refusal_for w b (length s) ≡ after Levelled (all_readable w b (standing_entries w b)) (all_in_time w b (standing_entries w b)) =
-      known ∙ ap (λ (x : Answer). after x (all_readable w b (standing_entries w b)) (all_in_time w b (standing_entries w b))) e in
+      let k : refusal_for w b (length s) ≡ after (Ok tt) (all_readable w b (standing_entries w b)) (all_in_time w b (standing_entries w b)) =
+      known ∙ ap (λ (x : Result (Unit {0}) LevelsError). after x (all_readable w b (standing_entries w b)) (all_in_time w b (standing_entries w b))) e in
       let p' : r ≡ plan_after (standing_entries w b) (survey_of w b (standing_entries w b)) = subst (λ (j : ℕ). r ≡ plan_after j (survey_of w b j)) m p in
       record {
         answer = p' ∙ same (all_readable w b (standing_entries w b)) (all_in_time w b (standing_entries w b)) ∙ ap (plan_for w b) (sym k);
@@ -199,26 +200,26 @@ module _ (w : ℕ) (b s s' : List ℕ) (a : Answer) (wide : 20 ≤ w) (small : l
       }
     where
       same : (R T : Bool)
-          → plan_after (standing_entries w b) (cond R (cond T (Edges (edges_up_to w b (standing_entries w b))) Late) Unreadable) ≡ plan_for w b (after Levelled R T)
+          → plan_after (standing_entries w b) (cond R (cond T (Ok (edges_up_to w b (standing_entries w b))) (Err UnfitSeconds)) (Err UnfitStore)) ≡ plan_for w b (after (Ok tt) R T)
       same false T = refl
       same true false = refl
-      same true true = ap (Rows (standing_entries w b)) (edges-all w b)
+      same true true = ap (λ (x : ℕ). Ok (record { rows = standing_entries w b; edges = x })) (edges-all w b)
 
-pub plan_large : (w : ℕ) (b s : List ℕ) → most_bytes < length b → Plans w b s s (Not InputTooLarge)
+pub plan_large : (w : ℕ) (b s : List ℕ) → most_bytes < length b → Plans w b s s (Err InputTooLarge)
 unfolding refusal_for number
 plan_large w b s h =
-    let e : refusal_for w b (length s) ≡ some InputTooLarge = rw (lt-ltb most_bytes (length b) h) in
+    let e : refusal_for w b (length s) ≡ Some InputTooLarge = rw (lt-ltb most_bytes (length b) h) in
     record {
       answer = ap (plan_for w b) (sym e);
       spared = record { large = λ z. refl; torn = λ z. refl; short = λ z. refl };
-      levels = λ z. differ (some InputTooLarge) none (λ d. omega arith) (sym e ∙ z);
+      levels = λ z. differ (Some InputTooLarge) None (λ d. omega arith) (sym e ∙ z);
     }
 
 -- ---- accepted
 
-open' : {X : Type 0} (q : Refusal) → some q ≡ none → X
+open' : {X : Type 0} (q : Refusal) → Some q ≡ None → X
 unfolding number
-open' q e = differ (some q) none (positive q) e
+open' q e = differ (Some q) None (positive q) e
   where
     positive : (q : Refusal) → number_of q ≡ 0 → ⊥
     positive q d = let p = (refusal_number_between q).0 in omega arith
@@ -232,7 +233,7 @@ record Passed (l ok sh f r t : Bool) : Type 0 where
   in_time : t ≡ true
 
 passed : (l ok sh f r t : Bool)
-    → cond l (some InputTooLarge) (cond ok (cond sh (some BufferTooSmall) (cond (cond f r false) (cond t none (some UnfitSeconds)) (some UnfitStore))) (some CorruptStore)) ≡ none → Passed l ok sh f r t
+    → cond l (Some InputTooLarge) (cond ok (cond sh (Some BufferTooSmall) (cond (cond f r false) (cond t None (Some UnfitSeconds)) (Some UnfitStore))) (Some CorruptStore)) ≡ None → Passed l ok sh f r t
 passed true ok sh f r t e = open' InputTooLarge e
 passed false false sh f r t e = open' CorruptStore e
 passed false true true f r t e = open' BufferTooSmall e
@@ -241,7 +242,7 @@ passed false true false true false t e = open' UnfitStore e
 passed false true false true true false e = open' UnfitSeconds e
 passed false true false true true true e = record { large = refl; good = refl; room = refl; levels = refl; readable = refl; in_time = refl }
 
-pub accepted : (w : ℕ) (b : List ℕ) (lent : ℕ) → refusal_for w b lent ≡ none → Writable w b (standing_entries w b)
+pub accepted : (w : ℕ) (b : List ℕ) (lent : ℕ) → refusal_for w b lent ≡ None → Writable w b (standing_entries w b)
 unfolding refusal_for fit_store
 accepted w b lent e =
     let n = standing_entries w b in
@@ -258,46 +259,42 @@ accepted w b lent e =
 
 -- ---- from a plan to an answer
 
-refusal_in : Plan → Refusal
-refusal_in (Rows n e) = ShortOutput
-refusal_in (Not r) = r
+refusal_in : Result Plan Refusal → Refusal
+refusal_in (Ok p) = ShortOutput
+refusal_in (Err r) = r
 
-rows_in : Plan → ℕ
-rows_in (Rows n e) = n
-rows_in (Not r) = 0
+plan_in : Result Plan Refusal → Plan
+plan_in (Ok p) = p
+plan_in (Err r) = record { rows = 0; edges = 0 }
 
-edges_in_plan : Plan → ℕ
-edges_in_plan (Rows n e) = e
-edges_in_plan (Not r) = 0
+is_plan : Result Plan Refusal → Bool
+is_plan (Ok p) = true
+is_plan (Err r) = false
 
-is_plan : Plan → Bool
-is_plan (Rows n e) = true
-is_plan (Not r) = false
-
-pub plan_not : (w : ℕ) (b : List ℕ) (o : Option Refusal) (q : Refusal) → Not q ≡ plan_for w b o → o ≡ some q
+pub plan_not : (w : ℕ) (b : List ℕ) (o : Option Refusal) (q : Refusal) → Err q ≡ plan_for w b o → o ≡ Some q
 unfolding refusal_in is_plan
-plan_not w b none q e = clash {b = true} refl (sym (ap is_plan e))
-plan_not w b (some x) q e = ap some (sym (ap refusal_in e))
+plan_not w b None q e = clash {b = true} refl (sym (ap is_plan e))
+plan_not w b (Some x) q e = ap Some (sym (ap refusal_in e))
 
-pub record Planned (w : ℕ) (b : List ℕ) (o : Option Refusal) (n e : ℕ) : Type 0 where
-  pub none_said : o ≡ none
-  pub rows : n ≡ standing_entries w b
-  pub edges : e ≡ length (edges_in (rows_of w b))
+pub record Planned (w : ℕ) (b : List ℕ) (o : Option Refusal) (p : Plan) : Type 0 where
+  pub none_said : o ≡ None
+  pub rows : p.rows ≡ standing_entries w b
+  pub edges : p.edges ≡ length (edges_in (rows_of w b))
 
-pub plan_some : (w : ℕ) (b : List ℕ) (o : Option Refusal) (n e : ℕ) → Rows n e ≡ plan_for w b o → Planned w b o n e
-unfolding is_plan rows_in edges_in_plan
-plan_some w b none n e h = record { none_said = refl; rows = ap rows_in h; edges = ap edges_in_plan h }
-plan_some w b (some x) n e h = clash {b = true} refl (ap is_plan h)
+pub plan_some : (w : ℕ) (b : List ℕ) (o : Option Refusal) (p : Plan) → Ok p ≡ plan_for w b o → Planned w b o p
+unfolding is_plan plan_in
+plan_some w b None p h = record { none_said = refl; rows = ap (λ (x : Result Plan Refusal). (plan_in x).rows) h; edges = ap (λ (x : Result Plan Refusal). (plan_in x).edges) h }
+plan_some w b (Some x) p h = clash {b = true} refl (ap is_plan h)
 
-module _ (w : ℕ) (b s s' : List ℕ) (r : Plan) (P : Plans w b s s' r) where
-  pub rows-planned : (n e : ℕ) → r ≡ Rows n e → Planned w b (refusal_for w b (length s)) n e
-  rows-planned n e h = plan_some w b (refusal_for w b (length s)) n e (sym h ∙ P.answer)
+module _ (w : ℕ) (b s s' : List ℕ) (r : Result Plan Refusal) (P : Plans w b s s' r) where
+  pub rows-planned : (p : Plan) → r ≡ Ok p → Planned w b (refusal_for w b (length s)) p
+  rows-planned p h = plan_some w b (refusal_for w b (length s)) p (sym h ∙ P.answer)
 
-  pub plan-small : 20 ≤ w → (n e : ℕ) → r ≡ Rows n e → (n ≤ 699050) × (e ≤ 178257750)
-  plan-small wide n e h =
-      let p = rows-planned n e h in
+  pub plan-small : 20 ≤ w → (p : Plan) → r ≡ Ok p → (p.rows ≤ 699050) × (p.edges ≤ 178257750)
+  plan-small wide q h =
+      let p = rows-planned q h in
       let f = few-entries w b wide (accepted w b (length s) p.none_said).small in
       (omega (arith, p.rows), omega (arith, p.edges, edges-all w b, edges_few w b (standing_entries w b)))
 
-pub edges-small : (w : ℕ) (b : List ℕ) (n m : ℕ) (f : Bool) → head_read w b ≡ Good n m f → edges_count n ≤ 255
-edges-small w b n m f h = count-few n (omega (arith, (head-told w b n m f h).count, lines_few w b))
+pub edges-small : (w : ℕ) (b : List ℕ) (h : Head) → head_read w b ≡ Some h → edges_count h.parents ≤ 255
+edges-small w b h e = count-few h.parents (omega (arith, (head-told w b h e).count, lines_few w b))

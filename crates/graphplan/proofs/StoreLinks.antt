@@ -1,7 +1,7 @@
 -- Parents by number: what is read of a parent line is its number in the row. Assumes nothing.
+use Rattle.std.specs.Prelude.{None, Option, Some}
 use mathlib.Core.Path.{◌≡◌, refl, sym, ◌∙◌, ap}
 use mathlib.Core.Bool.{true}
-use mathlib.Core.Option.{Option, none, some}
 use mathlib.Core.List.{List, []}
 use Prim.Native.Nat.{ℕ, suc, ◌+◌, ◌≤◌, ◌<◌}
 use native.Mathlib.Omega.{arith}
@@ -29,8 +29,8 @@ unfolding entry_of
 entry-most w b n x h = go (find_in (entry_ids w b) x (standing_entries w b)) refl
   where
     go : (o : Option ℕ) → find_in (entry_ids w b) x (standing_entries w b) ≡ o → if_some o n (λ k. k) ≤ n
-    go none e = omega arith
-    go (some k) e = omega (arith, (find-hit (entry_ids w b) x (standing_entries w b) k e).0)
+    go None e = omega arith
+    go (Some k) e = omega (arith, (find-hit (entry_ids w b) x (standing_entries w b) k e).0)
 
 pub parents-count : (w : ℕ) (b : List ℕ) (k : ℕ) → length (row_of w b k).parents ≡ length (lines_in w (entry_body w b k)).ids
 unfolding row_of
@@ -44,7 +44,7 @@ module _ (w : ℕ) (b : List ℕ) (n k : ℕ) (W : Writable w b n) (inside : k <
   number_read j r h f =
       let ids = (lines_in w (entry_body w b k)).ids in
       let l : j < length ids = omega (arith, length_numbers w b ids) in
-      let more = (head_at w b n W k inside).3.more in
+      let more = (head_at w b n W k inside).1.more in
       f (good-rises w b W.ok) (omega (arith, lines_few w (entry_body w b k))) (omega (arith, count_none w (entry_body w b k) more))
       ∙ ap (λ (m : ℕ). entry_of w b m (get_or ids j [])) W.many
       ∙ sym (number_at w b ids j l)

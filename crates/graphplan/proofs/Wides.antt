@@ -1,17 +1,18 @@
 -- Ids and rows of a store are of one width each: ids stand whole in a good store, and a readable body has a tree line. Assumes nothing.
+use Rattle.std.specs.Prelude.{None, Option, Some, is_some as is_there}
 use mathlib.Core.Path.{◌≡◌, refl, sym, ◌∙◌, ap}
-use mathlib.Core.Bool.{Bool, true}
-use mathlib.Core.Option.{Option, none, some}
+use mathlib.Core.Bool.{true}
 use mathlib.Core.List.{List}
 use Prim.Native.Nat.{ℕ, ◌+◌, ◌≤◌, ◌<◌}
 use native.Mathlib.Omega.{arith}
 use lib.ListN.{length}
 use Rattle.hash.specs.Bytes.{Id}
-use Rattle.hash.proofs.Tests.{clash}
+use Rattle.hash.proofs.Tests.{clash, some_in}
 use Rattle.idlist.proofs.Place.{length_id_of}
 use Rattle.object.specs.Header.{header, id_line, tree_word, with_tree}
-use Rattle.object.specs.Ids.{id_room, id_in}
+use Rattle.object.specs.Ids.{id_room, padded, id_in}
 use Rattle.object.specs.Read.{tree_id_at, id_read}
+use Rattle.object.specs.declared.ObjectId.{ObjectId}
 use Rattle.object.proofs.Lines.{id_line-some}
 use Rattle.object.proofs.IdBytes.{id_in_lem}
 use Rattle.odb.specs.Store.{entry_ids, standing_entries}
@@ -25,32 +26,36 @@ use Rattle.levels.proofs.Rules.{all-at}
 use Rattle.graphplan.specs.StoreRows.{Writable, tree_of, id_or, readable_body, fit_time, all_readable, all_in_time, row_of, rows_of}
 use Rattle.graphplan.specs.Entries.{head_read}
 use Rattle.graphplan.specs.declared.entry.Head.{Head}
-use Rattle.graphplan.specs.declared.entry.Head.TheVariants.{Good, NoHead}
 use Rattle.graphplan.proofs.Heads.{HeadTold, head-told, head-some}
 use Rattle.graphplan.proofs.RowLaws.{length_rows, row-at}
 use Rattle.graphplan.proofs.Fans.{entry-is}
 
 -- a good tree line
-tree-line : (w : ℕ) (b : List ℕ) → (header w b).tree ≡ true → (t : Id × List ℕ) × (id_line w tree_word b ≡ some t)
+tree-line : (w : ℕ) (b : List ℕ) → (header w b).tree ≡ true → (t : Id × List ℕ) × (id_line w tree_word b ≡ Some t)
 unfolding header
 tree-line w b e = go (id_line w tree_word b) refl e
   where
-    go : (o : Option (Id × List ℕ)) → id_line w tree_word b ≡ o → (with_tree w b o).tree ≡ true → (t : Id × List ℕ) × (id_line w tree_word b ≡ some t)
-    go none d h = clash h refl
-    go (some t) d h = (t, d)
+    go : (o : Option (Id × List ℕ)) → id_line w tree_word b ≡ o → (with_tree w b o).tree ≡ true → (t : Id × List ℕ) × (id_line w tree_word b ≡ Some t)
+    go None d h = clash h refl
+    go (Some t) d h = (t, d)
 
 pub tree-long : (w : ℕ) (b : List ℕ) → (header w b).tree ≡ true → length (tree_of w b) ≡ w
 unfolding tree_of
 tree-long w b e = let t = tree-line w b e in ap (λ (o : Option (Id × List ℕ)). length (id_or o)) t.1 ∙ (id_line-some w tree_word b t.0 t.1).width
 
 -- the id that is read there
-pub tree-read : (w : ℕ) (b : List ℕ) → w ≤ id_room → (header w b).tree ≡ true → id_in w (tree_id_at w b 0).id.bytes ≡ tree_of w b
+pub tree-read : (w : ℕ) (b : List ℕ) → w ≤ id_room → (header w b).tree ≡ true → {x : ObjectId} → tree_id_at w b 0 ≡ Some x → id_in w x.bytes ≡ tree_of w b
 unfolding tree_of tree_id_at
-tree-read w b small e =
+tree-read w b small e {x} f =
     let t = tree-line w b e in
-    ap (λ (o : Option (Id × List ℕ)). id_in w (id_read o).id.bytes) t.1
+    let read : Some x ≡ Some (record { bytes = padded t.0.0 }) = sym f ∙ ap id_read t.1 in
+    ap (λ (y : ObjectId). id_in w y.bytes) (some_in read)
     ∙ id_in_lem w t.0.0 (id_line-some w tree_word b t.0 t.1).width small
     ∙ sym (ap id_or t.1)
+
+pub tree-there : (w : ℕ) (b : List ℕ) → (header w b).tree ≡ true → is_there (tree_id_at w b 0) ≡ true
+unfolding tree_id_at
+tree-there w b e = let t = tree-line w b e in ap (λ (o : Option (Id × List ℕ)). is_there (id_read o)) t.1
 
 module _ (w : ℕ) (b : List ℕ) (n : ℕ) (W : Writable w b n) where
   pub readable-at : (k : ℕ) → k < n → readable_body w (entry_body w b k) ≡ true
@@ -62,12 +67,12 @@ module _ (w : ℕ) (b : List ℕ) (n : ℕ) (W : Writable w b n) where
   in-time-at k h = all-at (λ k. fit_time w (entry_body w b k)) n k W.in_time h
 
   -- what the head of entry k tells
-  pub head_at : (k : ℕ) → k < n → (c : ℕ) × (m : ℕ) × (f : Bool) × HeadTold w (entry_body w b k) c m f
+  pub head_at : (k : ℕ) → k < n → (h : Head) × HeadTold w (entry_body w b k) h
   head_at k h = go (head_read w (entry_body w b k)) refl
     where
-      go : (r : Head) → head_read w (entry_body w b k) ≡ r → (c : ℕ) × (m : ℕ) × (f : Bool) × HeadTold w (entry_body w b k) c m f
-      go (Good c m f) e = (c, m, f, head-told w (entry_body w b k) c m f e)
-      go NoHead e = absurd (head-some w (entry_body w b k) (readable-at k h) e)
+      go : (r : Option Head) → head_read w (entry_body w b k) ≡ r → (h : Head) × HeadTold w (entry_body w b k) h
+      go (Some h) e = (h, head-told w (entry_body w b k) h e)
+      go None e = absurd (head-some w (entry_body w b k) (readable-at k h) e)
 
   pub id-long : (k : ℕ) → k < n → length (entry_id w b k) ≡ w
   unfolding entry_ids
@@ -77,7 +82,7 @@ module _ (w : ℕ) (b : List ℕ) (n : ℕ) (W : Writable w b n) where
 
   pub row-tree-long : (k : ℕ) → k < n → length (row_of w b k).tree ≡ w
   unfolding row_of
-  row-tree-long k h = tree-long w (entry_body w b k) (head_at k h).3.tree
+  row-tree-long k h = tree-long w (entry_body w b k) (head_at k h).1.tree
 
   many : length (rows_of w b) ≡ n
   many = length_rows w b ∙ sym W.many

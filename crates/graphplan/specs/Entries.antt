@@ -1,24 +1,20 @@
 -- What is read of one entry of a store for its row. Assumes nothing.
-use Rattle.std.specs.Prelude.{◌≡◌, ℕ, zero, suc, ◌+◌, ◌-◌, ◌≤◌, ◌<◌, cond, List, length, get_or, ltb, nat_abs}
+use Rattle.std.specs.Prelude.{◌≡◌, ℕ, zero, suc, ◌+◌, ◌-◌, ◌≤◌, ◌<◌, cond, List, length, get_or, ltb, nat_abs, None, Option, Some, Ok, Err}
 use Rattle.object.specs.Header.{header}
-use Rattle.object.specs.Read.{reading_of}
-use Rattle.object.specs.declared.Reading.{Reading}
-use Rattle.object.specs.declared.Reading.TheVariants.{Readable, Bad, Crowded}
+use Rattle.object.specs.Read.{reading_of, Reading}
 use Rattle.odb.specs.Lookup.{entry_id, entry_body}
 use Rattle.levels.specs.Levels.{level_of}
 use Rattle.levels.specs.Search.{at, tag}
 use Rattle.levels.specs.StoreGraph.{graph_in, lines_in}
 use Rattle.graphplan.specs.StoreRows.{fit_seconds}
 use Rattle.graphplan.specs.declared.entry.Head.{Head}
-use Rattle.graphplan.specs.declared.entry.Head.TheVariants.{Good, NoHead}
 
 -- what is read of a header for its row
-abbrev pub head_given : Reading → Head
-head_given (Readable n s) = Good n (nat_abs s.seconds.0) (fit_seconds s.seconds.0)
-head_given Bad = NoHead
-head_given Crowded = NoHead
+abbrev pub head_given : Reading → Option Head
+head_given (Ok r) = Some (record { parents = r.parents; seconds = nat_abs r.stamp.seconds.0; fits = fit_seconds r.stamp.seconds.0 })
+head_given (Err e) = None
 
-unfoldable pub head_read : ℕ → List ℕ → Head
+unfoldable pub head_read : ℕ → List ℕ → Option Head
 head_read w b = head_given (reading_of (header w b))
 
 -- how many entries of EDGE a row of c parents has

@@ -1,13 +1,10 @@
 -- The rows of a store (document 02, card 4): "Two books with the same ids, trees, parents and seconds give equal files", since a row is made of nothing else.
 -- Assumes nothing.
-use Rattle.std.specs.Prelude.{◌≡◌, ℕ, zero, suc, ◌≤◌, Bool, true, false, cond, List, [], ◌∷◌, length, ltb, ℤ, pos, nat_abs}
-use Rattle.std.proofs.Math.Option.{Option, none, some}
+use Rattle.std.specs.Prelude.{◌≡◌, ℕ, zero, suc, ◌≤◌, Bool, true, false, cond, List, [], ◌∷◌, length, ltb, ℤ, pos, nat_abs, None, Option, Some, Ok, Err}
 use Rattle.std.specs.Int.Signed.{lt_z}
 use Rattle.hash.specs.Bytes.{Id, if_some}
 use Rattle.object.specs.Header.{id_line, tree_word, seconds_of, header}
-use Rattle.object.specs.Read.{reading_of}
-use Rattle.object.specs.declared.Reading.{Reading}
-use Rattle.object.specs.declared.Reading.TheVariants.{Readable, Bad, Crowded}
+use Rattle.object.specs.Read.{reading_of, Reading}
 use Rattle.odb.specs.Store.{standing_entries, store_is_ok}
 use Rattle.odb.specs.Lookup.{entry_id, entry_body}
 use Rattle.levels.specs.Levels.{level_of, all_below, fit}
@@ -18,8 +15,8 @@ use Rattle.graphfile.specs.GraphFile.{Row}
 
 -- the id of a line that may stand there
 abbrev pub id_or : Option (Id × List ℕ) → Id
-id_or none = []
-id_or (some t) = t.0
+id_or None = []
+id_or (Some t) = t.0
 
 -- its tree
 unfoldable pub tree_of : ℕ → List ℕ → Id
@@ -31,9 +28,8 @@ seconds_size w b = if_some (seconds_of w b) 0 nat_abs
 
 -- "A commit is readable if all four parts hold and it has at most 256 parents" (document 01)
 abbrev pub is_readable : Reading → Bool
-is_readable (Readable n s) = true
-is_readable Bad = false
-is_readable Crowded = false
+is_readable (Ok r) = true
+is_readable (Err e) = false
 
 unfoldable pub readable_body : ℕ → List ℕ → Bool
 readable_body w b = is_readable (reading_of (header w b))

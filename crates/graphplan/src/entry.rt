@@ -9,13 +9,14 @@ ghost use Rattle.graphplan.specs.Entries.{edges_count, head_given, head_read, by
 
 use date::Seconds;
 use hash::Kind;
-use object::Reading;
+use object::{HeaderError, ReadableHeader};
 
 // What a readable header says for its row: the number of its parents, its seconds without their sign, and whether a row can hold them.
 #[derive(Clone, Copy)]
-pub enum Head {
-    Good(usize, usize, bool),
-    NoHead,
+pub struct Head {
+    pub parents: usize,
+    pub seconds: usize,
+    pub fits: bool,
 }
 
 // The seconds from which on no row can hold them.
@@ -47,21 +48,24 @@ fn seconds_fit(s: Seconds) -> bool
     date::magnitude(s) < MOST_SECONDS
 }
 
-fn head_given(r: Reading) -> Head
+fn head_given(r: Result<ReadableHeader, HeaderError>) -> Option<Head>
     ensures { result ≡ head_given r }
 {
     match r {
-        Reading::Readable { parents, stamp } => {
+        Ok(ReadableHeader { parents, stamp }) => {
             let s = stamp.seconds;
-            Head::Good(parents, wide(date::magnitude(s)), seconds_fit(s))
+            Some(Head {
+                parents,
+                seconds: wide(date::magnitude(s)),
+                fits: seconds_fit(s),
+            })
         }
-        Reading::Bad => Head::NoHead,
-        Reading::Crowded => Head::NoHead,
+        Err(_) => None,
     }
 }
 
 // The header of entry k.
-pub fn head_of(kind: Kind, store: &[u8], k: usize) -> Head
+pub fn head_of(kind: Kind, store: &[u8], k: usize) -> Option<Head>
     ensures { result ≡ head_read (width_of kind) (entry_body (width_of kind) store.now k) }
 {
     head_given(object::readable(kind, odb::entry_bytes(kind, store, k)))
@@ -106,13 +110,10 @@ fn first_byte(kind: Kind, store: &[u8], k: usize) -> usize
 pub fn past_byte(kind: Kind, store: &[u8], n: usize, k: usize, x: usize) -> usize
     ensures { Advanced (byte_of (width_of kind) store.now) n k x result }
 {
-    let mut i = k;
-    while i < n {
-        let b = first_byte(kind, store, i);
-        if x < b {
+    for i in k..n {
+        if x < first_byte(kind, store, i) {
             return i;
         }
-        i += 1;
     }
-    i
+    n
 }

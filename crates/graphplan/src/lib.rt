@@ -6,25 +6,17 @@ pub mod entry;
 
 ghost use Rattle.std.specs.Prelude.{◌≡◌, cond, true, false, ◌≤◌};
 ghost use Rattle.hash.specs.Bytes.{width_of};
-ghost use Rattle.graphplan.specs.Refusing.{Plans, survey_of, plan_after};
+ghost use Rattle.graphplan.specs.Refusing.{Plans, survey_of, plan_after, without_levels};
 
 use hash::Kind;
-use levels::Answer;
+use levels::LevelsError;
 use walk::Refusal;
 
-// What is found before anything is written: the number of rows and of the entries of EDGE, or why there is no file.
+// What is to be written: how many rows, and how many entries of EDGE.
 #[derive(Clone, Copy)]
-pub enum Plan {
-    Rows(usize, usize),
-    Not(Refusal),
-}
-
-// What reading every header finds: one is unreadable; all are readable, and some seconds do not fit; the number of the entries of EDGE.
-#[derive(Clone, Copy)]
-pub enum Survey {
-    Unreadable,
-    Late,
-    Edges(usize),
+pub struct Plan {
+    pub rows: usize,
+    pub edges: usize,
 }
 
 // The most bytes of a store.
@@ -36,52 +28,54 @@ fn both(a: bool, b: bool) -> bool
     if a { b } else { false }
 }
 
-// Reads the header of each of n entries.
-fn read_heads(kind: Kind, store: &[u8], n: usize) -> Survey
+// Reads the header of each of n entries: how many entries of EDGE they make, or that one is unreadable, or that all are readable and some seconds do not fit.
+fn read_heads(kind: Kind, store: &[u8], n: usize) -> Result<usize, Refusal>
     requires { n ≤ 4294967296 }
     ensures { result ≡ survey_of (width_of kind) store.now n }
 {
     let mut good = true;
     let mut e: usize = 0;
-    let mut k: usize = 0;
-    while k < n {
-        match entry::head_of(kind, store, k) {
-            entry::Head::Good(parents, _, fit) => {
-                e += entry::edges_of(parents);
-                good = both(good, fit);
-            }
-            entry::Head::NoHead => {
-                return Survey::Unreadable;
-            }
-        }
-        k += 1;
+    for k in 0usize..n {
+        let Some(head) = entry::head_of(kind, store, k) else {
+            return Err(Refusal::UnfitStore);
+        };
+        e += entry::edges_of(head.parents);
+        good = both(good, head.fits);
     }
-    if good { Survey::Edges(e) } else { Survey::Late }
+    if good {
+        Ok(e)
+    } else {
+        Err(Refusal::UnfitSeconds)
+    }
 }
 
 // What is to be written of a store whose levels are found, or why nothing is.
-fn planned(kind: Kind, store: &[u8], n: usize) -> Plan
+fn planned(kind: Kind, store: &[u8], n: usize) -> Result<Plan, Refusal>
     requires { n ≤ 4294967296 }
     ensures { result ≡ plan_after n (survey_of (width_of kind) store.now n) }
 {
-    match read_heads(kind, store, n) {
-        Survey::Unreadable => Plan::Not(Refusal::UnfitStore),
-        Survey::Late => Plan::Not(Refusal::UnfitSeconds),
-        Survey::Edges(e) => Plan::Rows(n, e),
+    let edges = read_heads(kind, store, n)?;
+    Ok(Plan { rows: n, edges })
+}
+
+// The refusal where a store's levels are not set down.
+fn without_levels(e: LevelsError) -> Refusal
+    ensures { result ≡ without_levels e }
+{
+    match e {
+        LevelsError::Torn => Refusal::CorruptStore,
+        LevelsError::Short => Refusal::BufferTooSmall,
+        LevelsError::NoLevels => Refusal::UnfitStore,
     }
 }
 
 // Every test but that of the output's length. Nothing is written but the lent levels, and they only after 2, 4 and 1.
-pub fn judge(kind: Kind, store: &[u8], levels: &mut [u32]) -> Plan
+pub fn judge(kind: Kind, store: &[u8], levels: &mut [u32]) -> Result<Plan, Refusal>
     ensures { Plans (width_of kind) store.now levels.old levels.new result }
 {
     if MOST_BYTES < store.len() {
-        return Plan::Not(Refusal::InputTooLarge);
+        return Err(Refusal::InputTooLarge);
     }
-    match levels::find_levels(kind, store, levels) {
-        Answer::Torn => Plan::Not(Refusal::CorruptStore),
-        Answer::Short => Plan::Not(Refusal::BufferTooSmall),
-        Answer::NoLevels => Plan::Not(Refusal::UnfitStore),
-        Answer::Levelled => planned(kind, store, odb::count(kind, store)),
-    }
+    levels::find_levels(kind, store, levels).map_err(without_levels)?;
+    planned(kind, store, odb::count(kind, store))
 }

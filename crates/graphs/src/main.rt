@@ -6,42 +6,24 @@
 
 ghost use Rattle.std.specs.Prelude.{◌≤◌};
 
-use graphwrite::Written;
 use hash::Kind;
 use std::io;
 use walk::Refusal;
 
-fn text(rt: &impl Print, s: &[u8]) -> io::Result<()> {
-    host::write_all(rt, s)
-}
-
-fn number(rt: &impl Print, n: u64) -> io::Result<()> {
-    host::print_decimal(rt, n)
-}
-
-// A refusal by its number.
-fn refusal(rt: &impl Print, r: Refusal) -> io::Result<()> {
-    text(rt, b"!")?;
-    number(rt, walk::number(r) as u64)
-}
-
-// The bytes of a file, or a refusal.
-fn print_written(rt: &impl Print, w: Written) -> io::Result<()> {
+// The number of a file's bytes, or a refusal's.
+fn print_written(rt: &impl Print, w: Result<usize, Refusal>) -> io::Result<()> {
     match w {
-        Written::File(n) => number(rt, n as u64)?,
-        Written::Refused(r) => refusal(rt, r)?,
+        Ok(n) => print!(rt; "{n} "),
+        Err(r) => print!(rt; "!{} ", walk::number(r)),
     }
-    text(rt, b" ")
 }
 
 // The SHA-1 of some bytes, on the rest of the line.
 fn print_digest(rt: &impl Print, s: &[u8]) -> io::Result<()> {
     let mut out = [0u8; 20];
     commitid::set_digest(Kind::Sha1, hash::part(s, 0, 0), s, &mut out, 0);
-    host::print_hex(rt, hash::be64(&out, 0), 16)?;
-    host::print_hex(rt, hash::be64(&out, 8), 16)?;
-    host::print_hex(rt, hash::be32(&out, 16) as u64, 8)?;
-    text(rt, b"\n")
+    host::print_bytes(rt, &out)?;
+    println!(rt;)
 }
 
 fn wide(x: u32) -> usize {

@@ -1,8 +1,8 @@
 -- The rows of a store that is not refused are right, so our reader takes its file and finds each row: ids rise in a good store, a readable commit has at most
 -- 256 parents, each of them an entry, and a level is at most the number of entries. Assumes nothing.
+use Rattle.std.specs.Prelude.{None, Option, Some}
 use mathlib.Core.Path.{◌≡◌, refl, sym, ◌∙◌, ap, subst}
 use mathlib.Core.Bool.{Bool, true, false, cond}
-use mathlib.Core.Option.{Option, none, some}
 use mathlib.Core.List.{List, []}
 use Prim.Native.Nat.{ℕ, suc, ◌+◌, ◌*◌, ◌≤◌, ◌<◌}
 use native.Mathlib.Omega.{arith}
@@ -54,7 +54,7 @@ fit_pos (negsuc a) e = clash e refl
 
 -- seconds in time
 pub record InTime (w : ℕ) (b : List ℕ) : Type 0 where
-  pub is : seconds_of w b ≡ some (pos (seconds_size w b))
+  pub is : seconds_of w b ≡ Some (pos (seconds_size w b))
   pub low : seconds_size w b < most_seconds
 
 pub in_time : (w : ℕ) (b : List ℕ) → fit_time w b ≡ true → InTime w b
@@ -62,11 +62,11 @@ unfolding fit_time seconds_size
 in_time w b e = go (seconds_of w b) refl e
   where
     go : (o : Option ℤ) → seconds_of w b ≡ o → if_some o false fit_seconds ≡ true → InTime w b
-    go none d h = clash h refl
-    go (some s) d h =
+    go None d h = clash h refl
+    go (Some s) d h =
         let p = fit_pos s h in
         let z : seconds_size w b ≡ nat_abs s = ap (λ (o : Option ℤ). if_some o 0 nat_abs) d in
-        record { is = d ∙ ap some (p.0 ∙ ap pos (sym z)); low = omega (arith, p.1) }
+        record { is = d ∙ ap Some (p.0 ∙ ap pos (sym z)); low = omega (arith, p.1) }
 
 -- ---- one row
 
@@ -83,7 +83,7 @@ module _ (w : ℕ) (b : List ℕ) (n : ℕ) (S : Bytes b) (W : Writable w b n) (
   -- each parent is an entry
   pub parent-inside : (k j : ℕ) → k < n → j < length (lines_in w (entry_body w b k)).ids → entry_of w b (standing_entries w b) (get_or (lines_in w (entry_body w b k)).ids j []) < standing_entries w b
   parent-inside k j h l =
-      (of_fit g W.fits).sound.present k j (stands k h) (omega (arith, count_none w (entry_body w b k) (head_at w b n W k h).3.more))
+      (of_fit g W.fits).sound.present k j (stands k h) (omega (arith, count_none w (entry_body w b k) (head_at w b n W k h).1.more))
 
   byte_low : (k : ℕ) → k < n → get_or (entry_id w b k) 0 0 ≤ 255
   byte_low k h =
@@ -145,7 +145,7 @@ module _ (w : ℕ) (b : List ℕ) (n : ℕ) (S : Bytes b) (W : Writable w b n) (
       }
 
 -- "Our reader must accept each such file": it takes the file, and finds each row's id, parents, level and seconds
-pub read_back : (kind : Kind) (b : List ℕ) (lent : ℕ) → Bytes b → refusal_for (width_of kind) b lent ≡ none → ReadBack (hash_version kind) (width_of kind) (rows_of (width_of kind) b) (file_of kind b)
+pub read_back : (kind : Kind) (b : List ℕ) (lent : ℕ) → Bytes b → refusal_for (width_of kind) b lent ≡ None → ReadBack (hash_version kind) (width_of kind) (rows_of (width_of kind) b) (file_of kind b)
 unfolding file_of
 read_back kind b lent S e =
     let w = width_of kind in

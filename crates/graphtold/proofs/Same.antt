@@ -1,7 +1,7 @@
 -- "Two books with the same ids, trees, parents and seconds give equal files": a row is made of nothing else, and levels follow from parents. Assumes nothing.
+use Rattle.std.specs.Prelude.{None, Option, Some}
 use mathlib.Core.Path.{◌≡◌, refl, sym, ◌∙◌, ap}
 use mathlib.Core.Bool.{cond}
-use mathlib.Core.Option.{Option, none, some}
 use mathlib.Core.List.{List, [], ◌∷◌}
 use Prim.Native.Nat.{ℕ, zero, suc, ◌+◌, ◌≤◌, ◌<◌}
 use native.Mathlib.Omega.{arith}
@@ -33,8 +33,8 @@ find_same : (l m : IdList) (x : Id) (n : ℕ) → ((k : ℕ) → k < n → id_of
 unfolding find_in
 find_same l m x zero h = refl
 find_same l m x (suc n) h =
-    ap (λ (o : Option ℕ). if_some o (cond (eq_id x (id_of l n)) (some n) none) (λ k. some k)) (find_same l m x n (λ k d. h k (omega arith)))
-    ∙ ap (λ (y : Id). if_some (find_in m x n) (cond (eq_id x y) (some n) none) (λ k. some k)) (h n (omega arith))
+    ap (λ (o : Option ℕ). if_some o (cond (eq_id x (id_of l n)) (Some n) None) (λ k. Some k)) (find_same l m x n (λ k d. h k (omega arith)))
+    ∙ ap (λ (y : Id). if_some (find_in m x n) (cond (eq_id x y) (Some n) None) (λ k. Some k)) (h n (omega arith))
 
 -- two graphs of n nodes with the same parents, each of them a node
 level-same : (g h : Graph) (n : ℕ) → ((k : ℕ) → k < n → g.count k ≡ h.count k) → ((k j : ℕ) → k < n → j < g.count k → g.parent k j ≡ h.parent k j)
@@ -70,13 +70,13 @@ module _ (w : ℕ) (a b : List ℕ) (A : Writable w a (standing_entries w a)) (B
       ∙ (readable-body w (entry_body w b k) (readable-at w b (standing_entries w b) B k (in_b k h))).2.ids
 
   count-a : (k : ℕ) → k < n → lines_count w (entry_body w a k) ≡ length (lines_in w (entry_body w a k)).ids
-  count-a k h = count_none w (entry_body w a k) (head_at w a n A k h).3.more
+  count-a k h = count_none w (entry_body w a k) (head_at w a n A k h).1.more
 
   count_same : (k : ℕ) → k < n → lines_count w (entry_body w a k) ≡ lines_count w (entry_body w b k)
   count_same k h =
       count-a k h
       ∙ ap length (lines_same k h)
-      ∙ sym (count_none w (entry_body w b k) (head_at w b (standing_entries w b) B k (in_b k h)).3.more)
+      ∙ sym (count_none w (entry_body w b k) (head_at w b (standing_entries w b) B k (in_b k h)).1.more)
 
   parent-same : (k j : ℕ) → k < n → (graph_in w a).parent k j ≡ (graph_in w b).parent k j
   parent-same k j h =
@@ -110,7 +110,7 @@ module _ (w : ℕ) (a b : List ℕ) (A : Writable w a (standing_entries w a)) (B
   unfolding rows_of
   rows_same = from-same 0 n (omega arith) ∙ ap (rows_from w b 0) S.many
 
-pub equal_files : (kind : Kind) (a b : List ℕ) (s t : ℕ) → refusal_for (width_of kind) a s ≡ none → refusal_for (width_of kind) b t ≡ none → SameCommits (width_of kind) a b → file_of kind a ≡ file_of kind b
+pub equal_files : (kind : Kind) (a b : List ℕ) (s t : ℕ) → refusal_for (width_of kind) a s ≡ None → refusal_for (width_of kind) b t ≡ None → SameCommits (width_of kind) a b → file_of kind a ≡ file_of kind b
 unfolding file_of
 equal_files kind a b s t d e S =
     ap (graph_file (hash_version kind) (width_of kind) (digest_of kind)) (rows_same (width_of kind) a b (accepted (width_of kind) a s d) (accepted (width_of kind) b t e) S)

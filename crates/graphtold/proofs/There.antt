@@ -1,7 +1,7 @@
 -- What a writing that gives a file has found and left: nothing refuses the store, and the file stands in the first bytes of the output. Assumes nothing.
+use Rattle.std.specs.Prelude.{Err, None, Ok, Option, Result, Some}
 use mathlib.Core.Path.{◌≡◌, refl, sym, ◌∙◌, ap, subst}
 use mathlib.Core.Bool.{Bool, true, false, cond}
-use mathlib.Core.Option.{Option, none, some}
 use mathlib.Core.List.{List}
 use Prim.Native.Nat.{ℕ, ◌≤◌}
 use native.Mathlib.Omega.{arith}
@@ -19,8 +19,6 @@ use Rattle.walk.specs.declared.Refusal.TheVariants.{ShortOutput}
 use Rattle.graphplan.specs.StoreRows.{rows_of}
 use Rattle.graphplan.specs.Refusing.{refusal_for}
 use Rattle.graphwrite.specs.Writing.{file_of, length_of, length_answer, or_else, write_refusal, output_after, Writes}
-use Rattle.graphwrite.specs.declared.Written.{Written}
-use Rattle.graphwrite.specs.declared.Written.TheVariants.{File, Refused}
 use Rattle.graphbytes.proofs.Fill.{read_down}
 use Rattle.graphwrite.proofs.Laid.{whole_long}
 use Rattle.graphplan.proofs.Planning.{number, differ, accepted}
@@ -30,7 +28,7 @@ use Rattle.graphtold.proofs.Same.{equal_files}
 
 -- ---- how long the file is
 
-pub file-long : (kind : Kind) (b : List ℕ) (lent : ℕ) → refusal_for (width_of kind) b lent ≡ none → length (file_of kind b) ≡ length_of (width_of kind) b
+pub file-long : (kind : Kind) (b : List ℕ) (lent : ℕ) → refusal_for (width_of kind) b lent ≡ None → length (file_of kind b) ≡ length_of (width_of kind) b
 unfolding length_of
 file-long kind b lent e =
     let w = width_of kind in
@@ -38,33 +36,33 @@ file-long kind b lent e =
 
 -- ---- the answer
 
-is_file : Written → Bool
-is_file (File n) = true
-is_file (Refused r) = false
+is_file : Result ℕ Refusal → Bool
+is_file (Ok n) = true
+is_file (Err r) = false
 
-file_size : Written → ℕ
-file_size (File n) = n
-file_size (Refused r) = 0
+file_size : Result ℕ Refusal → ℕ
+file_size (Ok n) = n
+file_size (Err r) = 0
 
-file_said : (w : ℕ) (b : List ℕ) (o : Option Refusal) (n : ℕ) → File n ≡ length_answer w b o → (o ≡ none) × (n ≡ length_of w b)
+file_said : (w : ℕ) (b : List ℕ) (o : Option Refusal) (n : ℕ) → Ok n ≡ length_answer w b o → (o ≡ None) × (n ≡ length_of w b)
 unfolding is_file file_size
-file_said w b none n e = (refl, ap file_size e)
-file_said w b (some r) n e = clash {b = true} refl (sym (ap is_file (sym e)))
+file_said w b None n e = (refl, ap file_size e)
+file_said w b (Some r) n e = clash {b = true} refl (sym (ap is_file (sym e)))
 
-none_first : (o p : Option Refusal) → or_else o p ≡ none → (o ≡ none) × (p ≡ none)
-none_first none p e = (refl, e)
-none_first (some r) p e = no-some (sym e)
+none_first : (o p : Option Refusal) → or_else o p ≡ None → (o ≡ None) × (p ≡ None)
+none_first None p e = (refl, e)
+none_first (Some r) p e = no-some (sym e)
 
-room_said : (room l : ℕ) → cond (ltb room l) (some ShortOutput) none ≡ none → l ≤ room
+room_said : (room l : ℕ) → cond (ltb room l) (Some ShortOutput) None ≡ None → l ≤ room
 unfolding number
-room_said room l e = by_cases (ltb room l) (λ t. differ (some ShortOutput) none (λ d. omega arith) (sym (ap (λ (x : Bool). cond x (some ShortOutput) none) t) ∙ e)) (λ t. ltb-false room l t)
+room_said room l e = by_cases (ltb room l) (λ t. differ (Some ShortOutput) None (λ d. omega arith) (sym (ap (λ (x : Bool). cond x (Some ShortOutput) None) t) ∙ e)) (λ t. ltb-false room l t)
 
-pub file-there : (kind : Kind) (b s s' out out' : List ℕ) (n : ℕ) → Writes kind b s s' out out' (File n) → FileThere kind b s n out out'
+pub file-there : (kind : Kind) (b s s' out out' : List ℕ) (n : ℕ) → Writes kind b s s' out out' (Ok n) → FileThere kind b s n out out'
 unfolding write_refusal
 file-there kind b s s' out out' n W =
     let w = width_of kind in
     let a = file_said w b (write_refusal w b (length s) (length out)) n W.answer in
-    let o = none_first (refusal_for w b (length s)) (cond (ltb (length out) (length_of w b)) (some ShortOutput) none) a.0 in
+    let o = none_first (refusal_for w b (length s)) (cond (ltb (length out) (length_of w b)) (Some ShortOutput) None) a.0 in
     let l : length (file_of kind b) ≡ n = file-long kind b (length s) o.0 ∙ sym a.1 in
     let r : n ≤ length out = omega (arith, room_said (length out) (length_of w b) o.1, a.1) in
     record {
@@ -75,13 +73,13 @@ file-there kind b s s' out out' n W =
     }
 
 -- "Our reader must accept each such file": what was written is taken, and each row's id, parents, level and seconds are found
-pub written-reads : (kind : Kind) (b s s' out out' : List ℕ) (n : ℕ) → Writes kind b s s' out out' (File n) → ReadBack (hash_version kind) (width_of kind) (rows_of (width_of kind) b) (take n out')
+pub written-reads : (kind : Kind) (b s s' out out' : List ℕ) (n : ℕ) → Writes kind b s s' out out' (Ok n) → ReadBack (hash_version kind) (width_of kind) (rows_of (width_of kind) b) (take n out')
 written-reads kind b s s' out out' n W =
     let f = file-there kind b s s' out out' n W in
     subst (λ (g : List ℕ). ReadBack (hash_version kind) (width_of kind) (rows_of (width_of kind) b) g) (sym f.there) (read_back kind b (length s) W.lent f.accepted)
 
 -- two writings of the same commits: as many bytes, and the same
-pub equal_writings : (kind : Kind) (a b : List ℕ) {s s' t t' p p' q q' : List ℕ} (m n : ℕ) → Writes kind a s s' p p' (File m) → Writes kind b t t' q q' (File n) → SameCommits (width_of kind) a b
+pub equal_writings : (kind : Kind) (a b : List ℕ) {s s' t t' p p' q q' : List ℕ} (m n : ℕ) → Writes kind a s s' p p' (Ok m) → Writes kind b t t' q q' (Ok n) → SameCommits (width_of kind) a b
     → (m ≡ n) × (take m p' ≡ take n q')
 equal_writings kind a b {s} {s'} {t} {t'} {p} {p'} {q} {q'} m n A B S =
     let f = file-there kind a s s' p p' m A in

@@ -1,8 +1,8 @@
 -- 18 is said exactly of an unfit store: the tests of readability, of absent parents and of levels are complete, the last since a level is at most the
 -- number of entries. Assumes nothing.
+use Rattle.std.specs.Prelude.{None, Option, Some, Ok, Err}
 use mathlib.Core.Path.{◌≡◌, refl, sym, ◌∙◌, ap}
 use mathlib.Core.Bool.{Bool, true, false, cond}
-use mathlib.Core.Option.{Option, none, some}
 use mathlib.Core.List.{List, []}
 use Prim.Native.Nat.{ℕ, zero, suc, ◌≤◌, ◌<◌}
 use native.Mathlib.Omega.{arith}
@@ -15,9 +15,7 @@ use Rattle.idlist.specs.IdList.{id_of, find_in}
 use Rattle.idlist.proofs.Answer.{find-hit, find_none, none_found}
 use Rattle.date.specs.declared.Stamp.{Stamp}
 use Rattle.object.specs.Header.{header}
-use Rattle.object.specs.Read.{reading_of}
-use Rattle.object.specs.declared.Reading.{Reading}
-use Rattle.object.specs.declared.Reading.TheVariants.{Readable, Bad, Crowded}
+use Rattle.object.specs.Read.{reading_of, Reading}
 use Rattle.odb.specs.Store.{entry_ids, standing_entries, store_is_ok}
 use Rattle.odb.specs.Lookup.{entry_id, entry_body}
 use Rattle.odb.proofs.Nth.{own-id}
@@ -50,25 +48,24 @@ unfolding readable_body
 readable-body w b e = go (reading_of (header w b)) refl e
   where
     go : (r : Reading) → reading_of (header w b) ≡ r → is_readable r ≡ true → (n : ℕ) × (s : Stamp) × ReadBody w b n s
-    go (Readable n s) d h = (n, s, read-body w b n s d)
-    go Bad d h = clash h refl
-    go Crowded d h = clash h refl
+    go (Ok r) d h = (r.parents, r.stamp, read-body w b r.parents r.stamp d)
+    go (Err e) d h = clash h refl
 
 -- ---- an absent parent
 
 -- no entry under x: its number is the number of entries
-entry_absent : (w : ℕ) (b : List ℕ) (n : ℕ) (x : Id) → find_in (entry_ids w b) x (standing_entries w b) ≡ none → entry_of w b n x ≡ n
+entry_absent : (w : ℕ) (b : List ℕ) (n : ℕ) (x : Id) → find_in (entry_ids w b) x (standing_entries w b) ≡ None → entry_of w b n x ≡ n
 unfolding entry_of
 entry_absent w b n x e = ap (λ (o : Option ℕ). if_some o n (λ k. k)) e
 
 -- a number that is no entry's: no entry under x
-absent-entry : (w : ℕ) (b : List ℕ) (x : Id) → standing_entries w b ≤ entry_of w b (standing_entries w b) x → find_in (entry_ids w b) x (standing_entries w b) ≡ none
+absent-entry : (w : ℕ) (b : List ℕ) (x : Id) → standing_entries w b ≤ entry_of w b (standing_entries w b) x → find_in (entry_ids w b) x (standing_entries w b) ≡ None
 unfolding entry_of
 absent-entry w b x h = go (find_in (entry_ids w b) x (standing_entries w b)) refl h
   where
-    go : (o : Option ℕ) → find_in (entry_ids w b) x (standing_entries w b) ≡ o → standing_entries w b ≤ if_some o (standing_entries w b) (λ k. k) → o ≡ none
-    go none e d = refl
-    go (some k) e d = absurd (omega (arith, (find-hit (entry_ids w b) x (standing_entries w b) k e).0))
+    go : (o : Option ℕ) → find_in (entry_ids w b) x (standing_entries w b) ≡ o → standing_entries w b ≤ if_some o (standing_entries w b) (λ k. k) → o ≡ None
+    go None e d = refl
+    go (Some k) e d = absurd (omega (arith, (find-hit (entry_ids w b) x (standing_entries w b) k e).0))
 
 entry-id : (w : ℕ) (b : List ℕ) (k : ℕ) → k < standing_entries w b → id_of (entry_ids w b) k ≡ entry_id w b k
 unfolding id_of entry_ids
@@ -92,7 +89,7 @@ module _ (w : ℕ) (b : List ℕ) where
       (λ d.
       let a : all_below (λ j. ltb (g.parent k j) many) (lines_count w (entry_body w b k)) ≡ false = sym (ap (λ (x : Bool). cond x (all_below (λ j. ltb (g.parent k j) many) (lines_count w (entry_body w b k))) false) d) ∙ e in
       let s = some-not (λ j. ltb (g.parent k j) many) (lines_count w (entry_body w b k)) a in
-      let f : find_in (entry_ids w b) (get_or (lines_in w (entry_body w b k)).ids s.0 []) many ≡ none = absent-entry w b (get_or (lines_in w (entry_body w b k)).ids s.0 []) (ltb-false (g.parent k s.0) many s.2) in
+      let f : find_in (entry_ids w b) (get_or (lines_in w (entry_body w b k)).ids s.0 []) many ≡ None = absent-entry w b (get_or (lines_in w (entry_body w b k)).ids s.0 []) (ltb-false (g.parent k s.0) many s.2) in
       let l : s.0 < length (header w (entry_body w b k)).ids = omega (arith, s.1, ap length t.ids) in
       absent k s.0 h l
       (λ q hq d'. find_none (entry_ids w b) (get_or (lines_in w (entry_body w b k)).ids s.0 []) many q f hq
@@ -130,7 +127,7 @@ module _ (w : ℕ) (b : List ℕ) where
   unfit-not (absent k j h l e) t =
       let r = (readable-body w (entry_body w b k) (all-at (λ k. readable_body w (entry_body w b k)) many k (guarded (fit g) (all_readable w b many) t) h)).2 in
       let ids = (lines_in w (entry_body w b k)).ids in
-      let f : find_in (entry_ids w b) (get_or ids j []) many ≡ none =
+      let f : find_in (entry_ids w b) (get_or ids j []) many ≡ None =
       none_found (entry_ids w b) (get_or ids j []) many (λ q hq d. e q hq (sym (entry-id w b q hq) ∙ d ∙ ap (λ (xs : List Id). get_or xs j []) (sym r.ids))) in
       let p = (of_fit g (guard_test (fit g) (all_readable w b many) t)).sound.present k j h (omega (arith, l, ap length r.ids, count_none w (entry_body w b k) r.more)) in
       omega (arith, p, entry_absent w b many (get_or ids j []) f)
@@ -139,14 +136,14 @@ module _ (w : ℕ) (b : List ℕ) where
 -- ---- the number
 
 fit-told : (l ok sh f t : Bool)
-    → cond l (some InputTooLarge) (cond ok (cond sh (some BufferTooSmall) (cond f (cond t none (some UnfitSeconds)) (some UnfitStore))) (some CorruptStore)) ≡ some UnfitStore → f ≡ false
+    → cond l (Some InputTooLarge) (cond ok (cond sh (Some BufferTooSmall) (cond f (cond t None (Some UnfitSeconds)) (Some UnfitStore))) (Some CorruptStore)) ≡ Some UnfitStore → f ≡ false
 unfolding number
-fit-told true ok sh f t e = differ (some InputTooLarge) (some UnfitStore) (λ d. omega arith) e
-fit-told false false sh f t e = differ (some CorruptStore) (some UnfitStore) (λ d. omega arith) e
-fit-told false true true f t e = differ (some BufferTooSmall) (some UnfitStore) (λ d. omega arith) e
+fit-told true ok sh f t e = differ (Some InputTooLarge) (Some UnfitStore) (λ d. omega arith) e
+fit-told false false sh f t e = differ (Some CorruptStore) (Some UnfitStore) (λ d. omega arith) e
+fit-told false true true f t e = differ (Some BufferTooSmall) (Some UnfitStore) (λ d. omega arith) e
 fit-told false true false false t e = refl
-fit-told false true false true true e = differ none (some UnfitStore) (λ d. omega arith) e
-fit-told false true false true false e = differ (some UnfitSeconds) (some UnfitStore) (λ d. omega arith) e
+fit-told false true false true true e = differ None (Some UnfitStore) (λ d. omega arith) e
+fit-told false true false true false e = differ (Some UnfitSeconds) (Some UnfitStore) (λ d. omega arith) e
 
 pub levels_or_none : (w : ℕ) (b : List ℕ) (lent : ℕ) → UnfitExactly w b lent
 unfolding refusal_for
@@ -156,7 +153,7 @@ levels_or_none w b lent =
       only = λ small ok room u. rw (le-ltb most_bytes (length b) small, ok, le-ltb lent (standing_entries w b) room, not_yes (unfit-not w b u));
     }
 
-pub levels-once : (w : ℕ) (b : List ℕ) (lent : ℕ) → refusal_for w b lent ≡ none → LevelsOnce w b
+pub levels-once : (w : ℕ) (b : List ℕ) (lent : ℕ) → refusal_for w b lent ≡ None → LevelsOnce w b
 levels-once w b lent e =
     let t = (accepted w b lent e).fits in
     let f = of_fit (graph_in w b) t in

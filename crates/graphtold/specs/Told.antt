@@ -1,7 +1,6 @@
 -- What is said of written graph files (document 02, card 4): when there is none, that equal commits give equal files, and that our reader finds each file
 -- in agreement. Assumes nothing.
-use Rattle.std.specs.Prelude.{◌≡◌, ℕ, ◌≤◌, ◌<◌, true, false, List, [], length, take, get_or}
-use Rattle.std.proofs.Math.Option.{none, some}
+use Rattle.std.specs.Prelude.{◌≡◌, ℕ, ◌≤◌, ◌<◌, true, false, List, [], length, take, get_or, None, Some}
 use Rattle.hash.specs.Bytes.{width_of}
 use Rattle.hash.specs.declared.Kind.{Kind}
 use Rattle.object.specs.Header.{header, seconds_of}
@@ -25,8 +24,8 @@ pub data Unfit (w : ℕ) (b : List ℕ) : Type 0 where
 
 -- 18 is said of an unfit store alone, and of each one to which 2, 4 and 1 do not apply
 pub record UnfitExactly (w : ℕ) (b : List ℕ) (lent : ℕ) : Type 0 where
-  pub told : refusal_for w b lent ≡ some UnfitStore → Unfit w b
-  pub only : length b ≤ most_bytes → store_is_ok w b ≡ true → standing_entries w b ≤ lent → Unfit w b → refusal_for w b lent ≡ some UnfitStore
+  pub told : refusal_for w b lent ≡ Some UnfitStore → Unfit w b
+  pub only : length b ≤ most_bytes → store_is_ok w b ≡ true → standing_entries w b ≤ lent → Unfit w b → refusal_for w b lent ≡ Some UnfitStore
 
 -- the levels of a store that is not refused satisfy the rule, and no others do
 pub record LevelsOnce (w : ℕ) (b : List ℕ) : Type 0 where
@@ -50,7 +49,7 @@ pub record SameCommits (w : ℕ) (a b : List ℕ) : Type 0 where
 
 -- a writing that gives n bytes: nothing refuses the store, and the first n bytes of the output are its file
 pub record FileThere (kind : Kind) (b s : List ℕ) (n : ℕ) (out out' : List ℕ) : Type 0 where
-  pub accepted : refusal_for (width_of kind) b (length s) ≡ none
+  pub accepted : refusal_for (width_of kind) b (length s) ≡ None
   pub long : length (file_of kind b) ≡ n
   pub room : n ≤ length out
   pub there : take n out' ≡ file_of kind b

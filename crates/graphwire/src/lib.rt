@@ -6,7 +6,7 @@ ghost use Rattle.std.specs.Prelude.{◌≡◌};
 ghost use Rattle.wire.specs.Words.{kind_of};
 ghost use Rattle.graphwire.specs.Wire.{written_number, bytes_of, PutsLength, LibraryMeasures, LibraryWrites};
 
-use graphwrite::Written;
+use walk::Refusal;
 
 // The library's result where there is no room for the file's length: none of document 01's numbers.
 const NO_ROOM: u32 = 101;
@@ -18,27 +18,27 @@ fn wide(n: u8) -> u32
 }
 
 // The number of what is said: 0, or the refusal's.
-fn number(w: Written) -> u32
+fn number(w: Result<usize, Refusal>) -> u32
     ensures { result ≡ written_number w }
 {
     match w {
-        Written::File(_) => 0,
-        Written::Refused(r) => wide(walk::number(r)),
+        Ok(_) => 0,
+        Err(r) => wide(walk::number(r)),
     }
 }
 
 // How many bytes the file has: 0 where there is none.
-fn bytes_of(w: Written) -> u64
+fn bytes_of(w: Result<usize, Refusal>) -> u64
     ensures { result ≡ bytes_of w }
 {
     match w {
-        Written::File(n) => n as u64,
-        Written::Refused(_) => 0,
+        Ok(n) => n as u64,
+        Err(_) => 0,
     }
 }
 
 // What is said set down, and its number.
-fn put_length(w: Written, numbers: &mut [u64]) -> u32
+fn put_length(w: Result<usize, Refusal>, numbers: &mut [u64]) -> u32
     ensures { PutsLength w numbers.old numbers.new result }
 {
     let x = [bytes_of(w)];

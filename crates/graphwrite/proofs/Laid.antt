@@ -1,7 +1,7 @@
 -- The whole file: its parts stand one after another, and the digest of what stands before it ends it. Assumes nothing.
+use Rattle.std.specs.Prelude.{Err, None, Ok, Option, Some, Result}
 use mathlib.Core.Path.{◌≡◌, sym, ◌∙◌, ap, subst}
 use mathlib.Core.Bool.{Bool, cond}
-use mathlib.Core.Option.{Option, none, some}
 use mathlib.Core.List.{List, [], ◌++◌, append_assoc, append-nil}
 use Prim.Native.Nat.{ℕ, ◌+◌, ◌*◌, ◌≤◌, ◌<◌}
 use native.Mathlib.Omega.{arith}
@@ -25,8 +25,6 @@ use Rattle.graphbytes.specs.Words.{front_length}
 use Rattle.graphplan.specs.Refusing.{refusal_for, Plans}
 use Rattle.graphwrite.specs.Writing.{file_of, length_of, length_answer, or_else, write_refusal, output_after, Bytes, Writes}
 use Rattle.graphplan.specs.declared.Plan.{Plan}
-use Rattle.graphplan.specs.declared.Plan.TheVariants.{Rows, Not}
-use Rattle.graphwrite.specs.declared.Written.TheVariants.{File, Refused}
 use Rattle.graphbytes.proofs.Fill.{then, read_down}
 use Rattle.graphbytes.proofs.Lists.{length_words_flat}
 use Rattle.graphplan.proofs.Wides.{wide-ids, ids-many, wide-data, data-many}
@@ -140,13 +138,13 @@ module _ (kind : Kind) (b : List ℕ) (n e : ℕ) (W : Writable (width_of kind) 
 
 -- ---- from a plan to what is written
 
-module _ (kind : Kind) (b s s' : List ℕ) (r : Plan) (P : Plans (width_of kind) b s s' r) where
-  pub writes-not : (o : List ℕ) (q : Refusal) → r ≡ Not q → Bytes b → Writes kind b s s' o o (Refused q)
+module _ (kind : Kind) (b s s' : List ℕ) (r : Result Plan Refusal) (P : Plans (width_of kind) b s s' r) where
+  pub writes-not : (o : List ℕ) (q : Refusal) → r ≡ Err q → Bytes b → Writes kind b s s' o o (Err q)
   unfolding write_refusal
   writes-not o q e S =
       let w = width_of kind in
-      let k : refusal_for w b (length s) ≡ some q = plan_not w b (refusal_for w b (length s)) q (sym e ∙ P.answer) in
-      let z : write_refusal w b (length s) (length o) ≡ some q = ap (λ (x : Option Refusal). or_else x (cond (ltb (length o) (length_of w b)) (some ShortOutput) none)) k in
+      let k : refusal_for w b (length s) ≡ Some q = plan_not w b (refusal_for w b (length s)) q (sym e ∙ P.answer) in
+      let z : write_refusal w b (length s) (length o) ≡ Some q = ap (λ (x : Option Refusal). or_else x (cond (ltb (length o) (length_of w b)) (Some ShortOutput) None)) k in
       record {
         lent = S;
         answer = ap (length_answer w b) (sym z);
@@ -158,58 +156,58 @@ module _ (kind : Kind) (b s s' : List ℕ) (r : Plan) (P : Plans (width_of kind)
         };
       }
 
-  module _ (n e l : ℕ) (h : r ≡ Rows n e) (el : l ≡ file_length (width_of kind) n e) where
+  module _ (q : Plan) (l : ℕ) (h : r ≡ Ok q) (el : l ≡ file_length (width_of kind) q.rows q.edges) where
     length-told : l ≡ length_of (width_of kind) b
     unfolding length_of
     length-told =
-        let p = rows-planned (width_of kind) b s s' r P n e h in
-        el ∙ ap (λ (x : ℕ). file_length (width_of kind) x e) p.rows ∙ ap (file_length (width_of kind) (standing_entries (width_of kind) b)) p.edges
+        let p = rows-planned (width_of kind) b s s' r P q h in
+        el ∙ ap (λ (x : ℕ). file_length (width_of kind) x q.edges) p.rows ∙ ap (file_length (width_of kind) (standing_entries (width_of kind) b)) p.edges
 
-    last : (o : List ℕ) → write_refusal (width_of kind) b (length s) (length o) ≡ cond (ltb (length o) l) (some ShortOutput) none
+    last : (o : List ℕ) → write_refusal (width_of kind) b (length s) (length o) ≡ cond (ltb (length o) l) (Some ShortOutput) None
     unfolding write_refusal
     last o =
         let w = width_of kind in
-        let p = rows-planned w b s s' r P n e h in
-        ap (λ (x : Option Refusal). or_else x (cond (ltb (length o) (length_of w b)) (some ShortOutput) none)) p.none_said
-        ∙ ap (λ (x : ℕ). cond (ltb (length o) x) (some ShortOutput) none) (sym length-told)
+        let p = rows-planned w b s s' r P q h in
+        ap (λ (x : Option Refusal). or_else x (cond (ltb (length o) (length_of w b)) (Some ShortOutput) None)) p.none_said
+        ∙ ap (λ (x : ℕ). cond (ltb (length o) x) (Some ShortOutput) None) (sym length-told)
 
-    pub writes_short : (o : List ℕ) → length o < l → Bytes b → Writes kind b s s' o o (Refused ShortOutput)
+    pub writes_short : (o : List ℕ) → length o < l → Bytes b → Writes kind b s s' o o (Err ShortOutput)
     unfolding number
     writes_short o d S =
         let w = width_of kind in
-        let z : write_refusal w b (length s) (length o) ≡ some ShortOutput = last o ∙ ap (λ (t : Bool). cond t (some ShortOutput) none) (lt-ltb (length o) l d) in
+        let z : write_refusal w b (length s) (length o) ≡ Some ShortOutput = last o ∙ ap (λ (t : Bool). cond t (Some ShortOutput) None) (lt-ltb (length o) l d) in
         record {
           lent = S;
           answer = ap (length_answer w b) (sym z);
           output = ap (output_after kind b o) (sym z);
           spared = record {
-            large = λ y. differ (some ShortOutput) (some InputTooLarge) (λ q. omega arith) (sym z ∙ y);
-            torn = λ y. differ (some ShortOutput) (some CorruptStore) (λ q. omega arith) (sym z ∙ y);
-            short = λ y. differ (some ShortOutput) (some BufferTooSmall) (λ q. omega arith) (sym z ∙ y);
+            large = λ y. differ (Some ShortOutput) (Some InputTooLarge) (λ q. omega arith) (sym z ∙ y);
+            torn = λ y. differ (Some ShortOutput) (Some CorruptStore) (λ q. omega arith) (sym z ∙ y);
+            short = λ y. differ (Some ShortOutput) (Some BufferTooSmall) (λ q. omega arith) (sym z ∙ y);
           };
         }
 
-    pub writes-file : (o o' : List ℕ) → l ≤ length o → o' ≡ set_down o 0 (file_of kind b) → Bytes b → Writes kind b s s' o o' (File l)
+    pub writes-file : (o o' : List ℕ) → l ≤ length o → o' ≡ set_down o 0 (file_of kind b) → Bytes b → Writes kind b s s' o o' (Ok l)
     unfolding number
     writes-file o o' d x S =
         let w = width_of kind in
-        let z : write_refusal w b (length s) (length o) ≡ none = last o ∙ ap (λ (t : Bool). cond t (some ShortOutput) none) (le-ltb (length o) l d) in
+        let z : write_refusal w b (length s) (length o) ≡ None = last o ∙ ap (λ (t : Bool). cond t (Some ShortOutput) None) (le-ltb (length o) l d) in
         record {
           lent = S;
-          answer = ap File length-told ∙ ap (length_answer w b) (sym z);
+          answer = ap Ok length-told ∙ ap (length_answer w b) (sym z);
           output = x ∙ ap (output_after kind b o) (sym z);
           spared = record {
-            large = λ y. differ none (some InputTooLarge) (λ q. omega arith) (sym z ∙ y);
-            torn = λ y. differ none (some CorruptStore) (λ q. omega arith) (sym z ∙ y);
-            short = λ y. differ none (some BufferTooSmall) (λ q. omega arith) (sym z ∙ y);
+            large = λ y. differ None (Some InputTooLarge) (λ q. omega arith) (sym z ∙ y);
+            torn = λ y. differ None (Some CorruptStore) (λ q. omega arith) (sym z ∙ y);
+            short = λ y. differ None (Some BufferTooSmall) (λ q. omega arith) (sym z ∙ y);
           };
         }
 
     -- what the file is written from
-    pub file-from : (Writable (width_of kind) b n) × (Holds (width_of kind) b s' n) × (e ≡ length (edges_in (rows_of (width_of kind) b)))
+    pub file-from : (Writable (width_of kind) b q.rows) × (Holds (width_of kind) b s' q.rows) × (q.edges ≡ length (edges_in (rows_of (width_of kind) b)))
     file-from =
         let w = width_of kind in
-        let p = rows-planned w b s s' r P n e h in (
+        let p = rows-planned w b s s' r P q h in (
           subst (Writable w b) (sym p.rows) (accepted w b (length s) p.none_said),
           subst (Holds w b s') (sym p.rows) (P.levels p.none_said),
           p.edges,

@@ -13,16 +13,8 @@ ghost use Rattle.graphplan.specs.Entries.{Holds};
 ghost use Rattle.graphbytes.specs.Words.{front_length};
 ghost use Rattle.graphwrite.specs.Writing.{file_of, Measures, Writes};
 
-use graphplan::Plan;
 use hash::Kind;
 use walk::Refusal;
-
-// What a writing gives: the number of the file's bytes, or why there is no file.
-#[derive(Clone, Copy)]
-pub enum Written {
-    File(usize),
-    Refused(Refusal),
-}
 
 // Where the rows end in a file whose fan-out starts at o.
 fn rows_end(kind: Kind, o: usize, n: usize) -> usize
@@ -47,13 +39,11 @@ fn file_length(kind: Kind, n: usize, e: usize) -> usize
 
 // How long the file of a store is, or why there is none: 2, 4, 1, 18 or 19. The lent levels, one for each entry, are free afterwards, save after 2, 4
 // and 1, which alter nothing.
-pub fn graph_length(kind: Kind, store: &[u8], levels: &mut [u32]) -> Written
+pub fn graph_length(kind: Kind, store: &[u8], levels: &mut [u32]) -> Result<usize, Refusal>
     ensures { Measures (width_of kind) store.now levels.old levels.new result }
 {
-    match graphplan::judge(kind, store, levels) {
-        Plan::Not(r) => Written::Refused(r),
-        Plan::Rows(n, e) => Written::File(file_length(kind, n, e)),
-    }
+    let plan = graphplan::judge(kind, store, levels)?;
+    Ok(file_length(kind, plan.rows, plan.edges))
 }
 
 // Where the fan-out starts: after the header and a table of three chunks, or of four.
@@ -81,18 +71,19 @@ fn write_file(kind: Kind, store: &[u8], levels: &[u32], n: usize, e: usize, out:
 
 // Writes the graph file of a store at the start of out, and gives the number of its bytes; no other byte of out is altered. Refused: 2, 4, 1, 18, 19, 20, in
 // this order, and then no byte of out is. The lent levels, one for each entry, are free afterwards, save after 2, 4 and 1, which alter nothing.
-pub fn write_graph(kind: Kind, store: &[u8], levels: &mut [u32], out: &mut [u8]) -> Written
+pub fn write_graph(
+    kind: Kind,
+    store: &[u8],
+    levels: &mut [u32],
+    out: &mut [u8],
+) -> Result<usize, Refusal>
     ensures { Writes kind store.now levels.old levels.new out.old out.new result }
 {
-    match graphplan::judge(kind, store, levels) {
-        Plan::Not(r) => Written::Refused(r),
-        Plan::Rows(n, e) => {
-            let len = file_length(kind, n, e);
-            if out.len() < len {
-                return Written::Refused(Refusal::ShortOutput);
-            }
-            write_file(kind, store, levels, n, e, out);
-            Written::File(len)
-        }
+    let plan = graphplan::judge(kind, store, levels)?;
+    let len = file_length(kind, plan.rows, plan.edges);
+    if out.len() < len {
+        return Err(Refusal::ShortOutput);
     }
+    write_file(kind, store, levels, plan.rows, plan.edges, out);
+    Ok(len)
 }

@@ -60,11 +60,9 @@ pub(crate) fn write_fan(kind: Kind, store: &[u8], n: usize, out: &mut [u8], from
     ensures { out.new ≡ set_down out.old from (flat (words (fan_from (rows_of (width_of kind) store.now) 0 256))) }
 {
     let mut k: usize = 0;
-    let mut i: usize = 0;
-    while i < 256 {
+    for i in 0usize..256 {
         k = graphplan::entry::past_byte(kind, store, n, k, i);
         graphbytes::put_word(out, from + 4 * i, k);
-        i += 1;
     }
 }
 
@@ -75,10 +73,8 @@ pub(crate) fn write_ids(kind: Kind, store: &[u8], n: usize, out: &mut [u8], from
 {
     let w = hash::width(kind);
     let mut p = from;
-    let mut k: usize = 0;
-    while k < n {
+    for k in 0usize..n {
         hash::set_down(out, p, odb::entry_id(kind, store, k));
         p += w;
-        k += 1;
     }
 }

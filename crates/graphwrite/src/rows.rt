@@ -8,9 +8,9 @@ ghost use Rattle.odb.specs.Lookup.{entry_body};
 ghost use Rattle.graphplan.specs.StoreRows.{Writable, tree_of, row_of, rows_of};
 ghost use Rattle.graphplan.specs.Entries.{Holds};
 
-use graphplan::entry::Head;
 use hash::Kind;
 
+// The file's own number for a parent that is none, and the bit of a pointer into EDGE.
 const NO_PARENT: usize = 0x70000000;
 
 const TOP_BIT: usize = 0x80000000;
@@ -20,8 +20,8 @@ fn put_tree(kind: Kind, store: &[u8], k: usize, out: &mut [u8], at: usize)
     requires { (header (width_of kind) (entry_body (width_of kind) store.now k)).tree ≡ true }
     ensures { out.new ≡ set_down out.old at (tree_of (width_of kind) (entry_body (width_of kind) store.now k)) }
 {
-    let t = object::tree_id(kind, odb::entry_bytes(kind, store, k), 0);
-    hash::set_down(out, at, object::id_slice(kind, &t.id.bytes));
+    let id = object::tree_id(kind, odb::entry_bytes(kind, store, k), 0).unwrap();
+    hash::set_down(out, at, object::id_slice(kind, &id.bytes));
 }
 
 // The row's first parent of c.
@@ -63,24 +63,22 @@ fn put_row(
     requires { Writable (width_of kind) store.now n × Holds (width_of kind) store.now levels.now n × (k < n) × (e ≤ 268435456) × (at + row_size (width_of kind) ≤ length out.old) }
     ensures { (out.new ≡ set_down out.old at (row_bytes e (row_of (width_of kind) store.now k))) × (result ≡ length (edges_of (row_of (width_of kind) store.now k).parents)) }
 {
-    match graphplan::entry::head_of(kind, store, k) {
-        Head::Good(c, seconds, _) => {
-            put_tree(kind, store, k, out, at);
-            let a = first_of(kind, store, n, k, c);
-            let b = second_of(kind, store, n, k, c, e);
-            let l = graphplan::entry::level_at(levels, k);
-            graphbytes::put_four(
-                out,
-                at + hash::width(kind),
-                a,
-                b,
-                l * 4 + seconds / 4294967296,
-                seconds % 4294967296,
-            );
-            graphplan::entry::edges_of(c)
-        }
-        Head::NoHead => 0,
-    }
+    let Some(head) = graphplan::entry::head_of(kind, store, k) else {
+        return 0;
+    };
+    put_tree(kind, store, k, out, at);
+    let a = first_of(kind, store, n, k, head.parents);
+    let b = second_of(kind, store, n, k, head.parents, e);
+    let l = graphplan::entry::level_at(levels, k);
+    graphbytes::put_four(
+        out,
+        at + hash::width(kind),
+        a,
+        b,
+        l * 4 + head.seconds / 4294967296,
+        head.seconds % 4294967296,
+    );
+    graphplan::entry::edges_of(head.parents)
 }
 
 // The rows.
@@ -98,11 +96,9 @@ pub(crate) fn write_rows(
     let size = hash::width(kind) + 16;
     let mut p = from;
     let mut e: usize = 0;
-    let mut k: usize = 0;
-    while k < n {
+    for k in 0usize..n {
         e += put_row(kind, store, levels, n, k, e, out, p);
         p += size;
-        k += 1;
     }
 }
 
@@ -128,11 +124,9 @@ fn put_edges(kind: Kind, store: &[u8], n: usize, k: usize, out: &mut [u8], p: us
         return p;
     }
     let mut q = p;
-    let mut j: usize = 1;
-    while j < c {
+    for j in 1usize..c {
         graphbytes::put_word(out, q, edge_of(kind, store, n, k, c, j));
         q += 4;
-        j += 1;
     }
     q
 }
@@ -143,9 +137,7 @@ pub(crate) fn write_edges(kind: Kind, store: &[u8], n: usize, out: &mut [u8], fr
     ensures { out.new ≡ set_down out.old from (flat (words (edges_in (rows_of (width_of kind) store.now)))) }
 {
     let mut p = from;
-    let mut k: usize = 0;
-    while k < n {
+    for k in 0usize..n {
         p = put_edges(kind, store, n, k, out, p);
-        k += 1;
     }
 }

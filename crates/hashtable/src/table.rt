@@ -9,6 +9,8 @@ use crate::marks::is_live;
 use crate::words;
 use hash::Kind;
 
+// What a search for an id ends at: its slot; a slot that it may take; or neither, where all are taken. (As the entry of a map: an Option would
+// lose one of the three.)
 #[derive(Clone, Copy)]
 pub enum Slot {
     Found(usize),
@@ -43,13 +45,11 @@ pub fn set_mark(marks: &mut [u8], slot: usize, m: u8)
 pub fn clear(marks: &mut [u8], cap: usize)
     ensures { marks.new ≡ cleared cap marks.old }
 {
-    let mut slot = 0;
-    while slot < marks.len() {
+    for slot in 0..marks.len() {
         if cap <= slot {
             return;
         }
         marks[slot] = 0;
-        slot += 1;
     }
 }
 
@@ -114,8 +114,7 @@ pub fn find_slot(
     }
     let h = home(id, cap);
     let mut spare = cap;
-    let mut i = 0;
-    while i < cap {
+    for i in 0..cap {
         let k = around(cap, h, i);
         let m = marks[k];
         if m == 0 {
@@ -128,7 +127,6 @@ pub fn find_slot(
         } else {
             spare = first_of(cap, spare, k);
         }
-        i += 1;
     }
     if spare < cap {
         return Slot::Vacant(spare);

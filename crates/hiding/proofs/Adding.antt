@@ -1,9 +1,9 @@
 -- The three sentences: a run is left exactly where it is admitted and none of the hidden ids reaches it, and the ids of a joined list are those of
 -- its parts; the numbers follow since no run is in a list twice. Assumes nothing.
+use Rattle.std.specs.Prelude.{None}
 use mathlib.Core.Path.{◌≡◌, refl, sym, ◌∙◌, ap, subst}
 use mathlib.Core.Logic.{◌⊎◌, inl, inr, ⊎_elim, ◌↔◌}
 use Prim.Native.Nat.{ℕ, ◌+◌, ◌*◌, ◌≤◌}
-use mathlib.Core.Option.{none}
 use mathlib.Core.List.Memᴰ
 use mathlib.Core.List.{List, [], ◌∷◌, ◌++◌}
 use native.Mathlib.Omega.{arith}
@@ -24,7 +24,7 @@ use Rattle.hiding.proofs.Joined.{some_bytes, list-joined, list-one, accepted-sho
 use Rattle.hiding.proofs.Sets.{mem-one, walk, listed_less, premises_less, listed-both, listed-one}
 
 -- a tested opening's verdict gives the premises
-pub tested_by : (i : Input) → refusal i ≡ none → (v : Verdict (walk_of i) (list_ids (width_in i) i.tips)) → verdict_number v ≡ 0 → Tested i
+pub tested_by : (i : Input) → refusal i ≡ None → (v : Verdict (walk_of i) (list_ids (width_in i) i.tips)) → verdict_number v ≡ 0 → Tested i
 tested_by i e v n = record { fits = e; premises = passed-premises v n }
 
 -- ---- the walk of an input, by its parts

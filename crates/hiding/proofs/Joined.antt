@@ -1,9 +1,9 @@
 -- Lists of ids end to end: their ids are those of the parts, and with a hidden list of at most 1,024 whole ids in the place of another none of 2 to 6
 -- comes to apply, since only its own length is asked for. Assumes nothing.
+use Rattle.std.specs.Prelude.{None, Option, Some}
 use mathlib.Core.Path.{◌≡◌, refl, sym, ◌∙◌, ap}
 use Prim.Native.Nat.{ℕ, zero, suc, ◌+◌, ◌*◌, ◌/◌, ◌%◌, ◌≤◌, ◌<◌}
 use mathlib.Core.Bool.{Bool, true, false, cond, ◌&&◌}
-use mathlib.Core.Option.{Option, none, some}
 use mathlib.Core.List.{List, [], ◌∷◌, ◌++◌}
 use native.Mathlib.Omega.{arith}
 use native.Mathlib.Nat.{mul-zero, mul-mod_right, div-eq_of_eq-mul_right}
@@ -55,11 +55,11 @@ list-one width positive t e =
 
 -- ---- another hidden list is accepted where one is
 
-pick-none : (b : Bool) (n : Option Refusal) (r : Refusal) → cond b n (some r) ≡ none → (b ≡ true) × (n ≡ none)
+pick-none : (b : Bool) (n : Option Refusal) (r : Refusal) → cond b n (Some r) ≡ None → (b ≡ true) × (n ≡ None)
 pick-none true n r e = (refl, e)
 pick-none false n r e = no-some (sym e)
 
-of_pick : (b : Bool) (n : Option Refusal) (r : Refusal) → b ≡ true → n ≡ none → cond b n (some r) ≡ none
+of_pick : (b : Bool) (n : Option Refusal) (r : Refusal) → b ≡ true → n ≡ None → cond b n (Some r) ≡ None
 of_pick b n r e f = rw (e, f)
 
 -- the fourth of five tests, and the second of three, is another that holds
@@ -94,13 +94,13 @@ module _ (i : Input) (h : List ℕ) where
       (eq-eqb (length k % width_in i) 0 (ap (λ (z : ℕ). z % width_in i) a.is ∙ mul-mod_right (width_in i) a.count))
 
   -- a list that is accepted has at most 1,024 ids
-  pub accepted-short : refusal (hiding i h) ≡ none → length h ≤ list_limit (width_in i)
+  pub accepted-short : refusal (hiding i h) ≡ None → length h ≤ list_limit (width_in i)
   unfolding refusal sizes_ok
   accepted-short e = leb-true (length h) (list_limit (width_in i))
       (fourth (leb (length i.store) 16777216) (leb (length i.graph) 16777216) (leb (length i.tips) (list_limit (width_in i))) (leb (length h) (list_limit (width_in i)))
       (leb (length i.excluded) (list_limit (width_in i))) (pick-none (sizes_ok (hiding i h)) _ InputTooLarge e).0)
 
-  pub accepted-other : (k : List ℕ) → Whole (width_in i) k → length k ≤ list_limit (width_in i) → refusal (hiding i h) ≡ none → refusal (hiding i k) ≡ none
+  pub accepted-other : (k : List ℕ) → Whole (width_in i) k → length k ≤ list_limit (width_in i) → refusal (hiding i h) ≡ None → refusal (hiding i k) ≡ None
   unfolding refusal
   accepted-other k a l e =
       let s = pick-none (sizes_ok (hiding i h)) _ InputTooLarge e in

@@ -1,9 +1,7 @@
 -- Hiding adds up, for a caller: the ways to run an opening to its end that the three sentences hold of, by what the calls promise. Assumes nothing.
-use Rattle.std.specs.Prelude.{ℕ, ◌+◌, ◌*◌, ◌≤◌, ◌≡◌, true, List, length}
+use Rattle.std.specs.Prelude.{ℕ, ◌+◌, ◌*◌, ◌≤◌, ◌≡◌, true, List, length, Ok}
 use Rattle.hash.specs.Bytes.{Id, ids_of}
 use Rattle.walk.specs.declared.Outcome.TheVariants.{End}
-use Rattle.walk.specs.declared.OpenOutcome.TheVariants.{Accepted}
-use Rattle.walk.specs.declared.OpenOutcome.TheVariants.{Accepted}
 use Rattle.walk.specs.Opening.{Input, room_for, P, width_in}
 use Rattle.traverse.specs.declared.Opened.{Opened}
 use Rattle.traverse.specs.Contract.{Lent, lengths_of, OpenSays}
@@ -32,7 +30,7 @@ pub record Walked (i : Input) : Type 0 where
 
 -- whoever makes P + 2 calls after an opening that was accepted has such a list
 unfoldable pub ComesToItsEnd : Input → Type 0
-ComesToItsEnd i = (m : Lent) (o : Opened) (m' : Lent) → OpenSays i m o m' → o.answer.outcome ≡ Accepted
+ComesToItsEnd i = (m : Lent) (o : Opened) (m' : Lent) → OpenSays i m o m' → o.answer.outcome ≡ (Ok tt)
     → (cs : List Call) → Calls (files_of i) o.record m' cs → P i + 2 ≤ length cs
     → (k : ℕ) × (c : Call) × CallIs cs k c × (c.out.answer.outcome ≡ End)
 
@@ -65,4 +63,4 @@ pub record HidingAddsUp (i : Input) : Type 0 where
 
 -- a tested opening that is accepted has found the premises and the memory enough, and promises what `open` promises: so it begins a `Walked`
 unfoldable pub OfTested : Input → Type 0
-OfTested i = (m : Lent) (o : Opened) (m' : Lent) → TestedOpenSays i m o m' → o.answer.outcome ≡ Accepted → Tested i × OpenSays i m o m' × (room_for i (lengths_of m) ≡ true)
+OfTested i = (m : Lent) (o : Opened) (m' : Lent) → TestedOpenSays i m o m' → o.answer.outcome ≡ (Ok tt) → Tested i × OpenSays i m o m' × (room_for i (lengths_of m) ≡ true)

@@ -1,6 +1,5 @@
 -- Hiding adds up (document 02, card 14): its three sentences, of any way to run openings that differ in their hidden tips alone. Assumes nothing.
-use Rattle.std.specs.Prelude.{ℕ, ◌+◌, ◌*◌, ◌≤◌, ◌≡◌, ◌⊎◌, ◌↔◌, List, [], ◌∷◌, ◌++◌, length}
-use Rattle.std.proofs.Math.Option.{none}
+use Rattle.std.specs.Prelude.{ℕ, ◌+◌, ◌*◌, ◌≤◌, ◌≡◌, ◌⊎◌, ◌↔◌, List, [], ◌∷◌, ◌++◌, length, None}
 use Rattle.hash.specs.Bytes.{Id}
 use Rattle.walk.specs.Lookup.{world_of}
 use Rattle.walk.specs.Opening.{Input, walk_of, list_ids, list_limit, refusal, width_in}
@@ -20,7 +19,7 @@ pub record Whole (width : ℕ) (b : List ℕ) : Type 0 where
 -- "the premises of a tested opening": none of 2 to 6 applies, and of everything reachable from the tips and hidden tips every commit is readable,
 -- the graph agrees, and each pair falls. A tested opening that is accepted has found both: its verdict is none of 13, 14 and 15 (`tested_by`)
 pub record Tested (i : Input) : Type 0 where
-  pub fits : refusal i ≡ none
+  pub fits : refusal i ≡ None
   pub premises : Premises (walk_of i) (list_ids (width_in i) i.tips)
 
 -- the premises with the joined list are those with either part, and so with any list of the same ids

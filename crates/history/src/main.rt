@@ -8,6 +8,7 @@
 ghost use Rattle.std.specs.Prelude.{◌<◌};
 ghost use Rattle.std.specs.Io.{ReadsAtMost};
 
+use commitgraph::Level;
 use date::Seconds;
 use hash::Kind;
 use state::Record;
@@ -16,10 +17,7 @@ use std::rt::Files;
 use std::{fs, io};
 use traverse::next::step;
 use traverse::open::open;
-use walk::{
-    Answer, CommitTimeOrder, MaybeLevel, MaybeSeconds, OpenOutcome, Outcome, Parents, Refusal,
-    Settings, Sorting,
-};
+use walk::{Answer, CommitTimeOrder, Outcome, Parents, Refusal, Settings, Sorting};
 
 // More calls than any walk over these files takes to its end.
 const MOST_CALLS: usize = 5000;
@@ -39,9 +37,7 @@ fn count(rt: &impl Print, word: &[u8], n: u64) -> io::Result<()> {
 
 // An id in 40 hexadecimal digits.
 fn id(rt: &impl Print, s: &[u8]) -> io::Result<()> {
-    host::print_hex(rt, hash::be64(s, 0), 16)?;
-    host::print_hex(rt, hash::be64(s, 8), 16)?;
-    host::print_hex(rt, hash::be32(s, 16) as u64, 8)
+    host::print_bytes(rt, hash::part(s, 0, 20))
 }
 
 // Seconds with their sign.
@@ -53,19 +49,19 @@ fn signed(rt: &impl Print, s: Seconds) -> io::Result<()> {
 }
 
 // The seconds, which only a time order has.
-fn seconds(rt: &impl Print, t: MaybeSeconds) -> io::Result<()> {
+fn seconds(rt: &impl Print, t: Option<Seconds>) -> io::Result<()> {
     text(rt, b" seconds ")?;
     match t {
-        MaybeSeconds::Time(s) => signed(rt, s),
-        MaybeSeconds::NoTime => text(rt, b"-"),
+        Some(s) => signed(rt, s),
+        None => text(rt, b"-"),
     }
 }
 
 // The generation, which only a commit from the commit-graph file has.
-fn generation(rt: &impl Print, g: MaybeLevel) -> io::Result<()> {
+fn generation(rt: &impl Print, g: Option<Level>) -> io::Result<()> {
     match g {
-        MaybeLevel::Generation(level) => count(rt, b" generation ", level.0 as u64),
-        MaybeLevel::NoGeneration => text(rt, b" generation -"),
+        Some(level) => count(rt, b" generation ", level.0 as u64),
+        None => text(rt, b" generation -"),
     }
 }
 
@@ -166,6 +162,7 @@ fn calls(
 ) -> io::Result<()> {
     let mut r = first;
     let mut left = MOST_CALLS;
+    // No range counts these calls: the answer of each says whether a next one is due.
     while 0 < left {
         let out = step(
             r, store, graph, hidden, b"", settings, names, marks, levels, times, line, parents,
@@ -200,11 +197,11 @@ fn list_in(
     let answer = o.answer;
     let outcome = answer.outcome;
     match outcome {
-        OpenOutcome::Accepted => calls(
+        Ok(()) => calls(
             rt, o.record, store, graph, hidden, settings, names, marks, levels, times, line,
             parents,
         ),
-        OpenOutcome::NotOpened(r) => refusal(rt, r),
+        Err(r) => refusal(rt, r),
     }
 }
 
@@ -242,25 +239,18 @@ fn list(
 
 // ---- the order
 
-// An order that a word names.
-#[derive(Clone, Copy)]
-enum Order {
-    Known(Sorting),
-    Unknown,
-}
-
 // The order of a word; no word is newest first.
-fn order_of(word: &[u8]) -> Order {
+fn order_of(word: &[u8]) -> Option<Sorting> {
     if word.len() == 0 || hash::same(word, b"newest") {
-        return Order::Known(Sorting::ByCommitTime(CommitTimeOrder::NewestFirst));
+        return Some(Sorting::ByCommitTime(CommitTimeOrder::NewestFirst));
     }
     if hash::same(word, b"oldest") {
-        return Order::Known(Sorting::ByCommitTime(CommitTimeOrder::OldestFirst));
+        return Some(Sorting::ByCommitTime(CommitTimeOrder::OldestFirst));
     }
     if hash::same(word, b"breadth") {
-        return Order::Known(Sorting::BreadthFirst);
+        return Some(Sorting::BreadthFirst);
     }
-    Order::Unknown
+    None
 }
 
 // ---- the files
@@ -343,8 +333,8 @@ fn main(rt: HostRuntime) -> io::Result<()> {
     let mut space = host::buffer();
     let n = host::argument(&rt, 1, &mut space);
     match order_of(&space[..n]) {
-        Order::Known(sorting) => list_files(&rt, &err, sorting),
-        Order::Unknown => complain(
+        Some(sorting) => list_files(&rt, &err, sorting),
+        None => complain(
             &err,
             &space[..n],
             b": the orders are newest, oldest and breadth\n",

@@ -32,10 +32,12 @@ pub fn print_decimal(rt: &impl Print, n: u64) -> io::Result<()> {
     print!(rt; "{n}")
 }
 
-// Writes a number in lower-case hexadecimal digits, with zeros in front up to `width` digits, at most 16, and with no line end.
-pub fn print_hex(rt: &impl Print, n: u64, width: usize) -> io::Result<()> {
-    let w = width.min(16);
-    print!(rt; "{n:0w$x}")
+// Writes bytes in lower-case hexadecimal digits, two for each, with no line end.
+pub fn print_bytes(rt: &impl Print, s: &[u8]) -> io::Result<()> {
+    for b in s {
+        print!(rt; "{b:02x}")?;
+    }
+    Ok(())
 }
 
 // Reads until the room is full or the reader ends, and answers how many bytes it put at the room's start.

@@ -1,14 +1,12 @@
 -- What heads tell of ids of one width: the id with the lower head is the lower. Assumes nothing.
 use mathlib.Core.Path.{◌≡◌, sym, ◌∙◌, ap}
 use Prim.Native.Nat.{ℕ, ◌+◌, ◌≤◌, ◌<◌}
-use mathlib.Core.Bool.{Bool, true, false}
+use mathlib.Core.Bool.{true, false}
 use mathlib.Core.List.{List}
 use native.Mathlib.Omega.{arith}
 use lib.ListN.{length, get_or}
-use Rattle.hash.specs.Bytes.{Id, eq_id, lt_id, compare_id, at, head_of}
-use Rattle.hash.specs.declared.Order.{Order}
-use Rattle.hash.specs.declared.Order.TheVariants.{Less, Equal, Greater}
-use Rattle.hash.proofs.Tests.{by_cases}
+use Rattle.hash.specs.Bytes.{Id, lt_id, compare_id, at, head_of}
+use Rattle.std.specs.declared.cmp.Ordering.TheVariants.{Less, Greater}
 use Rattle.hash.proofs.Ids.{lt_id_asym, compare_less}
 use Rattle.hash.proofs.Bytes.{at_rest, length_at, small_at}
 use Rattle.hash.proofs.Words.{head-less, head_greater}
@@ -36,13 +34,3 @@ module _ (s : List ℕ) (i j n : ℕ) (ss : (k : ℕ) → get_or s k 0 < 256) (l
 
   pub heads-greater : y < x → lt_id (at s i n) (at s j n) ≡ false
   heads-greater h = lt_id_asym (at s j n) (at s i n) (compare_less (at s j n) (at s i n) (head-less (at s j n) (at s i n) (small_at s j n ss) (small_at s i n ss) (sym same_width) (omega (arith, e, f))))
-
--- the comparison says `Less` exactly where the first is below the second
-abbrev pub is_less : Order → Bool
-is_less Less = true
-is_less Equal = false
-is_less Greater = false
-
-pub less_test : (a b : Id) → lt_id a b ≡ is_less (compare_id a b)
-unfolding compare_id
-less_test a b = by_cases (lt_id a b) (λ h. rw h) (λ h. by_cases (eq_id a b) (λ e. rw (h, e)) (λ e. rw (h, e)))

@@ -1,5 +1,7 @@
 -- A call in place from the store is the walk's own next call: with no commit-graph file `find` gives what the store has, and the body's parents are visited as those of
 -- any body. Assumes nothing.
+use Rattle.std.specs.Prelude.{None, Option}
+use Rattle.date.specs.declared.Seconds.{Seconds}
 use mathlib.Core.Path.{◌≡◌, refl, sym, ap, ◌∙◌, subst}
 use Prim.Native.Nat.{ℕ}
 use mathlib.Core.Bool.{Bool, true, false, not}
@@ -12,14 +14,11 @@ use Rattle.hash.specs.Bytes.{Id, width_of}
 use Rattle.object.specs.Header.{Header, header}
 use Rattle.object.specs.Ids.{padded, id_in}
 use Rattle.object.proofs.IdBytes.{padded_length}
-use Rattle.date.specs.declared.Zone.{Zone}
 use Rattle.odb.specs.Lookup.{Locates, part_of}
 use Rattle.odb.specs.declared.Located.{Located}
 use Rattle.odb.specs.declared.Located.TheVariants.{Body}
 use Rattle.commitgraph.specs.declared.Layout.{Layout}
 use Rattle.commit.specs.Find.{FindsCommit, in_store}
-use Rattle.commit.specs.declared.Cache.{Cache}
-use Rattle.commit.specs.declared.Cache.TheVariants.{NoGraph}
 use Rattle.commit.specs.declared.Either.TheVariants.{CommitRefIter}
 use Rattle.commit.proofs.Found.{without-graph}
 use Rattle.commit.proofs.Parts.{found-slice}
@@ -28,7 +27,6 @@ use Rattle.reading.specs.declared.body.BodyEnd.{BodyEnd}
 use Rattle.reading.specs.declared.body.BodyEnd.TheVariants.{Whole, Unreadable, Crowded}
 use Rattle.reading.proofs.ByValue.{id_in-kind}
 use Rattle.walk.specs.declared.Settings.{Settings}
-use Rattle.walk.specs.declared.MaybeSeconds.{MaybeSeconds}
 use Rattle.walk.specs.State.{is_empty}
 use Rattle.walk.specs.Given.{outcome_number}
 use Rattle.revwalk.specs.Queue.{place_of}
@@ -53,24 +51,24 @@ use Rattle.inplace.specs.Stored.{PutsEnd, Took, TakesBody}
 use Rattle.inplace.proofs.InPlace.{id_at_slot, leaving, kept-words}
 
 -- no file is used where none is lent
-unused : (l : Layout) (kept : Bool) → NoGraph ≡ cache_with [] l kept
+unused : (l : Layout) (kept : Bool) → None ≡ cache_with [] l kept
 unfolding cache_with is_empty
 unused l true = refl
 unused l false = refl
 
 -- the number of an answer after a body: it is no closed record's, and not that of a call that was not made
-ended_open : (e : BodyEnd) (x : Id) (n : ℕ) (t : MaybeSeconds) (z : Zone) (r : Record) → eqb (outcome_number (end_given e x n t z r).answer.outcome) 12 ≡ false
+ended_open : (e : BodyEnd) (x : Id) (n : ℕ) (t : Option Seconds) (z : Option ℤ) (r : Record) → eqb (outcome_number (end_given e x n t z r).answer.outcome) 12 ≡ false
 ended_open Whole x n t z r = refl
 ended_open Unreadable x n t z r = refl
 ended_open Crowded x n t z r = refl
 
-ended-made : (e : BodyEnd) (x : Id) (n : ℕ) (t : MaybeSeconds) (z : Zone) (r : Record) → outcome_number (end_given e x n t z r).answer.outcome ≡ not_made_number → ⊥
+ended-made : (e : BodyEnd) (x : Id) (n : ℕ) (t : Option Seconds) (z : Option ℤ) (r : Record) → outcome_number (end_given e x n t z r).answer.outcome ≡ not_made_number → ⊥
 ended-made Whole x n t z r e = omega (arith, e)
 ended-made Unreadable x n t z r e = omega (arith, e)
 ended-made Crowded x n t z r e = omega (arith, e)
 
 -- and the record after it
-ended-after : (e : BodyEnd) (x : Id) (n : ℕ) (t : MaybeSeconds) (z : Zone) (r : Record) → (end_given e x n t z r).after ≡ r
+ended-after : (e : BodyEnd) (x : Id) (n : ℕ) (t : Option Seconds) (z : Option ℤ) (r : Record) → (end_given e x n t z r).after ≡ r
 ended-after Whole x n t z r = refl
 ended-after Unreadable x n t z r = refl
 ended-after Crowded x n t z r = refl
@@ -80,25 +78,25 @@ module _ {excluded store : List ℕ} {r : Record} {settings : Settings} {names m
     (f : slot ≡ place_of r.queue line 0) (i : x ≡ padded (id_at_slot r names slot)) (o : Locates (width_of settings.kind) store (id_in (width_of settings.kind) x) at) (e : at ≡ Body s z) (b : d ≡ part_of store at) where
   -- what leaves is what stands first
   own : x ≡ padded (id_at_slot r names t.popped.slot)
-  own = i ∙ ap (λ (k : ℕ). padded (id_at_slot r names k)) (f ∙ sym (t.leaves.pops.first t.leaves.found))
+  own = i ∙ ap (λ (k : ℕ). padded (id_at_slot r names k)) (f ∙ sym (t.leaves.pops.told.first))
 
   finds : FindsCommit (width_of settings.kind) (cache_with [] r.fixed.layout r.kept) [] store (id_in (width_of settings.kind) (padded (id_at_slot r names t.popped.slot))) (CommitRefIter s z)
   finds =
-      subst (λ (y : Cache). FindsCommit (width_of settings.kind) y [] store (id_in (width_of settings.kind) (padded (id_at_slot r names t.popped.slot))) (CommitRefIter s z)) (unused r.fixed.layout r.kept)
-      (subst (λ (y : List ℕ). FindsCommit (width_of settings.kind) NoGraph [] store (id_in (width_of settings.kind) y) (CommitRefIter s z)) own
-      (subst (λ (y : Located). FindsCommit (width_of settings.kind) NoGraph [] store (id_in (width_of settings.kind) x) (in_store y)) e (without-graph [] store at o)))
+      subst (λ (y : Option Layout). FindsCommit (width_of settings.kind) y [] store (id_in (width_of settings.kind) (padded (id_at_slot r names t.popped.slot))) (CommitRefIter s z)) (unused r.fixed.layout r.kept)
+      (subst (λ (y : List ℕ). FindsCommit (width_of settings.kind) None [] store (id_in (width_of settings.kind) y) (CommitRefIter s z)) own
+      (subst (λ (y : Located). FindsCommit (width_of settings.kind) None [] store (id_in (width_of settings.kind) x) (in_store y)) e (without-graph [] store at o)))
 
   ends : EndsBody r t.seen (header (width_of settings.kind) d) (id_in (width_of settings.kind) (padded (id_at_slot r names t.popped.slot))) (time_given t.popped.queue.timed t.time) t.answer.taken
   ends =
       subst (λ (y : List ℕ). EndsBody r t.seen (header (width_of settings.kind) d) (id_in (width_of settings.kind) y) (time_given t.popped.queue.timed t.time) t.answer.taken) own
-      (subst (λ (y : Bool). EndsBody r t.seen (header (width_of settings.kind) d) (id_in (width_of settings.kind) x) (time_given y t.time) t.answer.taken) (sym t.leaves.pops.same.timed) t.answer.ends)
+      (subst (λ (y : Bool). EndsBody r t.seen (header (width_of settings.kind) d) (id_in (width_of settings.kind) x) (time_given y t.time) t.answer.taken) (sym t.leaves.pops.told.same.timed) t.answer.ends)
 
   body : TakesFrom excluded settings store (header (width_of settings.kind) d) (waiting_in r (without r t.popped)) (id_in (width_of settings.kind) (padded (id_at_slot r names t.popped.slot))) t.time.0 (mem names marks times t.line₁) (mem names' marks' times' line') parents parents' t.answer.taken
   body = takes_body d t.visits ends (id_in-kind settings.kind (padded (id_at_slot r names t.popped.slot)) (padded_length (id_at_slot r names t.popped.slot)))
 
   next : TakesNext excluded settings [] store r (mem names marks times line) (mem names' marks' times' line') parents parents' t.answer.taken
   next =
-      next-body {n = leaving r names t.popped t.time} (pops-some t.leaves.pops (ap not t.leaves.found) refl t.leaves.seconds) refl finds s z refl
+      next-body {n = leaving r names t.popped t.time} (pops-some t.leaves.pops refl t.leaves.seconds) finds s z refl
       (b ∙ ap (part_of store) e ∙ sym (found-slice finds s z refl)) body
 
   -- as a call gives it back
@@ -139,6 +137,6 @@ pub stored-goes : {excluded store : List ℕ} {r : Record} {settings : Settings}
 stored-goes t f i o e b c k l h = record { still = t.still; made = λ m hidden. goes (t.took m) f i o e b hidden c k l h }
 
 -- a body whose end is set down has a number of its own
-pub end-made : {w : ℕ} {r : Record} {seen : BodyVisited} {h : Header} {x : List ℕ} {t : MaybeSeconds} {id id' numbers numbers' : List ℕ} {seconds seconds' : List ℤ} {n : ℕ} → PutsEnd w r seen h x t id id' numbers numbers' seconds seconds' n → n ≡ not_made_number → ⊥
+pub end-made : {w : ℕ} {r : Record} {seen : BodyVisited} {h : Header} {x : List ℕ} {t : Option Seconds} {id id' numbers numbers' : List ℕ} {seconds seconds' : List ℤ} {n : ℕ} → PutsEnd w r seen h x t id id' numbers numbers' seconds seconds' n → n ≡ not_made_number → ⊥
 end-made {w} {r} {seen} {x = x} {t = t} p e =
     ended-made seen.ends (id_in w x) seen.parents t p.ends.zone (waiting_in r seen.after) (sym (ap (λ (y : Taken). outcome_number y.answer.outcome) p.ends.is) ∙ sym p.puts.result ∙ e)

@@ -1,9 +1,8 @@
 -- What a next call in place promises: where it is made, what a next call says, with its answer and its record set down; where not, that nothing is altered.
 -- Assumes nothing.
-use Rattle.std.specs.Prelude.{ℕ, ◌≤◌, ◌<◌, ◌≡◌, Bool, true, false, List, length, ℤ}
+use Rattle.std.specs.Prelude.{ℕ, ◌≤◌, ◌<◌, ◌≡◌, Bool, true, false, List, length, ℤ, None, Some}
 use Rattle.hash.specs.Bytes.{Id, set_down, width_of}
 use Rattle.date.specs.declared.Seconds.{Seconds}
-use Rattle.date.specs.declared.Zone.TheVariants.{NoZone}
 use Rattle.commitgraph.specs.Graph.{id_in}
 use Rattle.commitgraph.specs.declared.Layout.{Layout}
 use Rattle.commitgraph.specs.declared.Level.{Level}
@@ -13,7 +12,6 @@ use Rattle.walk.specs.Next.{level_shown}
 use Rattle.walk.specs.Given.{Given, level_given}
 use Rattle.state.specs.declared.Record.{Record}
 use Rattle.state.specs.declared.Waiting.{Waiting}
-use Rattle.rowvisit.specs.declared.plain.PlainTaken.TheVariants.{Taken}
 use Rattle.rowvisit.specs.Plain.{PlainBy}
 use Rattle.visit.specs.Taking.{time_given}
 use Rattle.traverse.specs.declared.Out.{Out}
@@ -30,14 +28,14 @@ pub record StandsAt (w : ℕ) (g : List ℕ) (l : Layout) (p : ℕ) (x : Id) : T
 
 -- the answer of the commit x, of which k parents were visited, with the level c and the seconds t, where w wait then
 abbrev pub answer_of : Record → Id → ℕ → Level → Seconds → Waiting → Given
-answer_of r x k c t w = commit_given x k (level_given (level_shown c.0)) (time_given w.queue.timed t) NoZone w.admitted r.struck w.queue.count
+answer_of r x k c t w = commit_given x k (level_given (level_shown c.0)) (time_given w.queue.timed t) None w.admitted r.struck w.queue.count
 
 -- the first of the queue, from its row at position p of the file: of a row that is not plain nothing is altered; of a plain one the parents are visited, and its
 -- answer and what waits then are set down
 pub record TakesRow (excluded : List ℕ) (s : Settings) (g : List ℕ) (p : ℕ) (r : Record) (m m' : Lent) (words words' id id' numbers numbers' : List ℕ) (seconds seconds' : List ℤ) (a : Bool) : Type 0 where
   pub still : a ≡ false → (m' ≡ m) × (words' ≡ words) × (id' ≡ id) × (numbers' ≡ numbers) × (seconds' ≡ seconds)
   pub taken : a ≡ true → (w : Waiting) × (k : ℕ) × (c : Level) × (t : Seconds)
-      × PlainBy (Taken w k c t) excluded s g r.fixed.layout p r m.memory.names m.memory.marks m.memory.times m.memory.line m'.memory m.levels m'.levels m.parents m'.parents
+      × PlainBy (Some (record { after = w; parents = k; level = c; seconds = t })) excluded s g r.fixed.layout p r m.memory.names m.memory.marks m.memory.times m.memory.line m'.memory m.levels m'.levels m.parents m'.parents
       × PutsAnswer (width_of s.kind) (answer_of r (id_in (width_of s.kind) g r.fixed.layout p) k c t w) id id' numbers numbers' seconds seconds' 0
       × PutsWaiting w words words'
 

@@ -1,12 +1,11 @@
 -- What a next call in place promises of a commit from the store, where no commit-graph file is lent: the first of the queue leaves, its body's parents are visited, and
 -- its answer and what waits then are set down. Assumes nothing.
-use Rattle.std.specs.Prelude.{ℕ, ◌≡◌, List, ℤ}
+use Rattle.std.specs.Prelude.{ℕ, ◌≡◌, List, ℤ, Option}
 use Rattle.hash.specs.Bytes.{width_of}
 use Rattle.date.specs.declared.Seconds.{Seconds}
 use Rattle.object.specs.Header.{Header, header}
 use Rattle.object.specs.Ids.{id_in}
 use Rattle.walk.specs.declared.Settings.{Settings}
-use Rattle.walk.specs.declared.MaybeSeconds.{MaybeSeconds}
 use Rattle.revwalk.specs.declared.queue.Popped.{Popped}
 use Rattle.state.specs.declared.Record.{Record}
 use Rattle.state.specs.Steps.{mem}
@@ -21,7 +20,7 @@ use Rattle.wire.specs.Numbers.{PutsAnswer}
 use Rattle.inplace.specs.InPlace.{not_made_number}
 
 -- the answer after the parents of a body with the header h, of the commit with the id x, is set down, with the result n
-pub record PutsEnd (w : ℕ) (r : Record) (seen : BodyVisited) (h : Header) (x : List ℕ) (t : MaybeSeconds) (id id' numbers numbers' : List ℕ) (seconds seconds' : List ℤ) (n : ℕ) : Type 0 where
+pub record PutsEnd (w : ℕ) (r : Record) (seen : BodyVisited) (h : Header) (x : List ℕ) (t : Option Seconds) (id id' numbers numbers' : List ℕ) (seconds seconds' : List ℤ) (n : ℕ) : Type 0 where
   pub taken : Taken
   pub ends : EndsBody r seen h (id_in w x) t taken
   pub puts : PutsAnswer w taken.answer id id' numbers numbers' seconds seconds' n

@@ -14,11 +14,9 @@ ghost use Rattle.wire.specs.Words.{record_of};
 ghost use Rattle.inplace.specs.InPlace.{StandsAt, TakesRow, CanGo, GoesInPlace};
 
 use commitgraph::{Layout, rows};
-use date::Zone;
 use hash::Kind;
 use hashtable::table;
 use revwalk::queue;
-use rowvisit::PlainTaken;
 use state::Record;
 use stored::take_stored;
 use traverse::next::is_whole;
@@ -115,20 +113,16 @@ fn take_row(
     match rowvisit::take_plain(
         record, graph, l, position, names, marks, levels, times, line, parents, excluded, settings,
     ) {
-        PlainTaken::Taken {
-            after,
-            parents: n,
-            level,
-            seconds: s,
-        } => {
+        Some(row) => {
+            let after = row.after;
             let q = after.queue;
             wire::put_commit(
                 kind,
                 rows::id_at(kind, graph, l, position),
-                n,
-                reading::level_shown(level),
-                visit::time_given(q.timed, s),
-                Zone::NoZone,
+                row.parents,
+                reading::level_shown(row.level),
+                visit::time_given(q.timed, row.seconds),
+                None,
                 after.admitted,
                 record.struck,
                 q.count,
@@ -139,7 +133,7 @@ fn take_row(
             wire::put_waiting(words, after);
             true
         }
-        PlainTaken::Elsewhere => false,
+        None => false,
     }
 }
 

@@ -10,6 +10,7 @@ ghost use Rattle.inplace.specs.Stored.{PutsEnd, TakesBody};
 
 use crate::{NOT_MADE, wide};
 use bodyvisit::BodyVisited;
+use date::Seconds;
 use hash::Kind;
 use hashtable::table;
 use object::ObjectId;
@@ -17,7 +18,7 @@ use odb::Located;
 use reading::BodyEnd;
 use revwalk::queue;
 use state::Record;
-use walk::{MaybeLevel, MaybeSeconds, Settings};
+use walk::Settings;
 
 // Sets down the answer for a body that cannot be read, or has too many parents: the whole answer by value, as such calls are rare.
 fn put_taken(
@@ -25,7 +26,7 @@ fn put_taken(
     record: Record,
     seen: BodyVisited,
     x: ObjectId,
-    time: MaybeSeconds,
+    time: Option<Seconds>,
     body: &[u8],
     id: &mut [u8],
     numbers: &mut [u64],
@@ -43,7 +44,7 @@ fn put_end(
     record: Record,
     seen: BodyVisited,
     x: ObjectId,
-    time: MaybeSeconds,
+    time: Option<Seconds>,
     body: &[u8],
     id: &mut [u8],
     numbers: &mut [u64],
@@ -60,7 +61,7 @@ fn put_end(
                 kind,
                 object::id_slice(kind, &x.bytes),
                 seen.parents,
-                MaybeLevel::NoGeneration,
+                None,
                 time,
                 reading::zone_past(kind, body, seen.parents),
                 after.admitted,
@@ -99,23 +100,16 @@ fn take_body(
     ensures { TakesBody excluded.now settings store.now body.now «record» x.bytes (lent_of names.old marks.old levels.old times.old line.old parents.old) (lent_of names.new marks.new levels.new times.new line.new parents.new) words.old words.new id.old id.new numbers.old numbers.new seconds.old seconds.new result }
 {
     let kind = settings.kind;
-    let t = bodyvisit::take_body(
+    let Some(taken) = bodyvisit::take_body(
         record, store, body, names, marks, levels, times, line, parents, excluded, settings,
-    );
-    if !t.found {
+    ) else {
         return NOT_MADE;
-    }
-    let after = t.after;
-    let ends = t.ends;
-    let seen = BodyVisited {
-        after,
-        parents: t.parents,
-        ends,
     };
+    let seen = taken.visited;
     let q = record.queue;
-    let time = visit::time_given(q.timed, t.seconds);
+    let time = visit::time_given(q.timed, taken.seconds);
     let n = put_end(kind, record, seen, x, time, body, id, numbers, seconds);
-    wire::put_waiting(words, after);
+    wire::put_waiting(words, seen.after);
     n
 }
 

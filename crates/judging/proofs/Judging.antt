@@ -1,26 +1,25 @@
 -- One commit that is readable in the store: its row says the same as its body exactly where parents, in order, and seconds are the same, and then
 -- the pair that was read is the commit's. Assumes nothing.
+use Rattle.std.specs.Prelude.{None, Option, Some}
 use mathlib.Core.Path.{◌≡◌, refl, sym, ◌∙◌, ap, subst}
 use mathlib.Core.Logic.{⊎_elim}
 use Prim.Native.Nat.{ℕ, zero, suc, ◌+◌, ◌≤◌, ◌<◌}
 use mathlib.Core.Bool.{Bool, true, false, cond, not, ◌&&◌}
-use mathlib.Core.Option.{Option, none, some}
 use mathlib.Core.List.{List, [], ◌∷◌, map}
 use native.Mathlib.Omega.{arith}
 use native.Mathlib.Nat.{not-suc-le-zero, le_of_suc-le-suc}
 use lib.ListN.{length, get_or, length-map}
 use lib.IntN.{ℤ, pos}
-use lib.Signed.{lt_z}
+use Rattle.std.specs.Ordering.{int_eq}
+use Rattle.std.specs.Cmp.{signed_Decides}
 use Rattle.hash.specs.Bytes.{Id, if_some, eq_id}
-use Rattle.hash.proofs.Tests.{clash, not_yes, and_second, guard_of}
+use Rattle.hash.proofs.Tests.{by_cases, clash, not_yes, and_second, guard_of}
 use Rattle.hash.proofs.Ids.{eq_id-same}
 use Rattle.date.specs.declared.Stamp.{Stamp}
 use Rattle.object.specs.Header.{Header, header}
 use Rattle.object.specs.Ids.{id_in, id_room}
-use Rattle.object.specs.Read.{reading_of}
+use Rattle.object.specs.Read.{reading_of, Reading, readable_as}
 use Rattle.object.specs.declared.ObjectId.{ObjectId}
-use Rattle.object.specs.declared.Reading.{Reading}
-use Rattle.object.specs.declared.Reading.TheVariants.{Readable as AsReadable}
 use Rattle.odb.specs.Store.{store_is_ok}
 use Rattle.odb.specs.Lookup.{part_of}
 use Rattle.odb.specs.declared.Located.{Located}
@@ -28,8 +27,6 @@ use Rattle.odb.specs.declared.Located.TheVariants.{Body as BodyAt, Absent as Now
 use Rattle.commitgraph.specs.Graph.{layout_of, graph_parents, generation, graph_seconds}
 use Rattle.commitgraph.specs.declared.Layout.{Layout}
 use Rattle.commit.specs.Find.{GoodCache}
-use Rattle.commit.specs.declared.Cache.{Cache}
-use Rattle.commit.specs.declared.Cache.TheVariants.{NoGraph}
 use Rattle.walk.specs.declared.GenThenTime.{GenThenTime}
 use Rattle.walk.specs.declared.Refusal.{Refusal}
 use Rattle.walk.specs.declared.Refusal.TheVariants.{CommitNotFound, CommitUnreadable, TooManyParents}
@@ -50,19 +47,15 @@ use Rattle.reading.proofs.Whole.{body-told, from-body, commit-right}
 use Rattle.reading.proofs.StoredBodies.{stored-good, stored-links, stored-readable}
 use Rattle.reach.specs.Tested.{same_ids, same_time, same_seconds, row_agrees, agrees_in}
 use Rattle.reach.proofs.Growth.{last-place}
-use Rattle.reach.proofs.Verdicts.{same_ids_eq, same_time_eq}
-use Rattle.judging.specs.declared.Judged.TheVariants.{Pair as PairOf, AtOdds}
-use Rattle.judging.specs.Judge.{Files, ComparesParents, ComparesRow, Judges}
+use Rattle.reach.proofs.Verdicts.{same_ids_eq, same_time_eq, same_time_of}
+use Rattle.judging.specs.Judge.{agreeing, Files, ComparesParents, ComparesRow, Judges}
 
 -- ---- the same seconds
 
-pub before-not : (a b : ℤ) → lt_z a b ≡ true → false ≡ same_time a b
-unfolding same_time
-before-not a b e = rw e
-
-pub not-before : (a b : ℤ) → lt_z a b ≡ false → not (lt_z b a) ≡ same_time a b
-unfolding same_time
-not-before a b e = rw e
+pub same_told : (a b : ℤ) → int_eq a b ≡ same_time a b
+same_told a b =
+    by_cases (int_eq a b) (λ h. h ∙ sym (same_time_of a b ((signed_Decides a b).0 h)))
+    (λ h. h ∙ sym (not_yes (λ t. clash ((signed_Decides a b).1 (same_time_eq a b t)) h)))
 
 -- ---- the same ids
 
@@ -129,13 +122,13 @@ module _ {width : ℕ} {g : List ℕ} {l : Layout} {p : ℕ} {b : List ℕ} {n k
 pub record HeaderRead (h : Header) (n : ℕ) (t : Stamp) : Type 0 where
   pub tree : h.tree ≡ true
   pub count : n ≡ length h.ids
-  pub seconds : h.seconds ≡ some t.seconds.0
+  pub seconds : h.seconds ≡ Some t.seconds.0
 
 record Stored (h : Header) (q : Pair) : Type 0 where
   level : q.generation ≡ no_generation
-  seconds : h.seconds ≡ some q.time
+  seconds : h.seconds ≡ Some q.time
 
-from-seconds : (h : Header) (ps : List Id) (q : Pair) → from_store (some h) ≡ good ps q → Stored h q
+from-seconds : (h : Header) (ps : List Id) (q : Pair) → from_store (Some h) ≡ good ps q → Stored h q
 unfolding from_store
 from-seconds h ps q e = go h.tree h.crowded h.author h.seconds refl e
   where
@@ -151,14 +144,14 @@ from-seconds h ps q e = go h.tree h.crowded h.author h.seconds refl e
     go false c u o k f = let z : ◌≡◌ {A = ℕ} 0 1 = cc in absurd (omega arith)
     go true true u o k f = let z : ◌≡◌ {A = ℕ} 0 1 = cc in absurd (omega arith)
     go true false false o k f = let z : ◌≡◌ {A = ℕ} 0 1 = cc in absurd (omega arith)
-    go true false true none k f = let z : ◌≡◌ {A = ℕ} 0 1 = cc in absurd (omega arith)
-    go true false true (some s) k f =
+    go true false true None k f = let z : ◌≡◌ {A = ℕ} 0 1 = cc in absurd (omega arith)
+    go true false true (Some s) k f =
         let j = read-pair s f in
-        record { level = ap (λ (a : Pair). a.generation) (sym j); seconds = k ∙ ap (λ (a : Pair). some a.time) j }
+        record { level = ap (λ (a : Pair). a.generation) (sym j); seconds = k ∙ ap (λ (a : Pair). Some a.time) j }
 
-pub header_read : (h : Header) (n : ℕ) (t : Stamp) → reading_of h ≡ AsReadable n t → HeaderRead h n t
+pub header_read : (h : Header) (n : ℕ) (t : Stamp) → reading_of h ≡ readable_as n t → HeaderRead h n t
 header_read h n t e =
-    let v = subst (λ (q : Reading). Tells (body_commit 0 0 q) (from_store (some h))) e (body-told 0 0 h).tells in
+    let v = subst (λ (q : Reading). Tells (body_commit 0 0 q) (from_store (Some h))) e (body-told 0 0 h).tells in
     let f = from-body h v.parents (record { generation = no_generation; time = t.seconds.0 }) v.is in
     record { tree = f.0; count = v.count ∙ ap length (sym f.1); seconds = (from-seconds h v.parents (record { generation = no_generation; time = t.seconds.0 }) v.is).seconds }
 
@@ -196,15 +189,15 @@ module _ (width : ℕ) (g : List ℕ) (l : Layout) (p m : ℕ) (time : ℤ) (b :
 -- ---- the commit
 
 -- the store's header of a commit
-stored-header : {width : ℕ} {s : List ℕ} {x : Id} {b : List ℕ} → GivesBody width s x b → store_is_ok width s ≡ true → (g : List ℕ) (n : ℕ) (t : Stamp) → reading_of (header width b) ≡ AsReadable n t
-    → (world_of width s g).store x ≡ some (header width b)
+stored-header : {width : ℕ} {s : List ℕ} {x : Id} {b : List ℕ} → GivesBody width s x b → store_is_ok width s ≡ true → (g : List ℕ) (n : ℕ) (t : Stamp) → reading_of (header width b) ≡ readable_as n t
+    → (world_of width s g).store x ≡ Some (header width b)
 unfolding from_store
 stored-header {width} {s} {x} {b} v ok g n t e = go v.place refl
   where
     never : (ps : List Id) (q : Pair) → fail CommitNotFound ≡ good ps q → ⊥
     never ps q f = let z : ◌≡◌ {A = ℕ} 0 1 = cc in absurd (omega arith)
 
-    go : (o : Located) → v.place ≡ o → (world_of width s g).store x ≡ some (header width b)
+    go : (o : Located) → v.place ≡ o → (world_of width s g).store x ≡ Some (header width b)
     go (BodyAt a c) p = located_body g a c v.locates p (v.is ∙ ap (part_of s) p) ok
     go Nowhere p =
         let q = stored-good v ok g n t e in
@@ -225,8 +218,8 @@ row-good width w x g p n q h = go (graph_parents width g p) refl h.is
 
     go : (o : Option (List ℕ)) → graph_parents width g p ≡ o
         → read_row w x (if_some o corrupt (λ qs. row (map (parent_at width g) qs) (generation width g p) (graph_seconds width g p))) ≡ good h.parents (pair_of q) → RowGood width g p n q
-    go none k e = let z : ◌≡◌ {A = ℕ} 0 1 = cc in absurd (omega arith)
-    go (some qs) k e =
+    go None k e = let z : ◌≡◌ {A = ℕ} 0 1 = cc in absurd (omega arith)
+    go (Some qs) k e =
         let i = same-pair (map (λ a. a.0) (map (parent_at width g) qs)) h.parents (record { generation = generation width g p; time = graph_seconds width g p }) (pair_of q) e in
         record {
           parents = map (parent_at width g) qs;
@@ -234,13 +227,13 @@ row-good width w x g p n q h = go (graph_parents width g p) refl h.is
           count = h.count ∙ ap length (sym i.0) ∙ length-map (map (parent_at width g) qs) (λ a. a.0);
         }
 
-module _ {width : ℕ} {c : Cache} {g s : List ℕ} {x : Id} {d : Commit} (rd : ReadsCommit width c g s x d) where
+module _ {width : ℕ} {c : Option Layout} {g s : List ℕ} {x : Id} {d : Commit} (rd : ReadsCommit width c g s x d) where
   module _ (f : Files width c g s) where
     same-world : world_under width c g s ≡ world_of width s g
-    same-world = ap (λ (a : Cache). world_under width a g s) f.cache ∙ kept-world width g s
+    same-world = ap (λ (a : Option Layout). world_under width a g s) f.cache ∙ kept-world width g s
 
     good-file : GoodCache width c g
-    good-file = subst (λ (a : Cache). GoodCache width a g) (sym f.cache) (good-cache width g true f.graph)
+    good-file = subst (λ (a : Option Layout). GoodCache width a g) (sym f.cache) (good-cache width g true f.graph)
 
     is_read : (e : Commit) → d ≡ e → IsRead width c g s x e
     is_read e k = subst (IsRead width c g s x) k (commit-right rd f.store good-file)
@@ -254,7 +247,7 @@ module _ {width : ℕ} {c : Cache} {g s : List ℕ} {x : Id} {d : Commit} (rd : 
       agrees : agrees_in (world_of width s g) x ≡ r
       pair : r ≡ true → pair_of q ≡ pair_at (world_of width s g) x
 
-    row-says : Files width c g s → GivesBody width s x b → (t : Stamp) → reading_of (header width b) ≡ AsReadable n t → seconds ≡ t.seconds.0 → RowSays
+    row-says : Files width c g s → GivesBody width s x b → (t : Stamp) → reading_of (header width b) ≡ readable_as n t → seconds ≡ t.seconds.0 → RowSays
     unfolding read agrees_in row_agrees same_seconds store_seconds pair_at row_generation seconds_for
     row-says f gb t e same-seconds =
         let w = world_of width s g in
@@ -263,8 +256,8 @@ module _ {width : ℕ} {c : Cache} {g s : List ℕ} {x : Id} {d : Commit} (rd : 
         let says : (world_of width s g).graph x ≡ row_at width g p = ap (λ (a : World). a.graph x) (sym (same-world f)) ∙ rf.says in
         let rg : RowGood width g p m q = row-good width (world_of width s g) x g p m q (subst (λ (a : Row). Has m q (read_row (world_of width s g) x a)) says (told f (RowOf p m q) k)) in
         let graph_is : (world_of width s g).graph x ≡ row rg.parents q.generation.0 q.time.0 = says ∙ rg.is in
-        let hd : (world_of width s g).store x ≡ some (header width b) = stored-header gb f.store g n t e in
-        let sec : store_seconds (world_of width s g) x ≡ some seconds = ap (λ (o : Option Header). if_some o none (λ h. h.seconds)) hd ∙ (header_read (header width b) n t e).seconds ∙ ap some (sym same-seconds) in
+        let hd : (world_of width s g).store x ≡ Some (header width b) = stored-header gb f.store g n t e in
+        let sec : store_seconds (world_of width s g) x ≡ Some seconds = ap (λ (o : Option Header). if_some o None (λ h. h.seconds)) hd ∙ (header_read (header width b) n t e).seconds ∙ ap Some (sym same-seconds) in
         let ids : links (world_of width s g) x ≡ (header width b).ids = stored-links gb f.store g n t e in
         let same : r ≡ (same_ids (map (λ a. a.0) rg.parents) (header width b).ids && same_time seconds q.time.0) = cr.right (own ∙ rf.layout) rg.parents q.generation.0 q.time.0 rg.is rg.count t e in
         record {
@@ -280,34 +273,34 @@ module _ {width : ℕ} {c : Cache} {g s : List ℕ} {x : Id} {d : Commit} (rd : 
               };
         }
 
-    pub judge-agrees : r ≡ true → Judges width c g s x b n seconds (PairOf p q)
+    pub judge-agrees : r ≡ true → Judges width c g s x b n seconds (Some (agreeing p q))
     judge-agrees holds' = record { right = λ f gb t e k. let a = row-says f gb t e k in (a.agrees ∙ holds', a.pair holds') }
 
-    pub judge-odds : r ≡ false → Judges width c g s x b n seconds AtOdds
+    pub judge-odds : r ≡ false → Judges width c g s x b n seconds None
     judge-odds fails' = record { right = λ f gb t e k. (row-says f gb t e k).agrees ∙ fails' }
 
   -- its body alone
-  pub judge-body : (a e n : ℕ) (q : GenThenTime) (p : ℕ) {b : List ℕ} {m : ℕ} {seconds : ℤ} → d ≡ BodyOf a e n q → Judges width c g s x b m seconds (PairOf p q)
+  pub judge-body : (a e n : ℕ) (q : GenThenTime) (p : ℕ) {b : List ℕ} {m : ℕ} {seconds : ℤ} → d ≡ BodyOf a e n q → Judges width c g s x b m seconds (Some (agreeing p q))
   unfolding read read_row agrees_in row_agrees store_seconds pair_at row_generation seconds_for
   judge-body a e n q p k = record {
     right = λ f gb m is' same-seconds.
         let fb = found-body width c g s x a e f.store (is_read f (BodyOf a e n q) k).names in
         let bare : (world_of width s g).graph x ≡ no_row = ap (λ (w : World). w.graph x) (sym (same-world f)) ∙ fb.0 in
-        let hd : (world_of width s g).store x ≡ some (header width (part_of s (BodyAt a e))) = ap (λ (w : World). w.store x) (sym (same-world f)) ∙ fb.1 in
+        let hd : (world_of width s g).store x ≡ Some (header width (part_of s (BodyAt a e))) = ap (λ (w : World). w.store x) (sym (same-world f)) ∙ fb.1 in
         let t = told f (BodyOf a e n q) k in
-        let is : from_store (some (header width (part_of s (BodyAt a e)))) ≡ good t.parents (pair_of q) =
+        let is : from_store (Some (header width (part_of s (BodyAt a e)))) ≡ good t.parents (pair_of q) =
         sym (ap (λ (o : Row). read_row (world_of width s g) x o) bare ∙ ap from_store hd) ∙ t.is in
         let fs = from-seconds (header width (part_of s (BodyAt a e))) t.parents (pair_of q) is in (
           ap (λ (o : Row). row_agrees o (links (world_of width s g) x) (store_seconds (world_of width s g) x)) bare,
           λ j. record {
             generation = sym (ap row_generation bare ∙ sym fs.level) j;
-            time = sym (ap (λ (o : Option Header). if_some (if_some o none (λ h. h.seconds)) (pos 0) (λ b. b)) hd ∙ ap (λ (o : Option ℤ). if_some o (pos 0) (λ b. b)) fs.seconds) j;
+            time = sym (ap (λ (o : Option Header). if_some (if_some o None (λ h. h.seconds)) (pos 0) (λ b. b)) hd ∙ ap (λ (o : Option ℤ). if_some o (pos 0) (λ b. b)) fs.seconds) j;
           },
         );
   }
 
   -- a row with a corrupt list: the commit is readable, so nothing else keeps it from being read
-  pub judge-failed : (n : Refusal) {b : List ℕ} {m : ℕ} {seconds : ℤ} → d ≡ Failed n → Judges width c g s x b m seconds AtOdds
+  pub judge-failed : (n : Refusal) {b : List ℕ} {m : ℕ} {seconds : ℤ} → d ≡ Failed n → Judges width c g s x b m seconds None
   unfolding read read_row agrees_in row_agrees Readable
   judge-failed n {m = m} k = record { right = λ f gb t e same-seconds. go f (stored-readable gb f.store g m t e) ((world_of width s g).graph x) refl }
     where
@@ -320,15 +313,15 @@ module _ {width : ℕ} {c : Cache} {g s : List ℕ} {x : Id} {d : Commit} (rd : 
       go f y (row ps v t) e = absurd (fails (map (λ a. a.0) ps) (record { generation = v; time = t }) (sym (ap (read_row (world_of width s g) x) e) ∙ told f (Failed n) k))
 
 -- without a file no commit has a row, and the body has all
-pub judge_bare : {width : ℕ} {c : Cache} (g s : List ℕ) (x : Id) (b : List ℕ) (n : ℕ) (seconds : ℤ) (p : ℕ) (q : GenThenTime) → c ≡ NoGraph → q.generation.0 ≡ no_generation → q.time.0 ≡ seconds
-    → Judges width c g s x b n seconds (PairOf p q)
+pub judge_bare : {width : ℕ} {c : Option Layout} (g s : List ℕ) (x : Id) (b : List ℕ) (n : ℕ) (seconds : ℤ) (p : ℕ) (q : GenThenTime) → c ≡ None → q.generation.0 ≡ no_generation → q.time.0 ≡ seconds
+    → Judges width c g s x b n seconds (Some (agreeing p q))
 unfolding world_under agrees_in row_agrees store_seconds pair_at row_generation seconds_for
 judge_bare {width} {c} g s x b n seconds p q k level time = record {
   right = λ f gb t e same-seconds.
-      let under : world_under width NoGraph g s ≡ world_of width s g = ap (λ (a : Cache). world_under width a g s) (sym k ∙ f.cache) ∙ kept-world width g s in
+      let under : world_under width None g s ≡ world_of width s g = ap (λ (a : Option Layout). world_under width a g s) (sym k ∙ f.cache) ∙ kept-world width g s in
       let bare : (world_of width s g).graph x ≡ no_row = ap (λ (w : World). w.graph x) (sym under) in
-      let hd : (world_of width s g).store x ≡ some (header width b) = stored-header gb f.store g n t e in
-      let sec : store_seconds (world_of width s g) x ≡ some q.time.0 = ap (λ (o : Option Header). if_some o none (λ h. h.seconds)) hd ∙ (header_read (header width b) n t e).seconds ∙ ap some (sym same-seconds ∙ sym time) in (
+      let hd : (world_of width s g).store x ≡ Some (header width b) = stored-header gb f.store g n t e in
+      let sec : store_seconds (world_of width s g) x ≡ Some q.time.0 = ap (λ (o : Option Header). if_some o None (λ h. h.seconds)) hd ∙ (header_read (header width b) n t e).seconds ∙ ap Some (sym same-seconds ∙ sym time) in (
         ap (λ (o : Row). row_agrees o (links (world_of width s g) x) (store_seconds (world_of width s g) x)) bare,
         λ j. record {
           generation = sym (ap row_generation bare ∙ sym level) j;

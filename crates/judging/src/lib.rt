@@ -3,11 +3,9 @@
 #![tactic(auto)]
 
 ghost use Rattle.std.specs.Prelude.{◌≡◌};
-ghost use Rattle.reach.specs.Tested.{same_time};
 ghost use Rattle.judging.specs.Judge.{ComparesParents, ComparesRow, Judges};
 ghost use Rattle.hash.specs.Bytes.{width_of};
 
-use commit::Cache;
 use commitgraph::{Layout, Level, rows};
 use date::Seconds;
 use hash::Kind;
@@ -16,27 +14,16 @@ use walk::GenThenTime;
 
 // What a commit comes to, where the file agrees: its pair, and the position of its row.
 #[derive(Clone, Copy)]
-pub enum Judged {
-    Pair { position: usize, pair: GenThenTime },
-    AtOdds,
-}
-
-// Whether two times are the same: neither lies before the other.
-fn same_time(a: Seconds, b: Seconds) -> bool
-    ensures { result ≡ same_time a.0 b.0 }
-{
-    if date::before(a, b) {
-        return false;
-    }
-    !date::before(b, a)
+pub struct Judged {
+    pub position: usize,
+    pub pair: GenThenTime,
 }
 
 // Whether the first n parents of a row are those of a body, in order.
 fn same_parents(kind: Kind, graph: &[u8], l: Layout, position: usize, body: &[u8], n: usize) -> bool
     ensures { ComparesParents (width_of kind) graph.now l position body.now n result }
 {
-    let mut k = 0;
-    while k < n {
+    for k in 0..n {
         let id = reading::body_parent(kind, body, k);
         if !hash::same(
             reading::row_parent(kind, graph, l, position, k),
@@ -44,7 +31,6 @@ fn same_parents(kind: Kind, graph: &[u8], l: Layout, position: usize, body: &[u8
         ) {
             return false;
         }
-        k += 1;
     }
     true
 }
@@ -66,17 +52,17 @@ fn row_agrees(
     if n != parents {
         return false;
     }
-    if !same_time(seconds, time) {
+    if seconds != time {
         return false;
     }
     same_parents(kind, graph, l, position, body, n)
 }
 
-// A commit by its row, else by its body alone. (A commit that is readable in the store and cannot be read has a row with a corrupt list.) The
-// row may stand at position near, and the body under that entry.
+// A commit by its row, else by its body alone; none where the file is at odds with the store. (A commit that is readable in the store and cannot be
+// read has a row with a corrupt list.) The row may stand at position near, and the body under that entry.
 fn judge_row(
     kind: Kind,
-    cache: Cache,
+    cache: Option<Layout>,
     graph: &[u8],
     store: &[u8],
     id: &[u8],
@@ -84,7 +70,7 @@ fn judge_row(
     body: &[u8],
     n: usize,
     seconds: Seconds,
-) -> Judged
+) -> Option<Judged>
     ensures { Judges (width_of kind) cache graph.now store.now id.now body.now n seconds.0 result }
 {
     match reading::read_commit(kind, cache, graph, store, id, near) {
@@ -97,22 +83,23 @@ fn judge_row(
             if row_agrees(
                 kind, graph, l, position, parents, pair.time, body, n, seconds,
             ) {
-                return Judged::Pair { position, pair };
+                return Some(Judged { position, pair });
             }
-            Judged::AtOdds
+            None
         }
-        Commit::Body { pair, .. } => Judged::Pair {
+        Commit::Body { pair, .. } => Some(Judged {
             position: reading::NOWHERE,
             pair,
-        },
-        Commit::Failed(_) => Judged::AtOdds,
+        }),
+        Commit::Failed(_) => None,
     }
 }
 
-// A commit whose body has n parents and these seconds. Without a file there is nothing to agree with, and nothing more to read.
+// A commit whose body has n parents and these seconds; none where the file is at odds with the store. Without a file there is nothing to agree with, and
+// nothing more to read.
 pub fn judge(
     kind: Kind,
-    cache: Cache,
+    cache: Option<Layout>,
     graph: &[u8],
     store: &[u8],
     id: &[u8],
@@ -120,17 +107,17 @@ pub fn judge(
     body: &[u8],
     n: usize,
     seconds: Seconds,
-) -> Judged
+) -> Option<Judged>
     ensures { Judges (width_of kind) cache graph.now store.now id.now body.now n seconds.0 result }
 {
     match cache {
-        Cache::Graph(_) => judge_row(kind, cache, graph, store, id, near, body, n, seconds),
-        Cache::NoGraph => Judged::Pair {
+        Some(_) => judge_row(kind, cache, graph, store, id, near, body, n, seconds),
+        None => Some(Judged {
             position: reading::NOWHERE,
             pair: GenThenTime {
                 generation: Level(rows::NO_GENERATION),
                 time: seconds,
             },
-        },
+        }),
     }
 }

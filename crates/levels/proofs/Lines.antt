@@ -1,8 +1,8 @@
 -- Parent lines stand one after another, each of one length, so that line j stands at its place exactly where j is below the count, for every j up to the
 -- count; past it a message may hold the like. Assumes nothing.
-use mathlib.Core.Path.{◌≡◌, refl, sym, ◌∙◌, ap}
+use Rattle.std.specs.Prelude.{◌≢◌, None, Some}
+use mathlib.Core.Path.{◌≡◌, sym, ◌∙◌, ap}
 use mathlib.Core.Bool.{true, false}
-use mathlib.Core.Option.{Option, none, some}
 use mathlib.Core.List.{List, []}
 use Prim.Native.Nat.{ℕ, suc, ◌+◌, ◌*◌, ◌≤◌, ◌<◌}
 use native.Mathlib.Omega.{arith}
@@ -10,19 +10,15 @@ use lib.ListN.{length, drop, get_or}
 use lib.Seq.{drop-drop}
 use lib.Dec.{ltb}
 use borrow.Author.Tests.{ltb-true, ltb-false, lt-ltb, le-ltb}
-use Rattle.hash.specs.Bytes.{Id}
-use Rattle.hash.proofs.Tests.{by_cases}
+use Rattle.hash.proofs.Tests.{by_cases, clash, some_in}
 use Rattle.object.specs.Header.{tree_size, parent_size, is_some, id_line, parent_word, most}
-use Rattle.object.specs.Ids.{id_room, id_in}
+use Rattle.object.specs.Ids.{id_room, padded, id_in}
 use Rattle.object.specs.Read.{parent_at, id_read}
-use Rattle.object.proofs.Lines.{id_line-some}
+use Rattle.object.specs.declared.ObjectId.{ObjectId}
+use Rattle.object.proofs.Lines.{id_line-some, good-is}
 use Rattle.object.proofs.IdBytes.{id_in_lem}
 use Rattle.object.proofs.Parents.{Run, parents_run}
 use Rattle.levels.specs.StoreGraph.{lines_in, lines_count}
-
-good-some : (o : Option (Id × List ℕ)) → (id_read o).good ≡ is_some o
-good-some none = refl
-good-some (some t) = refl
 
 module _ (w : ℕ) (b : List ℕ) where
   run : Run w most (drop (tree_size w) b) (lines_in w b)
@@ -33,7 +29,7 @@ module _ (w : ℕ) (b : List ℕ) where
   there j = drop-drop (parent_size w * j) (tree_size w) b
 
   line-there : (j : ℕ) → j < length (lines_in w b).ids
-      → id_line w parent_word (drop (tree_size w + parent_size w * j) b) ≡ some (get_or (lines_in w b).ids j [], drop (parent_size w * suc j) (drop (tree_size w) b))
+      → id_line w parent_word (drop (tree_size w + parent_size w * j) b) ≡ Some (get_or (lines_in w b).ids j [], drop (parent_size w * suc j) (drop (tree_size w) b))
   line-there j h = ap (id_line w parent_word) (sym (there j)) ∙ run.each j h
 
   pub after_last : is_some (id_line w parent_word (drop (tree_size w + parent_size w * length (lines_in w b).ids) b)) ≡ (lines_in w b).more
@@ -57,10 +53,10 @@ module _ (w : ℕ) (b : List ℕ) where
   pub line-has-id : (j : ℕ) → j < 256 → j < lines_count w b → j < length (lines_in w b).ids
   line-has-id j a h = by_cases (lines_in w b).more (λ e. omega (arith, run.full e)) (λ e. omega (arith, count_none e))
 
-  pub has-line : (j : ℕ) → j ≤ 256 → j ≤ lines_count w b → (parent_at w b (tree_size w + parent_size w * j)).good ≡ ltb j (lines_count w b)
+  pub has-line : (j : ℕ) → j ≤ 256 → j ≤ lines_count w b → is_some (parent_at w b (tree_size w + parent_size w * j)) ≡ ltb j (lines_count w b)
   unfolding parent_at
   has-line j a h =
-      good-some (id_line w parent_word (drop (tree_size w + parent_size w * j) b))
+      good-is (id_line w parent_word (drop (tree_size w + parent_size w * j) b))
       ∙ by_cases (ltb j (length (lines_in w b).ids))
       (λ e. let l : j < length (lines_in w b).ids = ltb-true j (length (lines_in w b).ids) e in
       ap is_some (line-there j l) ∙ sym (lt-ltb j (lines_count w b) (counted-less l)))
@@ -82,8 +78,13 @@ module _ (w : ℕ) (b : List ℕ) where
   no_line j a h = sym (le-ltb j (lines_count w b) (omega (arith, count_most)))
 
   -- the id that is read there
-  pub line-id : (j : ℕ) → w ≤ id_room → j < length (lines_in w b).ids → id_in w (parent_at w b (tree_size w + parent_size w * j)).id.bytes ≡ get_or (lines_in w b).ids j []
+  pub line-id : (j : ℕ) → w ≤ id_room → j < length (lines_in w b).ids → {x : ObjectId} → parent_at w b (tree_size w + parent_size w * j) ≡ Some x → id_in w x.bytes ≡ get_or (lines_in w b).ids j []
   unfolding parent_at
-  line-id j small h =
-      ap (λ (o : Option (Id × List ℕ)). id_in w (id_read o).id.bytes) (line-there j h)
+  line-id j small h {x} e =
+      let read : Some x ≡ Some (record { bytes = padded (get_or (lines_in w b).ids j []) }) = sym e ∙ ap id_read (line-there j h) in
+      ap (λ (y : ObjectId). id_in w y.bytes) (some_in read)
       ∙ id_in_lem w (get_or (lines_in w b).ids j []) (id_line-some w parent_word (drop (tree_size w + parent_size w * j) b) _ (line-there j h)).width small
+
+  -- below the count there is one
+  pub line-id-there : (j : ℕ) → j < 256 → j < lines_count w b → parent_at w b (tree_size w + parent_size w * j) ≢ None
+  line-id-there j a h e = clash (lt-ltb j (lines_count w b) h) (sym (has-line j (omega arith) (omega arith)) ∙ ap is_some e)

@@ -1,12 +1,12 @@
 -- The search for levels in lent memory: one number a node, 0 for a node not met, `tag` plus its level for a node that is done, and between the two a node
 -- on the path: 512 times one more than the node to go back to (`nodes` where there is none), plus the number of the parent at hand. Assumes nothing.
-use Rattle.std.specs.Prelude.{◌≡◌, ℕ, zero, suc, ◌+◌, ◌-◌, ◌/◌, ◌%◌, ◌≤◌, ◌<◌, cond, length, get_or, set, eqb, ltb, leb}
+use Rattle.std.specs.Prelude.{◌≡◌, ℕ, zero, suc, ◌+◌, ◌-◌, ◌/◌, ◌%◌, ◌≤◌, ◌<◌, cond, length, get_or, set, eqb, ltb, leb, Result, Ok, Err}
 use mathlib.Core.List.{List, [], ◌∷◌, Memᴰ}
 use Rattle.levels.specs.Levels.{Graph, Fit, level_from, most, level_of, fit}
 use Rattle.levels.specs.declared.Turn.{Turn}
 use Rattle.levels.specs.declared.Turn.TheVariants.{On, All, Unfit}
-use Rattle.levels.specs.declared.Answer.{Answer}
-use Rattle.levels.specs.declared.Answer.TheVariants.{Levelled, NoLevels, Short}
+use Rattle.levels.specs.declared.LevelsError.{LevelsError}
+use Rattle.levels.specs.declared.LevelsError.TheVariants.{NoLevels, Short}
 
 abbrev pub Mem : ℕ → List ℕ → Type 0
 Mem k l = Memᴰ k l
@@ -97,14 +97,14 @@ pub record Turns (g : Graph) (s s' : List ℕ) (top root : ℕ) (r : Turn) : Typ
 -- ---- the whole
 
 -- the answer: Short where the levels are too few or the nodes too many
-unfoldable pub answer_of : Graph → ℕ → Answer
-answer_of g n = cond (ltb n g.nodes) Short (cond (ltb most_nodes g.nodes) Short (cond (fit g) Levelled NoLevels))
+unfoldable pub answer_of : Graph → ℕ → Result (Unit {0}) LevelsError
+answer_of g n = cond (ltb n g.nodes) (Err Short) (cond (ltb most_nodes g.nodes) (Err Short) (cond (fit g) (Ok tt) (Err NoLevels)))
 
-pub record Levels (g : Graph) (s s' : List ℕ) (r : Answer) : Type 0 where
+pub record Levels (g : Graph) (s s' : List ℕ) (r : Result (Unit {0}) LevelsError) : Type 0 where
   pub answer : r ≡ answer_of g (length s)
-  pub levels : r ≡ Levelled → (k : ℕ) → k < g.nodes → at s' k ≡ tag + level_of g k
+  pub levels : r ≡ (Ok tt) → (k : ℕ) → k < g.nodes → at s' k ≡ tag + level_of g k
   pub kept : (k : ℕ) → g.nodes ≤ k → at s' k ≡ at s k
-  pub short : r ≡ Short → s' ≡ s
+  pub short : r ≡ (Err Short) → s' ≡ s
 
 -- v is stored at k if it fits, and nothing else changes
 pub record Puts (s s' : List ℕ) (k v : ℕ) : Type 0 where

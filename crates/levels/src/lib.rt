@@ -12,20 +12,23 @@ ghost use Rattle.levels.specs.StoreGraph.{lines_count, entry_of, store_graph, St
 
 use hash::Kind;
 
-// On: the entry at hand (n: none), and the entries below root have been met.
+// How the search stands after a turn: it goes on with an entry at hand (n: none), the entries below root having been met; all have their levels; there
+// are no levels. Three ways, each with a step of its own: an Option in a Result would say no more.
 #[derive(Clone, Copy)]
 pub enum Turn {
-    On(usize, usize),
+    On { top: usize, root: usize },
     All,
     Unfit,
 }
 
-// What the search for levels gives: every level; that there are none; too few lent levels; a store whose layout is broken.
+// Why the levels of a store are not set down.
 #[derive(Clone, Copy)]
-pub enum Answer {
-    Levelled,
+pub enum LevelsError {
+    // No levels satisfy the rule, or a parent is no entry, or an entry has over 256.
     NoLevels,
+    // Too few lent levels for the entries.
     Short,
+    // The store's layout is broken.
     Torn,
 }
 
@@ -95,8 +98,10 @@ pub fn parent_at(kind: Kind, store: &[u8], n: usize, k: usize, j: usize) -> usiz
         return n;
     }
     let at = line_place(kind, j);
-    let line = object::parent_line(kind, odb::entry_bytes(kind, store, k), at);
-    entry_of(kind, store, n, object::id_slice(kind, &line.id.bytes))
+    let Some(id) = object::parent_line(kind, odb::entry_bytes(kind, store, k), at) else {
+        return n;
+    };
+    entry_of(kind, store, n, object::id_slice(kind, &id.bytes))
 }
 
 // The greatest level among the first c parents of entry k.
@@ -105,13 +110,11 @@ fn greatest(kind: Kind, store: &[u8], levels: &[u32], n: usize, k: usize, c: usi
     ensures { Greatest (store_graph (width_of kind) store.now n) levels.now k c result }
 {
     let mut m: usize = 0;
-    let mut i: usize = 0;
-    while i < c {
+    for i in 0usize..c {
         let p = parent_at(kind, store, n, k, i);
         let v = word(levels, p);
         let l = above(v);
         m = larger_of(m, l);
-        i += 1;
     }
     m
 }
@@ -148,9 +151,15 @@ fn next_root(levels: &mut [u32], n: usize, top: usize, root: usize) -> Turn
     let w = word(levels, root);
     if w < 1 {
         put(levels, root, (n + 1) * 512);
-        return Turn::On(root, root + 1);
+        return Turn::On {
+            top: root,
+            root: root + 1,
+        };
     }
-    Turn::On(top, root + 1)
+    Turn::On {
+        top,
+        root: root + 1,
+    }
 }
 
 // One turn: the entry at hand goes on by one parent, is done, or another goes on top of it.
@@ -181,68 +190,64 @@ fn take_turn(
         let w = word(levels, p);
         if w < 1 {
             put(levels, p, (top + 1) * 512);
-            return Turn::On(p, root);
+            return Turn::On { top: p, root };
         }
         if w < TAG {
             return Turn::Unfit;
         }
         put(levels, top, v + 1);
-        return Turn::On(top, root);
+        return Turn::On { top, root };
     }
     let m = greatest(kind, store, levels, n, top, j);
     put(levels, top, TAG + (m + 1));
-    Turn::On(back_of(v), root)
+    Turn::On {
+        top: back_of(v),
+        root,
+    }
 }
 
 // Zeros in the first n places.
 fn clear(levels: &mut [u32], n: usize)
     ensures { Cleared n levels.old levels.new }
 {
-    let mut i: usize = 0;
-    while i < n {
+    for i in 0usize..n {
         put(levels, i, 0);
-        i += 1;
     }
 }
 
 // The levels of the n entries of a store, set down in the lent levels with the tag, or that there are none: then the first n places are free.
-fn search_levels(kind: Kind, store: &[u8], levels: &mut [u32], n: usize) -> Answer
+fn search_levels(kind: Kind, store: &[u8], levels: &mut [u32], n: usize) -> Result<(), LevelsError>
     requires { ids_rise (width_of kind) store.now ≡ true }
     ensures { Levels (store_graph (width_of kind) store.now n) levels.old levels.new result }
 {
     if levels.len() < n {
-        return Answer::Short;
+        return Err(LevelsError::Short);
     }
     if MOST_NODES < n {
-        return Answer::Short;
+        return Err(LevelsError::Short);
     }
     clear(levels, n);
     let mut top = n;
     let mut root: usize = 0;
     loop {
-        let t = take_turn(kind, store, levels, n, top, root);
-        match t {
-            Turn::On(a, b) => {
+        match take_turn(kind, store, levels, n, top, root) {
+            Turn::On { top: a, root: b } => {
                 top = a;
                 root = b;
             }
-            Turn::All => {
-                return Answer::Levelled;
-            }
-            Turn::Unfit => {
-                return Answer::NoLevels;
-            }
+            Turn::All => return Ok(()),
+            Turn::Unfit => return Err(LevelsError::NoLevels),
         }
     }
 }
 
 // The levels of a store's commits: where each entry's parents are entries, at most 256 of them, and levels exist that satisfy the rule, each entry's level is
 // set down in its place with the tag 2^31 added.
-pub fn find_levels(kind: Kind, store: &[u8], levels: &mut [u32]) -> Answer
+pub fn find_levels(kind: Kind, store: &[u8], levels: &mut [u32]) -> Result<(), LevelsError>
     ensures { StoreLevels (width_of kind) store.now levels.old levels.new result }
 {
     if !odb::is_good(kind, store) {
-        return Answer::Torn;
+        return Err(LevelsError::Torn);
     }
     let n = odb::count(kind, store);
     search_levels(kind, store, levels, n)

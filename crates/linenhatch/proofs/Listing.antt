@@ -1,9 +1,9 @@
 -- The third demand for callers of the library: it holds of the walk's calls behind theirs, and what they read in their buffers is what
 -- those calls answered. Assumes nothing.
+use Rattle.std.specs.Prelude.{Err, None, Ok, Result}
 use mathlib.Core.Path.{◌≡◌, refl, sym, ◌∙◌, ap, subst}
 use Prim.Native.Nat.{ℕ, zero, suc, ◌+◌, ◌≤◌, ◌<◌}
 use mathlib.Core.Bool.{true}
-use mathlib.Core.Option.{none}
 use mathlib.Core.List.Memᴰ
 use mathlib.Core.List.{List, [], ◌∷◌}
 use mathlib.Core.Logic.{⊎_elim}
@@ -18,8 +18,6 @@ use Rattle.hash.proofs.Tests.{by_cases}
 use Rattle.walk.specs.declared.Refusal.{Refusal}
 use Rattle.walk.specs.declared.Outcome.{Outcome}
 use Rattle.walk.specs.declared.Outcome.TheVariants.{Commit, End, Refused}
-use Rattle.walk.specs.declared.OpenOutcome.{OpenOutcome}
-use Rattle.walk.specs.declared.OpenOutcome.TheVariants.{Accepted, NotOpened}
 use Rattle.walk.specs.declared.OpenAnswer.{OpenAnswer}
 use Rattle.walk.specs.Refusals.{number_of}
 use Rattle.walk.specs.Opening.{Input, width_in, walk_of, list_ids, refusal, room_for, P}
@@ -163,10 +161,10 @@ module _ {i : Input} {m m' : Lent} {words words' numbers numbers' : List ℕ} {n
   calls-of {f} h = subst (λ (r : Record). Calls f r m' (behind_all h).list) t.record_is (behind_all h).calls
 
   -- the outcome with the result's number
-  outcome-of : (o : OpenOutcome) → n ≡ open_number o → t.out.answer.outcome ≡ o
+  outcome-of : (o : Result (Unit {0}) Refusal) → n ≡ open_number o → t.out.answer.outcome ≡ o
   outcome-of o k = ap (λ (x : OpenAnswer). x.outcome) t.says.answer ∙ open_number-own (open_answer i m).outcome o (sym t.result ∙ k)
 
-  demanded : refusal i ≡ none → room_for i (lengths_of m) ≡ true → Premises (walk_of i) (list_ids (width_in i) i.tips) → LibraryDelivered i words' m' n
+  demanded : refusal i ≡ None → room_for i (lengths_of m) ≡ true → Premises (walk_of i) (list_ids (width_in i) i.tips) → LibraryDelivered i words' m' n
   unfolding Third
   demanded e room pre =
       let d = (third_demand i m).demanded t.out m' t.says e room pre in
@@ -179,25 +177,25 @@ module _ {i : Input} {m m' : Lent} {words words' numbers numbers' : List ℕ} {n
         every-list = λ cs h. let l = d.every-list (behind_all h).list (calls-of h) in lists i cs (behind_all h) l.of_the_walk d.list (λ x q. list-wide i v x ((v.exactly x).1 ((d.exactly x).0 q))) l;
       }
 
-  accepted-calls : n ≡ open_number Accepted → (cs : List LibraryCall) → LibraryCalls (files_of i) words' m' cs → LibraryAnyCalls i cs
+  accepted-calls : n ≡ open_number (Ok tt) → (cs : List LibraryCall) → LibraryCalls (files_of i) words' m' cs → LibraryAnyCalls i cs
   accepted-calls k cs h =
-      let e = outcome-of Accepted k in
+      let e = outcome-of (Ok tt) k in
       let a = (third_demand i m).accepted-calls t.out m' t.says e (behind_all h).list (calls-of h) in
       any-calls i cs (behind_all h) a.of_the_walk a
 
   refused-calls : (r : Refusal) → n ≡ number_of r → (f : Files) (cs : List LibraryCall) → LibraryCalls f words' m' cs → (k : ℕ) (c : LibraryCall) → CallIs cs k c → LibraryShut (width_of f.settings.kind) c
   refused-calls r e f cs h k c p =
       let x = each (behind_all h).paired k c p in
-      shut-is x.2 ((third_demand i m).refused-calls t.out m' t.says r (outcome-of (NotOpened r) e) f (behind_all h).list (calls-of h) k x.0 x.1)
+      shut-is x.2 ((third_demand i m).refused-calls t.out m' t.says r (outcome-of (Err r) e) f (behind_all h).list (calls-of h) k x.0 x.1)
 
 -- an opening whose result is an outcome's number had room for its record and numbers
-was-tried : {i : Input} {m m' : Lent} {words words' numbers numbers' : List ℕ} {n : ℕ} → LibraryOpens i m m' words words' numbers numbers' n → (o : OpenOutcome) → n ≡ open_number o
+was-tried : {i : Input} {m m' : Lent} {words words' numbers numbers' : List ℕ} {n : ℕ} → LibraryOpens i m m' words words' numbers numbers' n → (o : Result (Unit {0}) Refusal) → n ≡ open_number o
     → Tried i m m' words words' numbers numbers' n
 was-tried {words = words} {numbers = numbers} s o e = by_cases (room_to_open words numbers) (λ r. s.tried r) (λ r. absurd (no_room_open o (sym e ∙ (s.no_room r).0)))
 
 pub library_demand : (i : Input) (m m' : Lent) (words words' numbers numbers' : List ℕ) (n : ℕ) → LibraryDemand i m m' words words' numbers numbers' n
 library_demand i m m' words words' numbers numbers' n = record {
   demanded = λ s room. demanded (s.tried room);
-  accepted-calls = λ s e. accepted-calls (was-tried s Accepted e) e;
-  refused-calls = λ s r e. refused-calls (was-tried s (NotOpened r) e) r e;
+  accepted-calls = λ s e. accepted-calls (was-tried s (Ok tt) e) e;
+  refused-calls = λ s r e. refused-calls (was-tried s (Err r) e) r e;
 }

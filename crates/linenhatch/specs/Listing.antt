@@ -1,12 +1,10 @@
 -- The third demand for callers of the library: an opening and every list of next calls after it, over what a caller sees of them, the
 -- results and the lent buffers. It is the claim of traverse/specs/Demand.antt, sentence by sentence. Assumes nothing.
-use Rattle.std.specs.Prelude.{ℕ, suc, ◌+◌, ◌≤◌, ◌<◌, ◌≡◌, ◌↔◌, Bool, true, cond, List, [], ◌∷◌, ◌++◌, length, take, get_or, eqb, ltb, ℤ}
-use Rattle.std.proofs.Math.Option.{none}
+use Rattle.std.specs.Prelude.{ℕ, suc, ◌+◌, ◌≤◌, ◌<◌, ◌≡◌, ◌↔◌, Bool, true, cond, List, [], ◌∷◌, ◌++◌, length, take, get_or, eqb, ltb, ℤ, None, Ok}
 use Rattle.hash.specs.Bytes.{Id, width_of}
 use Rattle.walk.specs.declared.Refusal.{Refusal}
 use Rattle.walk.specs.declared.Refusal.TheVariants.{Closed}
 use Rattle.walk.specs.declared.Outcome.TheVariants.{Commit, End}
-use Rattle.walk.specs.declared.OpenOutcome.TheVariants.{Accepted}
 use Rattle.walk.specs.Refusals.{number_of}
 use Rattle.walk.specs.Opening.{Input, width_in, walk_of, list_ids, refusal, room_for, P}
 use Rattle.walk.specs.Next.{Answer}
@@ -111,7 +109,7 @@ pub record LibraryLists (i : Input) (list : List Id) (cs : List LibraryCall) : T
 -- under the premises, of an opening with the result n that left the words w and the memory m
 pub record LibraryDelivered (i : Input) (w : List ℕ) (m : Lent) (n : ℕ) : Type 0 where
   -- "an opening to which none of 01's 1 to 6 applies is accepted"
-  pub accepted : n ≡ open_number Accepted
+  pub accepted : n ≡ open_number (Ok tt)
   -- the n different "commits reachable from an admitted tip over admitted links and from no hidden tip", and no others
   pub list : List Id
   pub no_repeats : NoDup list
@@ -145,10 +143,10 @@ pub record LibraryShut (width : ℕ) (c : LibraryCall) : Type 0 where
 -- of an opening with the input i and the lent memory m, whatever its result n, and every list of next calls after it
 pub record LibraryDemand (i : Input) (m m' : Lent) (words words' numbers numbers' : List ℕ) (n : ℕ) : Type 0 where
   -- there is room for the record and the numbers, none of 1 to 6 applies, and the premises hold
-  pub demanded : LibraryOpens i m m' words words' numbers numbers' n → room_to_open words numbers ≡ true → refusal i ≡ none → room_for i (lengths_of m) ≡ true → Premises (walk_of i) (list_ids (width_in i) i.tips)
+  pub demanded : LibraryOpens i m m' words words' numbers numbers' n → room_to_open words numbers ≡ true → refusal i ≡ None → room_for i (lengths_of m) ≡ true → Premises (walk_of i) (list_ids (width_in i) i.tips)
       → LibraryDelivered i words' m' n
   -- any accepted opening
-  pub accepted-calls : LibraryOpens i m m' words words' numbers numbers' n → n ≡ open_number Accepted
+  pub accepted-calls : LibraryOpens i m m' words words' numbers numbers' n → n ≡ open_number (Ok tt)
       → (cs : List LibraryCall) → LibraryCalls (files_of i) words' m' cs → LibraryAnyCalls i cs
   -- any refused opening, and calls with any files
   pub refused-calls : LibraryOpens i m m' words words' numbers numbers' n → (r : Refusal) → n ≡ number_of r
@@ -156,6 +154,6 @@ pub record LibraryDemand (i : Input) (m m' : Lent) (words words' numbers numbers
 
 -- the same of a tested opening: what is accepted is delivered, with the lending of `LibraryCalls` as its only premise; a refused one is shut
 pub record LibraryTestedDemand (i : Input) (m m' : Lent) (words words' numbers numbers' : List ℕ) (n : ℕ) : Type 0 where
-  pub delivered : LibraryOpensTested i m m' words words' numbers numbers' n → n ≡ open_number Accepted → LibraryDelivered i words' m' n
+  pub delivered : LibraryOpensTested i m m' words words' numbers numbers' n → n ≡ open_number (Ok tt) → LibraryDelivered i words' m' n
   pub refused-calls : LibraryOpensTested i m m' words words' numbers numbers' n → (r : Refusal) → n ≡ number_of r
       → (f : Files) (cs : List LibraryCall) → LibraryCalls f words' m' cs → (k : ℕ) (c : LibraryCall) → CallIs cs k c → LibraryShut (width_of f.settings.kind) c

@@ -1,5 +1,6 @@
 -- A link to a parent is the walk's own visit: a known parent changes nothing, a new one is seen in a slot of its own, and waits where its link is admitted.
 -- The ids stay in the universe, since the parent is in it, and at most one commit more is admitted. Assumes nothing.
+use Rattle.std.specs.Prelude.{Option, Some, None}
 use mathlib.Core.Path.{◌≡◌, refl, sym, ap, ◌∙◌, subst}
 use mathlib.Core.Logic.{⊎_elim}
 use Prim.Native.Nat.{ℕ, suc}
@@ -19,7 +20,6 @@ use Rattle.walk.specs.Opening.{list_ids}
 use Rattle.walk.specs.Next.{admits, visit}
 use Rattle.walk.proofs.Laws.{add-cases}
 use Rattle.state.specs.declared.Record.{Record}
-use Rattle.state.specs.declared.Seen.{Seen}
 use Rattle.state.specs.Reads.{Shape, Reads, Universe, memory_width}
 use Rattle.state.specs.Shapes.{before_of, shape_for, joins}
 use Rattle.state.specs.Steps.{mem, Sees, Waits}
@@ -27,14 +27,6 @@ use Rattle.state.proofs.Shapes.{waits-shape}
 use Rattle.links.specs.Link.{GoesBy, Ready, Went, Admits, Enters, Visits}
 
 -- ---- tests
-
-pub not_true : (b : Bool) → not b ≡ true → b ≡ false
-not_true true e = clash e refl
-not_true false e = refl
-
-pub not_false : (b : Bool) → not b ≡ false → b ≡ true
-not_false true e = refl
-not_false false e = clash refl e
 
 -- ---- the walk's visit, case by case
 
@@ -133,8 +125,7 @@ joins-waits {v} {sh} {excluded} {settings} by st x t =
     ap (λ (q : Shape). joins (before_of q) (sees st x) x (cond q.timed t (pos 0))) (by.shape ∙ ap (λ (q : Settings). shape_for q sh.cap sh.fixed) (sym by.same-settings))
     ∙ sym (waits-shape v sh.cap sh.fixed st x t)
 
-module _ (excluded : List ℕ) (settings : Settings) (r r' : Record) (names marks names' marks' : List ℕ) (times times' : List ℤ) (line line' : List ℕ) (x : Id) (a : Seen)
-    (s : Sees r names marks names' marks' x a) where
+module _ (excluded : List ℕ) (settings : Settings) (r r' : Record) (names marks names' marks' : List ℕ) (times times' : List ℤ) (line line' : List ℕ) (x : Id) where
   module _ (v : Walk) (sh : Shape) (st : State) (u : List Id) (n : ℕ) (by : GoesBy v sh excluded settings) (d : Ready sh r (mem names marks times line) st u (suc n))
       (w : length x ≡ width_of settings.kind) (i : Memᴰ x u) where
     -- the memory holds ids of that kind
@@ -152,22 +143,22 @@ module _ (excluded : List ℕ) (settings : Settings) (r r' : Record) (names mark
     }
 
     -- a known parent changes nothing
-    went-known : a.fresh ≡ false → times' ≡ times → line' ≡ line → r' ≡ r → (t : ℤ) → Goal (visit v st x t)
-    went-known f p q h t =
+    went-known : Sees r names marks names' marks' x None → times' ≡ times → line' ≡ line → r' ≡ r → (t : ℤ) → Goal (visit v st x t)
+    went-known s p q h t =
         by_cases (st.frontier x || st.seen x)
-        (λ k. subst Goal (sym (visit-old v st x t k)) (let o = s.still f in still st (same-state d.reads o.0 o.1 p q h) h q d.inside refl))
-        (λ k. clash (s.new times line sh st d.reads d.failed held-wide k u d.inside i).fresh f)
+        (λ k. subst Goal (sym (visit-old v st x t k)) (let o = s.told.still in still st (same-state d.reads o.0 o.1 p q h) h q d.inside refl))
+        (λ k. absurd (s.told.new times line sh st d.reads d.failed held-wide k u d.inside i))
 
-    went-turned : {t : ℤ} → Enters excluded settings r times times' line line' x t a.slot r' → (st.frontier x || st.seen x) ≡ false → admits v x t ≡ false → Goal (sees st x)
-    went-turned e k n =
-        let o = s.new times line sh st d.reads d.failed held-wide k u d.inside i in
+    went-turned : {t : ℤ} {slot : ℕ} → Sees r names marks names' marks' x (Some slot) → Enters excluded settings r times times' line line' x t slot r' → (st.frontier x || st.seen x) ≡ false → admits v x t ≡ false → Goal (sees st x)
+    went-turned s e k n =
+        let o = s.told.new times line sh st d.reads d.failed held-wide k u d.inside i in
         let p = e.turned v by.same-settings by.same-excluded n in
         let g : Reads r' (mem names' marks' times' line') sh (sees st x) = rw (p.0, p.1, p.2) o.reads in
         still (sees st x) g p.2 p.1 (sees-inside v st x (pos 0) i d.inside) (sees-count v st x (pos 0))
 
-    went-admitted : {t : ℤ} → Enters excluded settings r times times' line line' x t a.slot r' → (st.frontier x || st.seen x) ≡ false → admits v x t ≡ true → Goal (waits v st x t)
-    went-admitted {t} e k n =
-        let o = s.new times line sh st d.reads d.failed held-wide k u d.inside i in
+    went-admitted : {t : ℤ} {slot : ℕ} → Sees r names marks names' marks' x (Some slot) → Enters excluded settings r times times' line line' x t slot r' → (st.frontier x || st.seen x) ≡ false → admits v x t ≡ true → Goal (waits v st x t)
+    went-admitted {t} s e k n =
+        let o = s.told.new times line sh st d.reads d.failed held-wide k u d.inside i in
         let p = e.admitted v by.same-settings by.same-excluded n in
         let g = p.joined names' marks' sh (sees st x) x o.reads d.failed o.slot d.slots (omega (arith, d.numbers, d.reads.admitted)) in
         record {
@@ -184,36 +175,36 @@ module _ (excluded : List ℕ) (settings : Settings) (r r' : Record) (names mark
     not-timed : r.queue.timed ≡ false → by_time v.settings ≡ false
     not-timed j = ap by_time by.same-settings ∙ sym (ap (λ (q : Shape). q.timed) by.shape) ∙ sym d.reads.timed ∙ j
 
-    went : a.fresh ≡ true → (t : ℤ) → Enters excluded settings r times times' line line' x t a.slot r' → Goal (visit v st x t)
-    went f t e =
+    went : {slot : ℕ} → Sees r names marks names' marks' x (Some slot) → (t : ℤ) → Enters excluded settings r times times' line line' x t slot r' → Goal (visit v st x t)
+    went s t e =
         by_cases (st.frontier x || st.seen x)
-        (λ k. clash f (s.old times line sh st d.reads k))
+        (λ k. absurd (s.told.old times line sh st d.reads k))
         (λ k. by_cases (admits v x t)
-        (λ n. subst Goal (sym (visit-new v st x t true k n)) (went-admitted e k n))
-        (λ n. subst Goal (sym (visit-new v st x t false k n)) (went-turned e k n)))
+        (λ n. subst Goal (sym (visit-new v st x t true k n)) (went-admitted s e k n))
+        (λ n. subst Goal (sym (visit-new v st x t false k n)) (went-turned s e k n)))
 
     -- seconds do not count where commits do not wait by time
-    went-with : a.fresh ≡ true → (t t' : ℤ) → (r.queue.timed ≡ true → t ≡ t') → Enters excluded settings r times times' line line' x t a.slot r' → Goal (visit v st x t')
-    went-with f t t' q e =
+    went-with : {slot : ℕ} → Sees r names marks names' marks' x (Some slot) → (t t' : ℤ) → (r.queue.timed ≡ true → t ≡ t') → Enters excluded settings r times times' line line' x t slot r' → Goal (visit v st x t')
+    went-with s t t' q e =
         by_cases r.queue.timed
-        (λ j. subst (λ (z : ℤ). Goal (visit v st x z)) (q j) (went f t e))
-        (λ j. subst Goal (visit-timeless v st x t t' (not-timed j)) (went f t e))
+        (λ j. subst (λ (z : ℤ). Goal (visit v st x z)) (q j) (went s t e))
+        (λ j. subst Goal (visit-timeless v st x t t' (not-timed j)) (went s t e))
 
 -- what is seen by a record is seen by the same record
-pub sees_as : {r r' : Record} {names marks names' marks' : List ℕ} {x : Id} {a : Seen} → r ≡ r' → Sees r names marks names' marks' x a → Sees r' names marks names' marks' x a
+pub sees_as : {r r' : Record} {names marks names' marks' : List ℕ} {x : Id} {a : Option ℕ} → r ≡ r' → Sees r names marks names' marks' x a → Sees r' names marks names' marks' x a
 sees_as {names = names} {marks = marks} {names' = names'} {marks' = marks'} {x = x} {a = a} e s = subst (λ (z : Record). Sees z names marks names' marks' x a) e s
 
 -- where the seconds t of a new parent are t', in a queue by time
-pub visits : {excluded : List ℕ} {settings : Settings} {r r' : Record} {names marks names' marks' : List ℕ} {times times' : List ℤ} {line line' : List ℕ} {x : Id} {a : Seen}
-    → Sees r names marks names' marks' x a → a.fresh ≡ true → (t t' : ℤ) → (r.queue.timed ≡ true → t ≡ t') → Enters excluded settings r times times' line line' x t a.slot r'
+pub visits : {excluded : List ℕ} {settings : Settings} {r r' : Record} {names marks names' marks' : List ℕ} {times times' : List ℤ} {line line' : List ℕ} {x : Id} {slot : ℕ}
+    → Sees r names marks names' marks' x (Some slot) → (t t' : ℤ) → (r.queue.timed ≡ true → t ≡ t') → Enters excluded settings r times times' line line' x t slot r'
     → Visits excluded settings r (mem names marks times line) (mem names' marks' times' line') x t' r'
-visits {excluded} {settings} {r} {r'} {names} {marks} {names'} {marks'} {times} {times'} {line} {line'} {x} {a} s f t t' q e = record {
-  right = λ v sh st u n by d w i. went-with excluded settings r r' names marks names' marks' times times' line line' x a s v sh st u n by d w i f t t' q e;
+visits {excluded} {settings} {r} {r'} {names} {marks} {names'} {marks'} {times} {times'} {line} {line'} {x} s t t' q e = record {
+  right = λ v sh st u n by d w i. went-with excluded settings r r' names marks names' marks' times times' line line' x v sh st u n by d w i s t t' q e;
 }
 
 -- a known parent, whatever its seconds
-pub visits-known : {excluded : List ℕ} {settings : Settings} {r : Record} {names marks names' marks' : List ℕ} {times : List ℤ} {line : List ℕ} {x : Id} {a : Seen}
-    → Sees r names marks names' marks' x a → a.fresh ≡ false → (t : ℤ) → Visits excluded settings r (mem names marks times line) (mem names' marks' times line) x t r
-visits-known {excluded} {settings} {r} {names} {marks} {names'} {marks'} {times} {line} {x} {a} s f t = record {
-  right = λ v sh st u n by d w i. went-known excluded settings r r names marks names' marks' times times line line x a s v sh st u n by d w i f refl refl refl t;
+pub visits-known : {excluded : List ℕ} {settings : Settings} {r : Record} {names marks names' marks' : List ℕ} {times : List ℤ} {line : List ℕ} {x : Id}
+    → Sees r names marks names' marks' x None → (t : ℤ) → Visits excluded settings r (mem names marks times line) (mem names' marks' times line) x t r
+visits-known {excluded} {settings} {r} {names} {marks} {names'} {marks'} {times} {line} {x} s t = record {
+  right = λ v sh st u n by d w i. went-known excluded settings r r names marks names' marks' times times line line x v sh st u n by d w i s refl refl refl t;
 }

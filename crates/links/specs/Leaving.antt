@@ -1,5 +1,5 @@
 -- What leaves the queue of a record, for the call in place. Assumes nothing.
-use Rattle.std.specs.Prelude.{ℕ, ◌≡◌, true, List, ℤ}
+use Rattle.std.specs.Prelude.{ℕ, ◌≡◌, List, ℤ, Some}
 use Rattle.date.specs.declared.Seconds.{Seconds}
 use Rattle.revwalk.specs.declared.queue.Popped.{Popped}
 use Rattle.revwalk.specs.Order.{seconds_of}
@@ -9,8 +9,7 @@ use Rattle.state.specs.declared.Waiting.{Waiting}
 
 -- q has left the queue of the record r, whose line is line₁ then; its slot has s seconds
 pub record Leaves (r : Record) (times : List ℤ) (line line₁ : List ℕ) (q : Popped) (s : Seconds) : Type 0 where
-  pub found : q.found ≡ true
-  pub pops : Pops r.queue times line line₁ q
+  pub pops : Pops r.queue times line line₁ (Some q)
   pub seconds : s.0 ≡ seconds_of times q.slot
 
 -- what waits then

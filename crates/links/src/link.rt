@@ -113,15 +113,14 @@ pub fn insert_into_seen_and_queue_cached(
     ensures { Visits excluded.now settings (waiting_in r w) (mem names.old marks.old times.old line.old) (mem names.new marks.new times.new line.new) id.now (seconds_in (width_of settings.kind) graph.now l parent) (waiting_in r result) }
 {
     let kind = settings.kind;
-    let seen = state::see(state::with_waiting(r, w), names, marks, id);
     // a known parent changes nothing, and what waits is handed back before anything of it is asked
-    if !seen.fresh {
+    let Some(slot) = state::see(state::with_waiting(r, w), names, marks, id) else {
         return w;
-    }
+    };
     let q = w.queue;
     let s = new_row_seconds(kind, graph, l, parent, q.timed);
-    note(levels, seen.slot, parent);
-    insert_into_queue(w, seen.slot, times, line, excluded, settings, id, s)
+    note(levels, slot, parent);
+    insert_into_queue(w, slot, times, line, excluded, settings, id, s)
 }
 
 // A new parent waits in its slot, if its link is admitted, in a queue by time.
@@ -183,17 +182,16 @@ pub fn insert_into_seen_and_next_or_queue(
     ensures { Visits excluded.now settings (waiting_in r w) (mem names.old marks.old times.old line.old) (mem names.new marks.new times.new line.new) id.now (seconds_in (width_of settings.kind) graph.now l parent) (waiting_in r result) }
 {
     let kind = settings.kind;
-    let seen = state::see(state::with_waiting(r, w), names, marks, id);
-    if !seen.fresh {
+    let Some(slot) = state::see(state::with_waiting(r, w), names, marks, id) else {
         return w;
-    }
-    note(levels, seen.slot, parent);
+    };
+    note(levels, slot, parent);
     let q = w.queue;
     if q.timed {
         let s = new_row_seconds(kind, graph, l, parent, true);
-        return insert_into_heap(w, seen.slot, times, line, excluded, settings, id, s);
+        return insert_into_heap(w, slot, times, line, excluded, settings, id, s);
     }
-    insert_into_ring(w, seen.slot, times, line, excluded, settings, id)
+    insert_into_ring(w, slot, times, line, excluded, settings, id)
 }
 
 // The seconds of a new parent in the store, where commits wait by time, and its entry is noted beside its slot; else they are not asked.
@@ -233,13 +231,12 @@ pub fn insert_into_seen_and_queue_stored(
     ensures { VisitsStored excluded.now settings store.now (waiting_in r w) (mem names.old marks.old times.old line.old) (mem names.new marks.new times.new line.new) id.now (waiting_in r result) }
 {
     let kind = settings.kind;
-    let seen = state::see(state::with_waiting(r, w), names, marks, id);
-    if !seen.fresh {
+    let Some(slot) = state::see(state::with_waiting(r, w), names, marks, id) else {
         return w;
-    }
+    };
     let q = w.queue;
-    let s = new_seconds(kind, store, id, q.timed, levels, seen.slot);
-    insert_into_queue(w, seen.slot, times, line, excluded, settings, id, s)
+    let s = new_seconds(kind, store, id, q.timed, levels, slot);
+    insert_into_queue(w, slot, times, line, excluded, settings, id, s)
 }
 
 // What `insert_into_seen_and_queue_stored` does, for the call in place (see `insert_into_seen_and_next_or_queue`).
@@ -259,20 +256,19 @@ pub fn insert_into_seen_and_next_or_queue_stored(
     ensures { VisitsStored excluded.now settings store.now (waiting_in r w) (mem names.old marks.old times.old line.old) (mem names.new marks.new times.new line.new) id.now (waiting_in r result) }
 {
     let kind = settings.kind;
-    let seen = state::see(state::with_waiting(r, w), names, marks, id);
-    if !seen.fresh {
+    let Some(slot) = state::see(state::with_waiting(r, w), names, marks, id) else {
         return w;
-    }
+    };
     let q = w.queue;
     if q.timed {
-        let s = new_seconds(kind, store, id, true, levels, seen.slot);
+        let s = new_seconds(kind, store, id, true, levels, slot);
         if admits(excluded, settings, id, s) {
-            return state::lengthen_heap(w, times, line, seen.slot, s);
+            return state::lengthen_heap(w, times, line, slot, s);
         }
         return w;
     }
     if admits(excluded, settings, id, Seconds(0)) {
-        return state::lengthen_ring(w, times, line, seen.slot);
+        return state::lengthen_ring(w, times, line, slot);
     }
     w
 }

@@ -1,15 +1,15 @@
 -- The third demand for a caller of `list` alone: what is proved of the walk's list and of its answers, read off what `list` gives back. Assumes nothing.
+use Rattle.std.specs.Prelude.{Result, Err, None, Ok}
+use Rattle.walk.specs.declared.Refusal.{Refusal}
 use mathlib.Core.Path.{◌≡◌, refl, sym, ◌∙◌, ap, subst}
 use Prim.Native.Nat.{ℕ, ◌+◌, ◌*◌, ◌/◌, ◌<◌}
 use mathlib.Core.Bool.{true}
-use mathlib.Core.Option.{none}
 use mathlib.Core.List.{List}
 use native.Mathlib.Omega.{arith}
 use lib.ListN.{length, take, drop}
 use lib.Seq.{take_all}
 use Rattle.hash.specs.Bytes.{Id, set_down, ids_of}
 use Rattle.hash.proofs.Widths.{width_least}
-use Rattle.walk.specs.declared.OpenOutcome.TheVariants.{Accepted, NotOpened}
 use Rattle.walk.specs.State.{State}
 use Rattle.walk.specs.Opening.{Input, width_in, walk_of, list_ids, refusal, room_for, P, Opening, closed, opened, open_walk}
 use Rattle.walk.specs.Next.{Answer}
@@ -40,8 +40,8 @@ reads_as width pos list ids ids' w e = record {
 
 module _ (i : Input) (m : Lent) (ids : List ℕ) (l : Listing) (m' : Lent) (ids' : List ℕ) (s : ListSays i m ids l m' ids') where
   -- an opening that is said to be accepted is
-  accepted-is : l.outcome ≡ Accepted → (w : Opening) → open_walk i (room_for i (lengths_of m)) ≡ w → (st : State) × (w ≡ opened st)
-  accepted-is a (closed r) e = let q : NotOpened r ≡ Accepted = sym (ap (λ (x : Listing). x.outcome) (s.refused_open r e).0) ∙ a in let z : ◌≡◌ {A = ℕ} 0 1 = cc in absurd (omega arith)
+  accepted-is : l.outcome ≡ (Ok tt) → (w : Opening) → open_walk i (room_for i (lengths_of m)) ≡ w → (st : State) × (w ≡ opened st)
+  accepted-is a (closed r) e = let q : ◌≡◌ {A = Result (Unit {0}) Refusal} (Err r) (Ok tt) = sym (ap (λ (x : Listing). x.outcome) (s.refused_open r e).0) ∙ a in let z : ◌≡◌ {A = ℕ} 0 1 = cc in absurd (omega arith)
   accepted-is a (opened st) e = (st, refl)
 
   any : (st : State) → open_walk i (room_for i (lengths_of m)) ≡ opened st → AnyListing i ids l ids'
@@ -63,7 +63,7 @@ module _ (i : Input) (m : Lent) (ids : List ℕ) (l : Listing) (m' : Lent) (ids'
             refused_by-call i o.state o.opens_true k.0 r k.1;
       }
 
-  delivers : refusal i ≡ none → room_for i (lengths_of m) ≡ true → Premises (walk_of i) (list_ids (width_in i) i.tips) → Delivers i ids l ids'
+  delivers : refusal i ≡ None → room_for i (lengths_of m) ≡ true → Premises (walk_of i) (list_ids (width_in i) i.tips) → Delivers i ids l ids'
   delivers e room pre =
       let q = listed-whole i e pre in
       let d = q.0 in

@@ -1,4 +1,5 @@
 -- What `list` comes to: the driver's task Ids, which no refusal ends, so that all P + 2 calls are counted. Assumes nothing.
+use Rattle.std.specs.Prelude.{Err}
 use mathlib.Core.Path.{◌≡◌, refl, sym, ◌∙◌, ap, subst}
 use Prim.Native.Nat.{ℕ, ◌+◌, ◌*◌, ◌-◌, ◌/◌}
 use mathlib.Core.List.{List}
@@ -8,7 +9,6 @@ use lib.ListN.{length, take}
 use Rattle.hash.specs.Bytes.{set_down}
 use Rattle.hash.proofs.Widths.{width_least}
 use Rattle.walk.specs.declared.Refusal.{Refusal}
-use Rattle.walk.specs.declared.OpenOutcome.TheVariants.{NotOpened}
 use Rattle.walk.specs.State.{State}
 use Rattle.walk.specs.Opening.{Input, width_in, P, room_for, closed, opened, open_walk}
 use Rattle.walk.specs.Calls.{answers}
@@ -30,7 +30,7 @@ use Rattle.lister.proofs.SetDown.{put_down-all}
 use Rattle.lister.proofs.Ids.{Counts, counts_all}
 
 module _ {i : Input} {m : Lent} {d : Driven} {l : Listing} {m' : Lent} {embargoed terms ids counts ids' counts' : List ℕ} (s : Drives Ids embargoed terms i m ids counts d m' ids' counts') (b : l ≡ listing_of d) where
-  refused : (r : Refusal) → open_walk i (room_for i (lengths_of m)) ≡ closed r → (l ≡ listing (NotOpened r) closed_record) × (m' ≡ m) × (ids' ≡ ids)
+  refused : (r : Refusal) → open_walk i (room_for i (lengths_of m)) ≡ closed r → (l ≡ listing (Err r) closed_record) × (m' ≡ m) × (ids' ≡ ids)
   refused r e = let u = s.refused_open r e in (b ∙ ap listing_of u.0, u.1, u.2)
 
   accepted : (st : State) → open_walk i (room_for i (lengths_of m)) ≡ opened st → Whole i m ids (listing_of d) m' ids'

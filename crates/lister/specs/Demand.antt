@@ -1,10 +1,8 @@
 -- The third demand for a caller of `list` alone, from what `list` promises (`ListSays`); and what holds with no premises. Assumes nothing.
-use Rattle.std.specs.Prelude.{ℕ, ◌+◌, ◌*◌, ◌≤◌, ◌≡◌, ◌↔◌, true, List, length, take, drop}
-use Rattle.std.proofs.Math.Option.{none}
+use Rattle.std.specs.Prelude.{ℕ, ◌+◌, ◌*◌, ◌≤◌, ◌≡◌, ◌↔◌, true, List, length, take, drop, None, Ok}
 use Rattle.hash.specs.Bytes.{Id, ids_of}
 use Rattle.walk.specs.declared.Refusal.{Refusal}
 use Rattle.walk.specs.declared.Outcome.TheVariants.{End, Refused}
-use Rattle.walk.specs.declared.OpenOutcome.TheVariants.{Accepted}
 use Rattle.walk.specs.Opening.{Input, width_in, walk_of, list_ids, refusal, room_for, P}
 use Rattle.walk.specs.Next.{end}
 use Rattle.walk.specs.Calls.{answer_at_call, answers}
@@ -27,7 +25,7 @@ pub record ReadsAs (width : ℕ) (list : List Id) (ids ids' : List ℕ) : Type 0
 -- under the premises
 pub record Delivers (i : Input) (ids : List ℕ) (l : Listing) (ids' : List ℕ) : Type 0 where
   -- "an opening to which none of 01's 1 to 6 applies is accepted"
-  pub accepted : l.outcome ≡ Accepted
+  pub accepted : l.outcome ≡ (Ok tt)
   -- the different "commits reachable from an admitted tip over admitted links and from no hidden tip", and no others
   pub list : List Id
   pub no_repeats : NoDup list
@@ -56,6 +54,6 @@ pub record AnyListing (i : Input) (ids : List ℕ) (l : Listing) (ids' : List �
 -- of `list` with the input i, the lent memory m and the buffer ids, whatever it gave back
 pub record ListDemand (i : Input) (m : Lent) (ids : List ℕ) : Type 0 where
   -- none of 1 to 6 applies, and the premises hold
-  pub demanded : (l : Listing) (m' : Lent) (ids' : List ℕ) → ListSays i m ids l m' ids' → refusal i ≡ none → room_for i (lengths_of m) ≡ true → Premises (walk_of i) (list_ids (width_in i) i.tips)
+  pub demanded : (l : Listing) (m' : Lent) (ids' : List ℕ) → ListSays i m ids l m' ids' → refusal i ≡ None → room_for i (lengths_of m) ≡ true → Premises (walk_of i) (list_ids (width_in i) i.tips)
       → Delivers i ids l ids'
-  pub any_accepted : (l : Listing) (m' : Lent) (ids' : List ℕ) → ListSays i m ids l m' ids' → l.outcome ≡ Accepted → AnyListing i ids l ids'
+  pub any_accepted : (l : Listing) (m' : Lent) (ids' : List ℕ) → ListSays i m ids l m' ids' → l.outcome ≡ (Ok tt) → AnyListing i ids l ids'

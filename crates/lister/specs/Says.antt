@@ -1,10 +1,8 @@
 -- What a whole walk promises: every commit, in order, in the caller's buffer. Assumes nothing.
-use Rattle.std.specs.Prelude.{ℕ, ◌+◌, ◌/◌, ◌≡◌, List, length, take}
+use Rattle.std.specs.Prelude.{ℕ, ◌+◌, ◌/◌, ◌≡◌, List, length, take, Err, Ok, Result}
 use Rattle.hash.specs.Bytes.{set_down}
 use Rattle.walk.specs.declared.Refusal.{Refusal}
 use Rattle.walk.specs.declared.Outcome.TheVariants.{End}
-use Rattle.walk.specs.declared.OpenOutcome.{OpenOutcome}
-use Rattle.walk.specs.declared.OpenOutcome.TheVariants.{Accepted, NotOpened}
 use Rattle.walk.specs.State.{State}
 use Rattle.walk.specs.Opening.{Input, width_in, P, room_for, open_walk, closed, opened}
 use Rattle.walk.specs.Calls.{state_after}
@@ -21,12 +19,12 @@ use Rattle.lister.specs.Walked.{refusals, first_refusal}
 -- ---- list
 
 -- a listing with nothing counted
-abbrev pub listing : OpenOutcome → Record → Listing
+abbrev pub listing : Result (Unit {0}) Refusal → Record → Listing
 listing outcome r = record { outcome = outcome; commits = 0; refused = 0; reason = End; «record» = r }
 
 -- of an accepted opening, with the caller's buffer ids before and ids' after, and the lent memory m before and m' after
 pub record Whole (i : Input) (m : Lent) (ids : List ℕ) (l : Listing) (m' : Lent) (ids' : List ℕ) : Type 0 where
-  pub accepted : l.outcome ≡ Accepted
+  pub accepted : l.outcome ≡ (Ok tt)
   -- how many commits there are in all, also those that ids has no room for
   pub commits : l.commits ≡ length (whole_list i)
   -- how many calls were refused, and the first refusal
@@ -40,7 +38,7 @@ pub record Whole (i : Input) (m : Lent) (ids : List ℕ) (l : Listing) (m' : Len
 
 -- list: refused as the opening is, with zeros and a closed record, and no lent byte altered; or the whole walk
 pub record ListSays (i : Input) (m : Lent) (ids : List ℕ) (l : Listing) (m' : Lent) (ids' : List ℕ) : Type 0 where
-  pub refused_open : (r : Refusal) → open_walk i (room_for i (lengths_of m)) ≡ closed r → (l ≡ listing (NotOpened r) closed_record) × (m' ≡ m) × (ids' ≡ ids)
+  pub refused_open : (r : Refusal) → open_walk i (room_for i (lengths_of m)) ≡ closed r → (l ≡ listing (Err r) closed_record) × (m' ≡ m) × (ids' ≡ ids)
   pub accepted_open : (st : State) → open_walk i (room_for i (lengths_of m)) ≡ opened st → Whole i m ids l m' ids'
   pub same-lengths : lengths_of m' ≡ lengths_of m
 

@@ -10,13 +10,13 @@ ghost use Rattle.lister.specs.Says.{ListSays, listing_of};
 use driver::Driven;
 use state::Record;
 use tally::Task;
-use walk::{OpenOutcome, Outcome, Settings};
+use walk::{Outcome, Refusal, Settings};
 
-// What a whole walk came to. The list is whole if the outcome is Accepted, no call was refused, and the buffer has room for all commits.
+// What a whole walk came to. The list is whole if the opening was accepted, no call was refused, and the buffer has room for all commits.
 #[derive(Clone, Copy)]
 pub struct Listing {
     // The outcome of the opening.
-    pub outcome: OpenOutcome,
+    pub outcome: Result<(), Refusal>,
     // How many commits were handed out, also those that the buffer had no room for.
     pub commits: usize,
     // How many calls were refused.

@@ -1,10 +1,9 @@
 -- The commit at hand: its entry in the store, and its parents in its body. Assumes nothing.
-use Rattle.std.specs.Prelude.{ℕ, ◌<◌, ◌≤◌, ◌≡◌, true, List, [], length, get_or}
+use Rattle.object.specs.Read.{Reading}
+use Rattle.std.specs.Prelude.{ℕ, ◌<◌, ◌≤◌, ◌≡◌, true, List, [], length, get_or, Ok, Err}
 use Rattle.hash.specs.Bytes.{Id}
 use Rattle.idlist.specs.IdList.{id_of}
 use Rattle.object.specs.Ids.{id_in}
-use Rattle.object.specs.declared.Reading.{Reading}
-use Rattle.object.specs.declared.Reading.TheVariants.{Readable, Bad, Crowded}
 use Rattle.odb.specs.Store.{entry_ids, standing_entries, store_is_ok}
 use Rattle.walk.specs.Lookup.{World, world_of}
 use Rattle.walk.specs.Reach.{links}
@@ -24,9 +23,8 @@ pub record EntryOf (width : ℕ) (s : List ℕ) (n : ℕ) (x : Id) (k : ℕ) : T
 
 -- the parents of a readable body
 abbrev pub parents_read : Reading → ℕ
-parents_read (Readable n t) = n
-parents_read Bad = 0
-parents_read Crowded = 0
+parents_read (Ok r) = r.parents
+parents_read (Err e) = 0
 
 -- the commit x has n parents, and they stand in the body b
 pub record ParentsIn (width : ℕ) (s : List ℕ) (x : Id) (b : List ℕ) (n : ℕ) : Type 0 where

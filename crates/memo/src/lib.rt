@@ -12,7 +12,6 @@ ghost use Rattle.memo.specs.AtHand.{parents_read, EntryOf};
 ghost use Rattle.hash.specs.Bytes.{width_of};
 
 use hash::Kind;
-use object::Reading;
 
 // The cells of a row, and of either bench in it: for 0 to 12 moves.
 const ROW_CELLS: usize = 26;
@@ -70,10 +69,8 @@ pub fn note(memo: &mut [u8], n: usize, k: usize, bed: bool, d: usize, so: bool)
 pub fn clear(memo: &mut [u8])
     ensures { AllZero memo.new }
 {
-    let mut i = 0;
-    while i < memo.len() {
+    for i in 0..memo.len() {
         memo[i] = 0;
-        i += 1;
     }
 }
 
@@ -92,8 +89,7 @@ pub fn parent_count(kind: Kind, body: &[u8]) -> usize
     ensures { result ≡ parents_read (reading_of (header (width_of kind) body.now)) }
 {
     match object::readable(kind, body) {
-        Reading::Readable { parents, .. } => parents,
-        Reading::Bad => 0,
-        Reading::Crowded => 0,
+        Ok(header) => header.parents,
+        Err(_) => 0,
     }
 }

@@ -1,8 +1,8 @@
 -- The call: refused by 2, 4 or 1 with nothing altered, or right by its steps. Assumes nothing.
+use Rattle.std.specs.Prelude.{Err, None, Ok, Option, Result, Some}
 use mathlib.Core.Path.{◌≡◌, refl, sym, ◌∙◌, ap, subst}
 use Prim.Native.Nat.{ℕ, ◌+◌, ◌/◌, ◌<◌}
 use native.Mathlib.Nat.{div_self}
-use mathlib.Core.Option.{Option, none, some}
 use mathlib.Core.List.{List, [], ◌∷◌}
 use native.Mathlib.Omega.{arith}
 use lib.ListN.{length}
@@ -15,14 +15,10 @@ use Rattle.walk.specs.declared.Refusal.{Refusal}
 use Rattle.walk.specs.Lookup.{world_of}
 use Rattle.walk.specs.Opening.{Lengths, list_ids}
 use Rattle.opening.specs.Checks.{lengths_of, checked_of}
-use Rattle.opening.specs.declared.Checked.{Checked}
-use Rattle.opening.specs.declared.Checked.TheVariants.{Fine, Refused}
 use Rattle.reach.specs.Memory.{Lent, lent}
-use Rattle.mergebase.specs.declared.MergeBase.{MergeBase}
-use Rattle.mergebase.specs.declared.Place.{Place}
-use Rattle.mergebase.specs.Parting.{early_refusal, refused_base}
+use Rattle.mergebase.specs.Parting.{MergeBase, early_refusal, refused_base}
 use Rattle.mergebase.specs.Call.{FirstParts, MergeBaseSays}
-use Rattle.mergebase.specs.Memory.{answer_of, PartsTips}
+use Rattle.mergebase.specs.Memory.{Place, answer_of, PartsTips}
 use Rattle.mergebase.proofs.Early.{all-passed, roomy}
 use Rattle.mergebase.proofs.Partings.{answers}
 
@@ -33,31 +29,31 @@ one-id w x more e =
     ap (λ (k : ℕ). ids_of w k x) (ap (λ (n : ℕ). n / w) e ∙ div_self more) ∙ ap (λ (y : Id). y ∷ []) (take_all w x (omega (arith, e)))
 
 -- what the tests answered
-refused_as : {o : Option Refusal} {n r : Refusal} → o ≡ some n → checked_of o ≡ Refused r → r ≡ n
+refused_as : {o : Option Refusal} {n r : Refusal} → o ≡ Some n → checked_of o ≡ Err r → r ≡ n
 refused_as e q = let z = sym (ap checked_of e) ∙ q in cc
 
-fine_refused {ℓ} : {X : Type ℓ} {r : Refusal} → Fine ≡ Refused r → X
-fine_refused e = let z : ◌≡◌ {A = ℕ} 0 1 = cc in absurd (omega arith)
+fine_refused {ℓ} : {X : Type ℓ} {r : Refusal} → ◌≡◌ {A = Result (Unit {0}) Refusal} (Ok tt) (Err r) → X
+fine_refused e = cc
 
-fine_none : (o : Option Refusal) → checked_of o ≡ Fine → o ≡ none
-fine_none none e = refl
-fine_none (some n) e = fine_refused (sym e)
+fine_none : (o : Option Refusal) → checked_of o ≡ (Ok tt) → o ≡ None
+fine_none None e = refl
+fine_none (Some n) e = fine_refused (sym e)
 
-module _ (kind : Kind) (store : List ℕ) (a b : Id) (names marks levels line : List ℕ) (times parents : ℕ) {q : Checked} (pa : length a ≡ width_of kind) (pb : length b ≡ width_of kind)
+module _ (kind : Kind) (store : List ℕ) (a b : Id) (names marks levels line : List ℕ) (times parents : ℕ) {q : Result (Unit {0}) Refusal} (pa : length a ≡ width_of kind) (pb : length b ≡ width_of kind)
     (f : (x y : Id) → length x ≡ width_of kind → length y ≡ width_of kind → q ≡ checked_of (early_refusal kind store x y (lengths_of (length names) (length marks) (length levels) times (length line) parents))) where
   abbrev l : Lengths
   l = lengths_of (length names) (length marks) (length levels) times (length line) parents
 
-  pub call-refused : {r : MergeBase} (n : Refusal) → q ≡ Refused n → r ≡ refused_base n → MergeBaseSays kind store a b l (lent names marks line) (lent names marks line) levels levels r
+  pub call-refused : {r : MergeBase} (n : Refusal) → q ≡ Err n → r ≡ refused_base n → MergeBaseSays kind store a b l (lent names marks line) (lent names marks line) levels levels r
   call-refused {r} n e z = record {
     early = λ k h. (z ∙ ap refused_base (refused_as h (sym (f a b pa pb) ∙ e)), refl, refl);
     parts = λ h. fine_refused (sym (ap checked_of h) ∙ sym (f a b pa pb) ∙ e);
   }
 
-  pub call-parts : {levels' : List ℕ} {m' : Lent} {cap : ℕ} {one other : List ℕ} {p : Place} {r : MergeBase} → q ≡ Fine → cap ≡ 2 + length store / parent_size (width_of kind) → one ≡ a → other ≡ b
+  pub call-parts : {levels' : List ℕ} {m' : Lent} {cap : ℕ} {one other : List ℕ} {p : Place} {r : MergeBase} → q ≡ (Ok tt) → cap ≡ 2 + length store / parent_size (width_of kind) → one ≡ a → other ≡ b
       → PartsTips (width_of kind) store (lent names marks line) m' levels cap (list_ids (width_of kind) one) (list_ids (width_of kind) other) p → r ≡ answer_of (width_of kind) m'.names p → MergeBaseSays kind store a b l (lent names marks line) m' levels levels' r
   call-parts {m' = m'} {cap} {one} {other} {p} {r} e c ea eb t z =
-      let o : early_refusal kind store a b l ≡ none = fine_none (early_refusal kind store a b l) (sym (f a b pa pb) ∙ e) in
+      let o : early_refusal kind store a b l ≡ None = fine_none (early_refusal kind store a b l) (sym (f a b pa pb) ∙ e) in
       record {
         early = λ k h. fine_refused (ap checked_of (sym o ∙ h));
         parts = λ h g.

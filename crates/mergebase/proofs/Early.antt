@@ -1,9 +1,9 @@
 -- Refusals 2, 4 and 1: which test decides, and what passes them. Assumes nothing.
+use Rattle.std.specs.Prelude.{None, Option, Some}
 use mathlib.Core.Path.{◌≡◌, refl, sym, ◌∙◌, ap}
 use Prim.Native.Nat.{ℕ, ◌+◌, ◌*◌, ◌/◌, ◌≤◌, ◌<◌}
 use native.Mathlib.Nat.{mul-div_cancel, zero-div}
 use mathlib.Core.Bool.{Bool, true, false, cond}
-use mathlib.Core.Option.{Option, none, some}
 use mathlib.Core.List.{List, ◌++◌}
 use native.Mathlib.Omega.{arith}
 use lib.ListN.{length, length-append}
@@ -33,33 +33,33 @@ tips-places kind store a b p q =
     omega (arith, ap (λ (n : ℕ). n / w) two, mul-div_cancel 2 {n = w} (omega (arith, width_least kind)), zero-div w)
 
 module _ (kind : Kind) (store : List ℕ) (a b : Id) (l : Lengths) where
-  pub by_size : 16777216 < length store → early_refusal kind store a b l ≡ some InputTooLarge
+  pub by_size : 16777216 < length store → early_refusal kind store a b l ≡ Some InputTooLarge
   unfolding early_refusal
   by_size h = rw (lt-leb (length store) 16777216 h)
 
   module _ (h : length store ≤ 16777216) where
-    pub by-store : store_is_ok (width_of kind) store ≡ false → early_refusal kind store a b l ≡ some CorruptStore
+    pub by-store : store_is_ok (width_of kind) store ≡ false → early_refusal kind store a b l ≡ Some CorruptStore
     unfolding early_refusal
     by-store e = rw (le-leb (length store) 16777216 h, e)
 
-    pub by-room : store_is_ok (width_of kind) store ≡ true → room_for (tips_input kind store a b) l ≡ false → early_refusal kind store a b l ≡ some BufferTooSmall
+    pub by-room : store_is_ok (width_of kind) store ≡ true → room_for (tips_input kind store a b) l ≡ false → early_refusal kind store a b l ≡ Some BufferTooSmall
     unfolding early_refusal
     by-room e f = rw (le-leb (length store) 16777216 h, e, f)
 
-    pub by-none : store_is_ok (width_of kind) store ≡ true → room_for (tips_input kind store a b) l ≡ true → early_refusal kind store a b l ≡ none
+    pub by-none : store_is_ok (width_of kind) store ≡ true → room_for (tips_input kind store a b) l ≡ true → early_refusal kind store a b l ≡ None
     unfolding early_refusal
     by-none e f = rw (le-leb (length store) 16777216 h, e, f)
 
-  pick-none : (t : Bool) (n : Option Refusal) (r : Refusal) → cond t n (some r) ≡ none → (t ≡ true) × (n ≡ none)
+  pick-none : (t : Bool) (n : Option Refusal) (r : Refusal) → cond t n (Some r) ≡ None → (t ≡ true) × (n ≡ None)
   pick-none true n r e = (refl, e)
   pick-none false n r e = no-some (sym e)
 
-  pub all-passed : early_refusal kind store a b l ≡ none → (length store ≤ 16777216) × (store_is_ok (width_of kind) store ≡ true) × (room_for (tips_input kind store a b) l ≡ true)
+  pub all-passed : early_refusal kind store a b l ≡ None → (length store ≤ 16777216) × (store_is_ok (width_of kind) store ≡ true) × (room_for (tips_input kind store a b) l ≡ true)
   unfolding early_refusal
   all-passed e =
       let p = pick-none (leb (length store) 16777216) _ InputTooLarge e in
       let q = pick-none (store_is_ok (width_of kind) store) _ CorruptStore p.1 in
-      let r = pick-none (room_for (tips_input kind store a b) l) none BufferTooSmall q.1 in
+      let r = pick-none (room_for (tips_input kind store a b) l) None BufferTooSmall q.1 in
       (leb-true _ _ p.0, q.0, r.0)
 
 -- memory of these lengths has room

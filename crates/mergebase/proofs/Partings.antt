@@ -1,5 +1,6 @@
 -- The call step by step: after both searches and the stains the choice is right; the second search begins where the first has ended, and the
 -- first in cleared memory. Assumes nothing.
+use Rattle.std.specs.Prelude.{Some, None, Result, Ok, Err}
 use mathlib.Core.Path.{◌≡◌, refl, sym, ◌∙◌, ap, subst}
 use mathlib.Core.Logic.{⊎_elim}
 use Prim.Native.Nat.{ℕ}
@@ -15,30 +16,23 @@ use Rattle.object.specs.Ids.{padded}
 use Rattle.object.specs.declared.ObjectId.{ObjectId}
 use Rattle.hashtable.specs.Table.{id_of, cleared}
 use Rattle.hashtable.proofs.TableClear.{length_cleared}
-use Rattle.walk.specs.declared.Refusal.TheVariants.{UnreadableReach}
 use Rattle.walk.specs.Lookup.{World, world_of}
 use Rattle.walk.specs.Reach.{Mem}
 use Rattle.reach.specs.Search.{reach_names, Stuck, AllReadable}
 use Rattle.reach.specs.Memory.{Lent, lent, In}
-use Rattle.reach.specs.Seek.{ToldSought, Finds, SeeksFrom}
-use Rattle.reach.specs.declared.seek.Sought.{Sought}
-use Rattle.reach.specs.declared.seek.Sought.TheVariants.{Whole, Unreadable, NoRoom}
+use Rattle.reach.specs.Seek.{refusal_of, ToldSought, Finds, SeeksFrom}
+use Rattle.reach.specs.declared.seek.SeekError.{SeekError}
+use Rattle.reach.specs.declared.seek.SeekError.TheVariants.{Unreadable, NoRoom}
 use Rattle.reach.proofs.Noting.{listed-few}
 use Rattle.reach.proofs.Starting.{empty-lists, empty-named, names-few, roots-met, parents-met, other-empty, other-kept}
 use Rattle.stain.specs.Stain.{both_in, Stains, BelowFirst, StainsAll}
 use Rattle.parting.specs.Best.{Best}
 use Rattle.parting.specs.First.{First}
-use Rattle.parting.specs.Choice.{ToldChoice, Chooses}
+use Rattle.parting.specs.Choice.{Choice, ToldChoice, Chooses}
 use Rattle.parting.specs.Searched.{Searched}
-use Rattle.parting.specs.declared.Choice.{Choice}
-use Rattle.parting.specs.declared.Choice.TheVariants.{Nothing as NoChoice, Tangled, Commit as Chosen}
 use Rattle.parting.proofs.Chosen.{in_place, place-common, common-place, best-clean, chosen-first}
-use Rattle.mergebase.specs.declared.MergeBase.{MergeBase}
-use Rattle.mergebase.specs.declared.Parted.TheVariants.{Commit as Given}
-use Rattle.mergebase.specs.declared.Place.{Place}
-use Rattle.mergebase.specs.declared.Place.TheVariants.{Commit, Refused}
 use Rattle.mergebase.specs.Call.{FirstParts}
-use Rattle.mergebase.specs.Memory.{parted_of, answer_of, PartsAt, unreadable, nothing, first, tangled, BestOf, Begun, PartsFrom, Roomy, PartsTips}
+use Rattle.mergebase.specs.Memory.{Place, parted_of, answer_of, PartsAt, unreadable, nothing, first, tangled, BestOf, Begun, PartsFrom, Roomy, PartsTips}
 
 -- ---- readable or not, from two tips
 
@@ -70,11 +64,11 @@ module _ (width : ℕ) (s g : List ℕ) {a b : Id} {cap : ℕ} {m : Lent} {n : �
     (all : AllReadable (world_of width s g) (a ∷ b ∷ [])) (levels : List ℕ) {levels' : List ℕ}
     (t : Stains width m.names m.marks cap (cleared cap levels) levels' (BelowFirst (world_of width s g) (both_in width m.names m.marks cap) l n)) where
   chosen-parts : (r : Choice) → ToldChoice width s m.names m.marks levels' m.line n r → PartsAt width (world_of width s g) a b cap m (parted_of r)
-  chosen-parts NoChoice c = nothing all (λ x k. let o = common-place h x k in clash o.3 (c o.0 o.1))
-  chosen-parts Tangled c = tangled all (get_or l c.place []) (place-common h c.place c.low c.both) (λ y k.
+  chosen-parts (Ok None) c = nothing all (λ x k. let o = common-place h x k in clash o.3 (c o.0 o.1))
+  chosen-parts (Err x) c = tangled all (get_or l c.place []) (place-common h c.place c.low c.both) (λ y k.
       let o = common-place h y k.common in
       clash (c.stained o.0 o.1 o.3) (best-clean h levels t o.0 o.1 (subst (Best (world_of width s g) a b) (sym o.2) k)))
-  chosen-parts (Chosen slot) c =
+  chosen-parts (Ok (Some slot)) c =
       first all (get_or l c.place []) (chosen-first h levels t g refl ok c) slot (subst (In width cap m (get_or l c.place [])) c.is (in_place h c.place c.low))
 
 pub best_chosen : {width : ℕ} {s : List ℕ} {m : Lent} {levels₁ levels₂ : List ℕ} {cap n : ℕ} {c : Choice} {r : Place} (levels : List ℕ) → levels₁ ≡ cleared cap levels → StainsAll width s m levels₁ levels₂ cap n
@@ -87,18 +81,18 @@ best_chosen {width} {s} {m} {levels₁} {levels₂} {cap} {n} {c} {r} levels e s
 
 -- ---- the second search
 
-module _ {width : ℕ} {s : List ℕ} {m m' : Lent} {cap : ℕ} {roots : List Id} {q : Sought} (f : SeeksFrom width true cap cap s m m' roots q) where
-  sought : store_is_ok width s ≡ true → (g : List ℕ) (u : List Id) (a b : Id) (l : List Id) (n : ℕ) → Begun width (world_of width s g) u a b cap m n l → roots ≡ b ∷ [] → (r : Sought) → q ≡ r
+module _ {width : ℕ} {s : List ℕ} {m m' : Lent} {cap : ℕ} {roots : List Id} {q : Result ℕ SeekError} (f : SeeksFrom width true cap cap s m m' roots q) where
+  sought : store_is_ok width s ≡ true → (g : List ℕ) (u : List Id) (a b : Id) (l : List Id) (n : ℕ) → Begun width (world_of width s g) u a b cap m n l → roots ≡ b ∷ [] → (r : Result ℕ SeekError) → q ≡ r
       → ToldSought width (world_of width s g) u (b ∷ []) true cap cap m m' r
   sought ok g u a b l n h e r z =
-      subst (λ (x : Sought). ToldSought width (world_of width s g) u (b ∷ []) true cap cap m m' x) z
+      subst (λ (x : Result ℕ SeekError). ToldSought width (world_of width s g) u (b ∷ []) true cap cap m m' x) z
       ((subst (λ (x : List Id). SeeksFrom width true cap cap s m m' x q) e f).right ok g u h.other h.named
       (λ x k. subst (λ (y : Id). Mem y u) (sym (Memᴰ.eq_of_singleton k)) h.tip_in) h.parents_in)
 
-  pub from-whole : {levels : List ℕ} {n : ℕ} {r : Place} (k : ℕ) → q ≡ Whole k → BestOf width s m' levels cap n r → PartsFrom width s m m' levels cap n roots r
+  pub from-whole : {levels : List ℕ} {n : ℕ} {r : Place} (k : ℕ) → q ≡ Ok k → BestOf width s m' levels cap n r → PartsFrom width s m m' levels cap n roots r
   from-whole {levels} {n} {r} k z o = record {
     right = λ ok g u a b l h e room.
-        let t : Finds width (world_of width s g) u (b ∷ []) true cap cap m m' k = sought ok g u a b l n h e (Whole k) z in
+        let t : Finds width (world_of width s g) u (b ∷ []) true cap cap m m' k = sought ok g u a b l n h e (Ok k) z in
         o.right ok g a b l
         (record {
           one = other-kept t.spares 0 t.lists h.one (omega (arith, listed-few h.one h.named)) (omega arith);
@@ -113,20 +107,18 @@ module _ {width : ℕ} {s : List ℕ} {m m' : Lent} {cap : ℕ} {roots : List Id
         room;
   }
 
-  pub from-stuck : {levels : List ℕ} {n : ℕ} → q ≡ Unreadable → PartsFrom width s m m' levels cap n roots (Refused UnreadableReach)
-  from-stuck {n = n} z = record { right = λ ok g u a b l h e room. unreadable (stuck-other (sought ok g u a b l n h e Unreadable z)) }
-
-  pub from-none : {levels : List ℕ} {n : ℕ} {r : Place} → q ≡ NoRoom → PartsFrom width s m m' levels cap n roots r
-  from-none {n = n} z = record { right = λ ok g u a b l h e room. absurd (sought ok g u a b l n h e NoRoom z) }
+  pub from-short : {levels : List ℕ} {n : ℕ} (x : SeekError) → q ≡ Err x → PartsFrom width s m m' levels cap n roots (Err (refusal_of x))
+  from-short {n = n} Unreadable z = record { right = λ ok g u a b l h e room. unreadable (stuck-other (sought ok g u a b l n h e (Err Unreadable) z)) }
+  from-short {n = n} NoRoom z = record { right = λ ok g u a b l h e room. absurd (sought ok g u a b l n h e (Err NoRoom) z) }
 
 -- ---- the first search, in cleared memory
 
-module _ {width : ℕ} {s names marks line : List ℕ} {m₁ : Lent} {cap : ℕ} {marks₀ : List ℕ} {one : List Id} {q : Sought} (c : marks₀ ≡ cleared cap marks)
+module _ {width : ℕ} {s names marks line : List ℕ} {m₁ : Lent} {cap : ℕ} {marks₀ : List ℕ} {one : List Id} {q : Result ℕ SeekError} (c : marks₀ ≡ cleared cap marks)
     (f : SeeksFrom width false cap 0 s (lent names marks₀ line) m₁ one q) where
-  begins : store_is_ok width s ≡ true → (g : List ℕ) (a b : Id) (levels : List ℕ) → Roomy width s (lent names marks line) levels cap → one ≡ a ∷ [] → (r : Sought) → q ≡ r
+  begins : store_is_ok width s ≡ true → (g : List ℕ) (a b : Id) (levels : List ℕ) → Roomy width s (lent names marks line) levels cap → one ≡ a ∷ [] → (r : Result ℕ SeekError) → q ≡ r
       → ToldSought width (world_of width s g) (reach_names width s (a ∷ b ∷ [])) (a ∷ []) false cap 0 (lent names (cleared cap marks) line) m₁ r
   begins ok g a b levels h e r z =
-      subst (λ (x : Sought). ToldSought width (world_of width s g) (reach_names width s (a ∷ b ∷ [])) (a ∷ []) false cap 0 (lent names (cleared cap marks) line) m₁ x) z
+      subst (λ (x : Result ℕ SeekError). ToldSought width (world_of width s g) (reach_names width s (a ∷ b ∷ [])) (a ∷ []) false cap 0 (lent names (cleared cap marks) line) m₁ x) z
       ((subst (λ (x : List Id). SeeksFrom width false cap 0 s (lent names (cleared cap marks) line) m₁ x q) e
       (subst (λ (x : List ℕ). SeeksFrom width false cap 0 s (lent names x line) m₁ one q) c f)).right ok g (reach_names width s (a ∷ b ∷ []))
       (empty-lists h.sized false 0 line (omega (arith, h.two_runs)))
@@ -134,12 +126,12 @@ module _ {width : ℕ} {s names marks line : List ℕ} {m₁ : Lent} {cap : ℕ}
       (λ x k. roots-met width s (a ∷ b ∷ []) x (Memᴰ.head (Memᴰ.eq_of_singleton k)))
       (parents-met width s g (a ∷ b ∷ [])))
 
-  pub tips-whole : {m' : Lent} {levels : List ℕ} {other : List Id} {r : Place} (n : ℕ) → q ≡ Whole n → length m₁.line ≡ length line → PartsFrom width s m₁ m' levels cap n other r
+  pub tips-whole : {m' : Lent} {levels : List ℕ} {other : List Id} {r : Place} (n : ℕ) → q ≡ Ok n → length m₁.line ≡ length line → PartsFrom width s m₁ m' levels cap n other r
       → PartsTips width s (lent names marks line) m' levels cap one other r
   tips-whole {levels = levels} n z len o = record {
     right = λ ok g a b h e e'.
         let u = reach_names width s (a ∷ b ∷ []) in
-        let t : Finds width (world_of width s g) u (a ∷ []) false cap 0 (lent names (cleared cap marks) line) m₁ n = begins ok g a b levels h e (Whole n) z in
+        let t : Finds width (world_of width s g) u (a ∷ []) false cap 0 (lent names (cleared cap marks) line) m₁ n = begins ok g a b levels h e (Ok n) z in
         o.right ok g u a b t.list
         (record {
           one = t.lists;
@@ -154,11 +146,9 @@ module _ {width : ℕ} {s names marks line : List ℕ} {m₁ : Lent} {cap : ℕ}
         h.stains;
   }
 
-  pub tips-stuck : {levels : List ℕ} {other : List Id} → q ≡ Unreadable → PartsTips width s (lent names marks line) m₁ levels cap one other (Refused UnreadableReach)
-  tips-stuck {levels = levels} z = record { right = λ ok g a b h e e'. unreadable (stuck-one (begins ok g a b levels h e Unreadable z)) }
-
-  pub tips-none : {levels : List ℕ} {other : List Id} {r : Place} → q ≡ NoRoom → PartsTips width s (lent names marks line) m₁ levels cap one other r
-  tips-none {levels = levels} z = record { right = λ ok g a b h e e'. absurd (begins ok g a b levels h e NoRoom z) }
+  pub tips-short : {levels : List ℕ} {other : List Id} (x : SeekError) → q ≡ Err x → PartsTips width s (lent names marks line) m₁ levels cap one other (Err (refusal_of x))
+  tips-short {levels = levels} Unreadable z = record { right = λ ok g a b h e e'. unreadable (stuck-one (begins ok g a b levels h e (Err Unreadable) z)) }
+  tips-short {levels = levels} NoRoom z = record { right = λ ok g a b h e e'. absurd (begins ok g a b levels h e (Err NoRoom) z) }
 
 -- ---- the answer
 
@@ -169,5 +159,5 @@ answers (nothing r n) = FirstParts.nothing r n
 answers {width} {w} {a} {b} {m = m} (first r x h slot o) = FirstParts.first r _ (subst (First w a b) (sym o.is) h)
 answers (tangled r x c n) = FirstParts.tangled r x c n
 
-pub base-told : (width : ℕ) {o : ObjectId} {x : List ℕ} (names : List ℕ) (slot : ℕ) → o.bytes ≡ padded x → x ≡ id_of width names slot → ◌≡◌ {A = MergeBase} (record { outcome = Given; commit = o }) (answer_of width names (Commit slot))
-base-told width names slot e f = λ j. record { outcome = Given; commit = record { bytes = (e ∙ ap padded f) j } }
+pub base-told : (width : ℕ) {o : ObjectId} {x : List ℕ} (names : List ℕ) (slot : ℕ) → o.bytes ≡ padded x → x ≡ id_of width names slot → Ok (Some o) ≡ answer_of width names (Ok (Some slot))
+base-told width names slot e f = λ j. Ok (Some (record { bytes = (e ∙ ap padded f) j }))

@@ -1,7 +1,7 @@
 -- Card 11: what is said is one, and the same when the tips are exchanged; what card 8 says of it stands: when none is said and when it is refused
 -- remain as they were. Assumes nothing.
+use Rattle.std.specs.Prelude.{None}
 use mathlib.Core.Path.{◌≡◌, refl, ap}
-use mathlib.Core.Option.{none}
 use mathlib.Core.List.Memᴰ
 use mathlib.Core.List.{List, [], ◌∷◌}
 use mathlib.Core.Logic.{⊎_elim}
@@ -16,8 +16,7 @@ use Rattle.reach.specs.Memory.{Lent}
 use Rattle.parting.specs.Best.{Common, Best}
 use Rattle.parting.specs.First.{First}
 use Rattle.parting.proofs.Firsts.{first-once}
-use Rattle.mergebase.specs.declared.MergeBase.{MergeBase}
-use Rattle.mergebase.specs.Parting.{early_refusal, base_at, Parts}
+use Rattle.mergebase.specs.Parting.{MergeBase, early_refusal, base_at, Parts}
 use Rattle.mergebase.specs.Exactly.{Exactly}
 use Rattle.mergebase.specs.Call.{FirstParts, unreadable, nothing, first, tangled, MergeBaseSays}
 use Rattle.mergebase.proofs.OneAnswer.{not_stuck, exactly}
@@ -84,5 +83,5 @@ said_swap {w} {a} {b} (tangled r x c n) = tangled (all_swap w a b r) x (common-s
 
 -- two calls over one store, with the tips in either order and in any memory that is enough, say the same
 pub same_for_all : {kind : Kind} {store : List ℕ} {a b : Id} {l k : Lengths} {m m' n n' : Lent} {v v' u u' : List ℕ} {r q : MergeBase} → MergeBaseSays kind store a b l m m' v v' r → MergeBaseSays kind store b a k n n' u u' q
-    → early_refusal kind store a b l ≡ none → early_refusal kind store b a k ≡ none → r ≡ q
+    → early_refusal kind store a b l ≡ None → early_refusal kind store b a k ≡ None → r ≡ q
 same_for_all one other e f = said_once (one.parts e []) (said_swap (other.parts f []))

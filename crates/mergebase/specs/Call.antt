@@ -1,7 +1,6 @@
 -- Card 11 (document 02): "Of all best common ancestors give the first: greatest book seconds, then the smallest id. When none is said and when it is
 -- refused remain as they were." And the call. Assumes nothing.
-use Rattle.std.specs.Prelude.{ℕ, ◌≡◌, List, [], ◌∷◌}
-use Rattle.std.proofs.Math.Option.{none, some}
+use Rattle.std.specs.Prelude.{ℕ, ◌≡◌, List, [], ◌∷◌, None, Some}
 use Rattle.hash.specs.Bytes.{Id, width_of}
 use Rattle.hash.specs.declared.Kind.{Kind}
 use Rattle.walk.specs.declared.Refusal.{Refusal}
@@ -12,8 +11,7 @@ use Rattle.reach.specs.Search.{Stuck, AllReadable}
 use Rattle.reach.specs.Memory.{Lent}
 use Rattle.parting.specs.Best.{Common, Best}
 use Rattle.parting.specs.First.{First}
-use Rattle.mergebase.specs.declared.MergeBase.{MergeBase}
-use Rattle.mergebase.specs.Parting.{early_refusal, no_base, refused_base, base_at}
+use Rattle.mergebase.specs.Parting.{MergeBase, early_refusal, no_base, refused_base, base_at}
 
 -- what is said of the tips a and b: 13; none; the first of the best ones; 23
 pub data FirstParts (w : World) (a b : Id) : MergeBase → Type 0 where
@@ -24,5 +22,5 @@ pub data FirstParts (w : World) (a b : Id) : MergeBase → Type 0 where
 
 -- after 2, 4 and 1 nothing is altered; otherwise what is said is right, whatever a graph file would say
 pub record MergeBaseSays (kind : Kind) (store : List ℕ) (a b : Id) (l : Lengths) (m m' : Lent) (levels levels' : List ℕ) (r : MergeBase) : Type 0 where
-  pub early : (n : Refusal) → early_refusal kind store a b l ≡ some n → (r ≡ refused_base n) × (m' ≡ m) × (levels' ≡ levels)
-  pub parts : early_refusal kind store a b l ≡ none → (g : List ℕ) → FirstParts (world_of (width_of kind) store g) a b r
+  pub early : (n : Refusal) → early_refusal kind store a b l ≡ Some n → (r ≡ refused_base n) × (m' ≡ m) × (levels' ≡ levels)
+  pub parts : early_refusal kind store a b l ≡ None → (g : List ℕ) → FirstParts (world_of (width_of kind) store g) a b r

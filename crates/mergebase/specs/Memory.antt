@@ -1,5 +1,5 @@
 -- What the steps of the call do in lent memory. Assumes nothing.
-use Rattle.std.specs.Prelude.{ℕ, ◌+◌, ◌/◌, ◌≤◌, ◌≡◌, true, false, List, [], ◌∷◌, length}
+use Rattle.std.specs.Prelude.{ℕ, ◌+◌, ◌/◌, ◌≤◌, ◌≡◌, true, false, List, [], ◌∷◌, length, Option, Some, None, Result, Ok, Err}
 use Rattle.hash.specs.Bytes.{Id}
 use Rattle.odb.specs.Store.{store_is_ok}
 use Rattle.hashtable.specs.Table.{Sized, id_of}
@@ -12,31 +12,31 @@ use Rattle.reach.specs.Memory.{most_slots, Lent, In, Lists, Named}
 use Rattle.parting.specs.Best.{Common, Best}
 use Rattle.parting.specs.First.{First}
 use Rattle.parting.specs.Searched.{Searched}
-use Rattle.parting.specs.declared.Choice.{Choice}
-use Rattle.parting.specs.declared.Choice.TheVariants.{Nothing as NoChoice, Tangled, Commit as Chosen}
-use Rattle.mergebase.specs.declared.MergeBase.{MergeBase}
-use Rattle.mergebase.specs.declared.Place.{Place}
-use Rattle.mergebase.specs.declared.Place.TheVariants.{Nothing, Commit, Refused}
-use Rattle.mergebase.specs.Parting.{no_base, refused_base, base_at}
+use Rattle.parting.specs.Choice.{Choice}
+use Rattle.walk.specs.declared.Refusal.{Refusal}
+use Rattle.mergebase.specs.Parting.{MergeBase, no_base, refused_base, base_at}
+
+-- the answer in lent memory: the commit by its slot
+abbrev pub Place : Type 0
+Place = Result (Option ℕ) Refusal
 
 -- a choice, as a place
 abbrev pub parted_of : Choice → Place
-parted_of NoChoice = Nothing
-parted_of Tangled = Refused TangledReach
-parted_of (Chosen slot) = Commit slot
+parted_of (Ok p) = Ok p
+parted_of (Err _) = Err TangledReach
 
 -- the answer by its place
 abbrev pub answer_of : ℕ → List ℕ → Place → MergeBase
-answer_of width names Nothing = no_base
-answer_of width names (Commit slot) = base_at (id_of width names slot)
-answer_of width names (Refused r) = refused_base r
+answer_of width names (Ok None) = no_base
+answer_of width names (Ok (Some slot)) = base_at (id_of width names slot)
+answer_of width names (Err r) = refused_base r
 
 -- what is said of the tips, the commit by the slot that holds it
 pub data PartsAt (width : ℕ) (w : World) (a b : Id) (cap : ℕ) (m : Lent) : Place → Type 0 where
-  unreadable : Stuck w (a ∷ b ∷ []) → PartsAt width w a b cap m (Refused UnreadableReach)
-  nothing : AllReadable w (a ∷ b ∷ []) → ((x : Id) → Common w a b x → ⊥) → PartsAt width w a b cap m Nothing
-  first : AllReadable w (a ∷ b ∷ []) → (x : Id) → First w a b x → (slot : ℕ) → In width cap m x slot → PartsAt width w a b cap m (Commit slot)
-  tangled : AllReadable w (a ∷ b ∷ []) → (x : Id) → Common w a b x → ((y : Id) → Best w a b y → ⊥) → PartsAt width w a b cap m (Refused TangledReach)
+  unreadable : Stuck w (a ∷ b ∷ []) → PartsAt width w a b cap m (Err UnreadableReach)
+  nothing : AllReadable w (a ∷ b ∷ []) → ((x : Id) → Common w a b x → ⊥) → PartsAt width w a b cap m (Ok None)
+  first : AllReadable w (a ∷ b ∷ []) → (x : Id) → First w a b x → (slot : ℕ) → In width cap m x slot → PartsAt width w a b cap m (Ok (Some slot))
+  tangled : AllReadable w (a ∷ b ∷ []) → (x : Id) → Common w a b x → ((y : Id) → Best w a b y → ⊥) → PartsAt width w a b cap m (Err TangledReach)
 
 -- what `best_of` does after both searches
 pub record BestOf (width : ℕ) (s : List ℕ) (m : Lent) (levels : List ℕ) (cap n : ℕ) (r : Place) : Type 0 where

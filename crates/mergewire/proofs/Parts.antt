@@ -13,7 +13,7 @@ use Rattle.hash.proofs.Widths.{width-most}
 use Rattle.object.specs.Ids.{id_in, padded}
 use Rattle.walk.specs.Opening.{Lengths}
 use Rattle.reach.specs.Memory.{Lent}
-use Rattle.mergebase.specs.declared.MergeBase.{MergeBase}
+use Rattle.mergebase.specs.Parting.{MergeBase}
 use Rattle.mergebase.specs.Call.{MergeBaseSays}
 use Rattle.wire.proofs.FirstBytes.{first-bytes}
 use Rattle.mergewire.specs.Wire.{no_room_number, room_to_part, PutsBase, LibraryMergeBase}

@@ -1,14 +1,12 @@
 -- What the library says of where two series part (document 02, cards 8 and 11), set down in lent buffers. Assumes nothing.
-use Rattle.std.specs.Prelude.{ℕ, ◌≡◌, Bool, true, false, ◌&&◌, List, [], ◌∷◌, length, take, leb}
+use Rattle.std.specs.Prelude.{ℕ, ◌≡◌, Bool, true, false, ◌&&◌, List, [], ◌∷◌, length, take, replicate, leb, Some, None, Ok, Err}
 use Rattle.hash.specs.Bytes.{width_of, set_down}
 use Rattle.hash.specs.declared.Kind.{Kind}
-use Rattle.object.specs.Ids.{id_in}
+use Rattle.object.specs.Ids.{id_room, id_in}
 use Rattle.walk.specs.Refusals.{number_of}
 use Rattle.walk.specs.Opening.{Lengths}
 use Rattle.reach.specs.Memory.{Lent}
-use Rattle.mergebase.specs.declared.MergeBase.{MergeBase}
-use Rattle.mergebase.specs.declared.Parted.{Parted}
-use Rattle.mergebase.specs.declared.Parted.TheVariants.{Nothing, Commit, Refused}
+use Rattle.mergebase.specs.Parting.{MergeBase}
 use Rattle.mergebase.specs.Call.{MergeBaseSays}
 
 -- the result where the tips, the id or the numbers are too short: none of document 01's numbers, and no answer's (`no_room-base` in
@@ -21,22 +19,27 @@ unfoldable pub room_to_part : ℕ → List ℕ → List ℕ → List ℕ → Lis
 room_to_part w one other id numbers = leb w (length one) && leb w (length other) && leb w (length id) && leb 1 (length numbers)
 
 -- a commit and none are 0, a refusal has its number
-abbrev pub parted_number : Parted → ℕ
-parted_number Nothing = 0
-parted_number Commit = 0
-parted_number (Refused r) = number_of r
+abbrev pub parted_number : MergeBase → ℕ
+parted_number (Ok c) = 0
+parted_number (Err r) = number_of r
 
 -- whether there is a commit
-abbrev pub found : Parted → ℕ
-found Nothing = 0
-found Commit = 1
-found (Refused r) = 0
+abbrev pub found : MergeBase → ℕ
+found (Ok None) = 0
+found (Ok (Some c)) = 1
+found (Err r) = 0
+
+-- the commit's id, as it stands in an id's bytes; zeros where there is none
+abbrev pub id_said : MergeBase → List ℕ
+id_said (Ok None) = replicate id_room 0
+id_said (Ok (Some c)) = c.bytes
+id_said (Err r) = replicate id_room 0
 
 -- an answer set down: its number, the commit's id (zeros where there is none), and whether there is one
 pub record PutsBase (w : ℕ) (r : MergeBase) (id id' numbers numbers' : List ℕ) (n : ℕ) : Type 0 where
-  pub result : n ≡ parted_number r.outcome
-  pub id-is : id' ≡ set_down id 0 (id_in w r.commit.bytes)
-  pub numbers_are : numbers' ≡ set_down numbers 0 (found r.outcome ∷ [])
+  pub result : n ≡ parted_number r
+  pub id-is : id' ≡ set_down id 0 (id_in w (id_said r))
+  pub numbers_are : numbers' ≡ set_down numbers 0 (found r ∷ [])
 
 -- a call that was made: what it says, set down
 pub record Parting (kind : Kind) (store one other : List ℕ) (l : Lengths) (m m' : Lent) (levels levels' id id' numbers numbers' : List ℕ) (n : ℕ) : Type 0 where

@@ -7,10 +7,11 @@ ghost use Rattle.hash.specs.Bytes.{width_of};
 ghost use Rattle.opening.specs.Checks.{lengths_of};
 ghost use Rattle.reach.specs.Memory.{lent};
 ghost use Rattle.wire.specs.Words.{kind_of};
-ghost use Rattle.mergewire.specs.Wire.{parted_number, found, room_to_part, PutsBase, LibraryMergeBase};
+ghost use Rattle.mergewire.specs.Wire.{parted_number, found, id_said, room_to_part, PutsBase, LibraryMergeBase};
 
 use hash::Kind;
-use mergebase::{MergeBase, Parted};
+use object::ObjectId;
+use walk::Refusal;
 
 // The library's result where the tips or what an answer is set down in are too short: none of document 01's numbers.
 const NO_ROOM: u32 = 101;
@@ -39,37 +40,48 @@ fn wide(n: u8) -> u32
 }
 
 // The number of what is said: 0, or the refusal's.
-fn number(o: Parted) -> u32
-    ensures { result ≡ parted_number o }
+fn number(said: Result<Option<ObjectId>, Refusal>) -> u32
+    ensures { result ≡ parted_number said }
 {
-    match o {
-        Parted::Nothing => 0,
-        Parted::Commit => 0,
-        Parted::Refused(r) => wide(walk::number(r)),
+    match said {
+        Ok(_) => 0,
+        Err(r) => wide(walk::number(r)),
     }
 }
 
 // 1 where there is a commit, else 0.
-fn has_commit(o: Parted) -> u64
-    ensures { result ≡ found o }
+fn has_commit(said: Result<Option<ObjectId>, Refusal>) -> u64
+    ensures { result ≡ found said }
 {
-    match o {
-        Parted::Nothing => 0,
-        Parted::Commit => 1,
-        Parted::Refused(_) => 0,
+    match said {
+        Ok(Some(_)) => 1,
+        _ => 0,
+    }
+}
+
+// The commit's id; zeros where there is none, as a caller in C reads it.
+fn id_said(said: Result<Option<ObjectId>, Refusal>) -> ObjectId
+    ensures { result.bytes ≡ id_said said }
+{
+    match said {
+        Ok(Some(id)) => id,
+        _ => ObjectId { bytes: [0u8; 32] },
     }
 }
 
 // An answer set down, and its number.
-fn put_base(kind: Kind, r: MergeBase, id: &mut [u8], numbers: &mut [u64]) -> u32
-    ensures { PutsBase (width_of kind) r id.old id.new numbers.old numbers.new result }
+fn put_base(
+    kind: Kind,
+    said: Result<Option<ObjectId>, Refusal>,
+    id: &mut [u8],
+    numbers: &mut [u64],
+) -> u32
+    ensures { PutsBase (width_of kind) said id.old id.new numbers.old numbers.new result }
 {
-    let o = r.outcome;
-    let w = [has_commit(o)];
-    wire::put(numbers, &w);
-    let x = r.commit;
+    wire::put(numbers, &[has_commit(said)]);
+    let x = id_said(said);
     hash::set_down(id, 0, object::id_slice(kind, &x.bytes));
-    number(o)
+    number(said)
 }
 
 // The call, its answer set down; without room for it, or with a tip that is no whole id, nothing is altered and the result is 101.
@@ -93,7 +105,7 @@ pub fn merge_base(
     if !can_part(kind, one, other, id, numbers) {
         return NO_ROOM;
     }
-    let r = mergebase::merge_base(
+    let said = mergebase::merge_base(
         kind,
         store,
         object::id_of(one),
@@ -105,5 +117,5 @@ pub fn merge_base(
         line,
         parents,
     );
-    put_base(kind, r, id, numbers)
+    put_base(kind, said, id, numbers)
 }

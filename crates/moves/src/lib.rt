@@ -83,13 +83,11 @@ pub fn cone_to_move(
     }
     let body = reading::stored_body(kind, store, x);
     let count = memo::parent_count(kind, body);
-    let mut i = 0;
-    while i < count {
+    for i in 0..count {
         if bed_to_move(kind, store, list, memo, d - 1, body_parent(kind, body, i)) {
             memo::note(memo, n, k, false, d, true);
             return true;
         }
-        i += 1;
     }
     memo::note(memo, n, k, false, d, false);
     false
@@ -116,13 +114,11 @@ pub fn bed_to_move(
     }
     let body = reading::stored_body(kind, store, x);
     let count = memo::parent_count(kind, body);
-    let mut i = 0;
-    while i < count {
+    for i in 0..count {
         if !cone_to_move(kind, store, list, memo, d - 1, body_parent(kind, body, i)) {
             memo::note(memo, n, k, true, d, false);
             return false;
         }
-        i += 1;
     }
     let forced = 0 < count;
     memo::note(memo, n, k, true, d, forced);
@@ -144,12 +140,10 @@ pub fn first_forcing(
     let x = object::id_slice(kind, &id.bytes);
     let body = reading::stored_body(kind, store, x);
     let count = memo::parent_count(kind, body);
-    let mut i = 0;
-    while i < count {
+    for i in 0..count {
         if bed_to_move(kind, store, list, memo, d, body_parent(kind, body, i)) {
             return i;
         }
-        i += 1;
     }
-    i
+    count
 }

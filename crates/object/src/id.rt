@@ -12,10 +12,8 @@ fn whole_id(x: &[u8]) -> ObjectId
     ensures { result.bytes ≡ padded x.now }
 {
     let mut bytes = [0u8; 32];
-    let mut i = 0;
-    while i < 32 {
+    for i in 0..32 {
         bytes[i] = x[i];
-        i += 1;
     }
     ObjectId { bytes }
 }
@@ -27,10 +25,8 @@ fn narrow_id(x: &[u8]) -> ObjectId
 {
     let w = hash::width(Kind::Sha1);
     let mut bytes = [0u8; 32];
-    let mut i = 0;
-    while i < w {
+    for i in 0..w {
         bytes[i] = x[i];
-        i += 1;
     }
     ObjectId { bytes }
 }
@@ -41,10 +37,8 @@ fn short_id(x: &[u8]) -> ObjectId
     ensures { result.bytes ≡ padded x.now }
 {
     let mut bytes = [0u8; 32];
-    let mut i = 0;
-    while i < x.len() {
+    for i in 0..x.len() {
         bytes[i] = x[i];
-        i += 1;
     }
     ObjectId { bytes }
 }

@@ -4,23 +4,14 @@
 mod id;
 pub mod person;
 
-ghost use Rattle.std.specs.Prelude.{◌≡◌, true, ◌+◌, ◌*◌, ◌/◌, ◌≤◌, ◌<◌, eqb, length, drop};
-ghost use Rattle.std.proofs.Math.Option.{none};
+ghost use Rattle.std.specs.Prelude.{◌≡◌, true, ◌+◌, ◌*◌, ◌/◌, ◌≤◌, ◌<◌, eqb, length, drop, Some};
 ghost use Rattle.hash.specs.Bytes.{width_of};
 ghost use Rattle.object.specs.Header.{tree_size, parent_size, is_some, strip, hex_val, hex_bytes, id_line, parent_word, parent_lines, most, author_line, after_author, stamp_of, header};
 ghost use Rattle.object.specs.Read.{id_read, id_down, Decodes, tree_at, tree_id_at, parent_at, after_parents, stamp_read, reading_of};
 
-use actor::StampRead;
 use date::Stamp;
 use hash::Kind;
 pub use id::{id_of, id_slice};
-
-// A line that was read: the place after its newline.
-#[derive(Clone, Copy)]
-pub enum Line {
-    Good(usize),
-    Bad,
-}
 
 // An object id by value, of either kind: zeros stand after it.
 #[derive(Clone, Copy)]
@@ -28,17 +19,16 @@ pub struct ObjectId {
     pub bytes: [u8; 32],
 }
 
-// A parent line that was read; with no good line the id is all zeros.
+// What a readable header gives: how many parents it has, and its committer reading.
 #[derive(Clone, Copy)]
-pub struct ParentLine {
-    pub good: bool,
-    pub id: ObjectId,
+pub struct ReadableHeader {
+    pub parents: usize,
+    pub stamp: Stamp,
 }
 
-// A whole header: readable, with a bad line, or with a good 257th parent line before any bad line.
+// Why a header is not readable: a bad line, or a good 257th parent line before any bad line.
 #[derive(Clone, Copy)]
-pub enum Reading {
-    Readable { parents: usize, stamp: Stamp },
+pub enum HeaderError {
     Bad,
     Crowded,
 }
@@ -102,10 +92,8 @@ fn wrong_in(w: usize, body: &[u8], at: usize) -> u8
     ensures { eqb result 0 ≡ is_some (hex_bytes w (drop at body.now)) }
 {
     let mut wrong: u8 = 0;
-    let mut i = 0;
-    while i < 2 * w {
+    for i in 0..2 * w {
         wrong += wrong_digit(body[at + i]);
-        i += 1;
     }
     wrong
 }
@@ -121,16 +109,6 @@ fn wrong_digits(kind: Kind, body: &[u8], at: usize) -> u8
     }
 }
 
-// The answer where no good line stands.
-fn no_id() -> ParentLine
-    ensures { result ≡ id_read none }
-{
-    ParentLine {
-        good: false,
-        id: ObjectId { bytes: [0u8; 32] },
-    }
-}
-
 // Decodes the id in 2 w digits at a place, none of them wrong, to the start of out. (So it tests none, and has no early exit either.)
 fn decode_to(w: usize, body: &[u8], at: usize, out: &mut [u8])
     requires w_in_bounds { at + 2 * w ≤ length body.now }
@@ -138,32 +116,27 @@ fn decode_to(w: usize, body: &[u8], at: usize, out: &mut [u8])
     requires w_in_bounds_2 { w ≤ length out.old }
     ensures { Decodes w (drop at body.now) out.old out.new }
 {
-    let mut i = 0;
-    while i < w {
+    for i in 0..w {
         out[i] = hex_value(body[at + 2 * i]) * 16 + hex_value(body[at + 2 * i + 1]);
-        i += 1;
     }
 }
 
 // The same id by value.
-fn decode(w: usize, body: &[u8], at: usize) -> ParentLine
+fn decode(w: usize, body: &[u8], at: usize) -> ObjectId
     requires w_in_bounds { at + 2 * w ≤ length body.now }
     requires body_value { is_some (hex_bytes w (drop at body.now)) ≡ true }
     requires w_bound { w ≤ 32 }
-    ensures { result ≡ id_read (hex_bytes w (drop at body.now)) }
+    ensures { Some result ≡ id_read (hex_bytes w (drop at body.now)) }
 {
     let mut bytes = [0u8; 32];
     decode_to(w, body, at, &mut bytes);
-    ParentLine {
-        good: true,
-        id: ObjectId { bytes },
-    }
+    ObjectId { bytes }
 }
 
-fn decoded(kind: Kind, body: &[u8], at: usize) -> ParentLine
+fn decoded(kind: Kind, body: &[u8], at: usize) -> ObjectId
     requires kind_in_bounds { at + 2 * width_of kind ≤ length body.now }
     requires body_value { is_some (hex_bytes (width_of kind) (drop at body.now)) ≡ true }
-    ensures { result ≡ id_read (hex_bytes (width_of kind) (drop at body.now)) }
+    ensures { Some result ≡ id_read (hex_bytes (width_of kind) (drop at body.now)) }
 {
     match kind {
         Kind::Sha1 => decode(hash::width(Kind::Sha1), body, at),
@@ -217,36 +190,36 @@ fn is_id_line(kind: Kind, body: &[u8], at: usize, word: &[u8]) -> bool
 }
 
 // The line with a word, an id and a newline at a place.
-fn id_line(kind: Kind, body: &[u8], at: usize, word: &[u8]) -> ParentLine
+fn id_line(kind: Kind, body: &[u8], at: usize, word: &[u8]) -> Option<ObjectId>
     ensures { result ≡ id_read (id_line (width_of kind) word.now (drop at body.now)) }
 {
     if is_id_line(kind, body, at, word) {
-        decoded(kind, body, at + word.len())
+        Some(decoded(kind, body, at + word.len()))
     } else {
-        no_id()
+        None
     }
 }
 
 // The tree line at a place.
-pub fn tree_line(kind: Kind, body: &[u8], at: usize) -> Line
+pub fn tree_line(kind: Kind, body: &[u8], at: usize) -> Option<usize>
     ensures { result ≡ tree_at (width_of kind) body.now at }
 {
     if is_id_line(kind, body, at, b"tree ") {
-        Line::Good(at + tree_size(kind))
+        Some(at + tree_size(kind))
     } else {
-        Line::Bad
+        None
     }
 }
 
 // The id of the tree line at a place.
-pub fn tree_id(kind: Kind, body: &[u8], at: usize) -> ParentLine
+pub fn tree_id(kind: Kind, body: &[u8], at: usize) -> Option<ObjectId>
     ensures { result ≡ tree_id_at (width_of kind) body.now at }
 {
     id_line(kind, body, at, b"tree ")
 }
 
 // The parent line at a place.
-pub fn parent_line(kind: Kind, body: &[u8], at: usize) -> ParentLine
+pub fn parent_line(kind: Kind, body: &[u8], at: usize) -> Option<ObjectId>
     ensures { result ≡ parent_at (width_of kind) body.now at }
 {
     id_line(kind, body, at, b"parent ")
@@ -254,7 +227,7 @@ pub fn parent_line(kind: Kind, body: &[u8], at: usize) -> ParentLine
 
 // Whether a good parent line stands at a place: its digits are tested, and no id is made of them.
 pub fn is_parent_line(kind: Kind, body: &[u8], at: usize) -> bool
-    ensures { result ≡ (parent_at (width_of kind) body.now at).good }
+    ensures { result ≡ is_some (parent_at (width_of kind) body.now at) }
 {
     is_id_line(kind, body, at, b"parent ")
 }
@@ -278,10 +251,8 @@ pub fn after_parents(kind: Kind, body: &[u8], at: usize) -> usize
 {
     let size = parent_size(kind);
     let mut p = at;
-    while p < body.len() {
-        if !is_parent_line(kind, body, p) {
-            return p;
-        }
+    // Lines are passed as long as one stands there, and nothing is counted.
+    while is_parent_line(kind, body, p) {
         p += size;
     }
     p
@@ -292,65 +263,56 @@ pub fn count_parents(kind: Kind, body: &[u8], at: usize) -> usize
     ensures { result ≡ length (parent_lines (width_of kind) most (drop at body.now)).ids }
 {
     let size = parent_size(kind);
-    let mut n = 0;
     let mut p = at;
-    while n < MOST_PARENTS {
+    for n in 0..MOST_PARENTS {
         if !is_parent_line(kind, body, p) {
             return n;
         }
         p += size;
-        n += 1;
     }
-    n
+    MOST_PARENTS
 }
 
 // The author line at a place and the committer line after it.
-fn person_lines(body: &[u8], at: usize) -> StampRead
+fn person_lines(body: &[u8], at: usize) -> Option<Stamp>
     ensures { result ≡ stamp_read (after_author (author_line (drop at body.now))) }
 {
-    match person::author_line(body, at) {
-        Line::Good(next) => person::committer_line(body, next),
-        Line::Bad => StampRead::Bad,
-    }
+    let next = person::author_line(body, at)?;
+    person::committer_line(body, next)
 }
 
 // A whole header: of a bad line and a good 257th parent line the earlier decides.
-pub fn readable(kind: Kind, body: &[u8]) -> Reading
+pub fn readable(kind: Kind, body: &[u8]) -> Result<ReadableHeader, HeaderError>
     ensures { result ≡ reading_of (header (width_of kind) body.now) }
 {
-    let Line::Good(at) = tree_line(kind, body, 0) else {
-        return Reading::Bad;
+    let Some(at) = tree_line(kind, body, 0) else {
+        return Err(HeaderError::Bad);
     };
-    let n = count_parents(kind, body, at);
-    let p = at + parent_size(kind) * n;
+    let parents = count_parents(kind, body, at);
+    let p = at + parent_size(kind) * parents;
     if is_parent_line(kind, body, p) {
-        return Reading::Crowded;
+        return Err(HeaderError::Crowded);
     }
     match person_lines(body, p) {
-        StampRead::Good(s) => Reading::Readable {
-            parents: n,
-            stamp: s,
-        },
-        StampRead::Bad => Reading::Bad,
+        Some(stamp) => Ok(ReadableHeader { parents, stamp }),
+        None => Err(HeaderError::Bad),
     }
 }
 
 // The committer reading alone: parents are not counted.
-pub fn stamp_only(kind: Kind, body: &[u8]) -> StampRead
+pub fn stamp_only(kind: Kind, body: &[u8]) -> Option<Stamp>
     ensures { result ≡ stamp_read (stamp_of (width_of kind) body.now) }
 {
-    let Line::Good(at) = tree_line(kind, body, 0) else {
-        return StampRead::Bad;
-    };
+    let at = tree_line(kind, body, 0)?;
     person_lines(body, after_parents(kind, body, at))
 }
 
 // The same where the tree line and so many parent lines are known to be good: these are not read again.
-pub fn stamp_past(kind: Kind, body: &[u8], known: usize) -> StampRead
+pub fn stamp_past(kind: Kind, body: &[u8], known: usize) -> Option<Stamp>
     ensures { (header (width_of kind) body.now).tree ≡ true → known ≤ length (header (width_of kind) body.now).ids → result ≡ stamp_read (stamp_of (width_of kind) body.now) }
 {
     if MOST_PARENTS < known {
-        return StampRead::Bad;
+        return None;
     }
     let size = parent_size(kind);
     let at = tree_size(kind) + size * known;

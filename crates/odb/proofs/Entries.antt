@@ -1,9 +1,9 @@
 -- The entry under an id. In a good store the ids rise strictly, so an id has one entry at most, and the search for it gives that entry and no
 -- other. Assumes nothing.
+use Rattle.std.specs.Prelude.{None, Some}
 use mathlib.Core.Path.{◌≡◌, ap}
 use Prim.Native.Nat.{ℕ, ◌≤◌, ◌<◌}
 use mathlib.Core.Bool.{true}
-use mathlib.Core.Option.{none, some}
 use mathlib.Core.List.{List}
 use native.Mathlib.Omega.{arith}
 use lib.ListN.{length}
@@ -17,27 +17,27 @@ use Rattle.odb.proofs.Store.{good}
 use Rattle.odb.proofs.Bodies.{body-length, end-within}
 
 -- what is found stands there
-pub entry-hit : (w : ℕ) (b : List ℕ) (x : Id) (k : ℕ) → find_entry w b x ≡ some k → (k < entries b) × (id_of (entry_ids w b) k ≡ x)
+pub entry-hit : (w : ℕ) (b : List ℕ) (x : Id) (k : ℕ) → find_entry w b x ≡ Some k → (k < entries b) × (id_of (entry_ids w b) k ≡ x)
 unfolding find_entry
 entry-hit w b x k e = find-hit (entry_ids w b) x (entries b) k e
 
 -- where nothing is found, the id stands nowhere; and the other way round
-pub entry-none : (w : ℕ) (b : List ℕ) (x : Id) (k : ℕ) → find_entry w b x ≡ none → k < entries b → id_of (entry_ids w b) k ≡ x → ⊥
+pub entry-none : (w : ℕ) (b : List ℕ) (x : Id) (k : ℕ) → find_entry w b x ≡ None → k < entries b → id_of (entry_ids w b) k ≡ x → ⊥
 unfolding find_entry
 entry-none w b x k e = find_none (entry_ids w b) x (entries b) k e
 
-pub none-entry : (w : ℕ) (b : List ℕ) (x : Id) → ((k : ℕ) → k < entries b → id_of (entry_ids w b) k ≡ x → ⊥) → find_entry w b x ≡ none
+pub none-entry : (w : ℕ) (b : List ℕ) (x : Id) → ((k : ℕ) → k < entries b → id_of (entry_ids w b) k ≡ x → ⊥) → find_entry w b x ≡ None
 unfolding find_entry
 none-entry w b x f = none_found (entry_ids w b) x (entries b) f
 
 -- a body that is found is the body of the entry that is found
-pub found-body : (w : ℕ) (b : List ℕ) (x : Id) (c : List ℕ) → store_find w b x ≡ some c → (k : ℕ) × (find_entry w b x ≡ some k) × (body w b k ≡ c)
+pub found-body : (w : ℕ) (b : List ℕ) (x : Id) (c : List ℕ) → store_find w b x ≡ Some c → (k : ℕ) × (find_entry w b x ≡ Some k) × (body w b k ≡ c)
 unfolding store_find
-found-body w b x c e = let t = some_of (find_entry w b x) (λ k. some (body w b k)) c e in (t.0, t.1, some_in t.2)
+found-body w b x c e = let t = some_of (find_entry w b x) (λ k. Some (body w b k)) c e in (t.0, t.1, some_in t.2)
 
 module _ (w : ℕ) (b : List ℕ) (ok : store_is_ok w b ≡ true) where
   -- what stands there is found
-  pub entry_at : (x : Id) (k : ℕ) → k < entries b → id_of (entry_ids w b) k ≡ x → find_entry w b x ≡ some k
+  pub entry_at : (x : Id) (k : ℕ) → k < entries b → id_of (entry_ids w b) k ≡ x → find_entry w b x ≡ Some k
   unfolding find_entry
   entry_at x k h e = find_at (entry_ids w b) x (entries b) k (good w b ok).rises h e
 
@@ -46,7 +46,7 @@ module _ (w : ℕ) (b : List ℕ) (ok : store_is_ok w b ≡ true) where
   entry-once j k hj hk e = once (entry_ids w b) (entries b) j k (good w b ok).rises hj hk e
 
   -- a found body is no longer than the file
-  pub found-length : (x : Id) (c : List ℕ) → store_find w b x ≡ some c → length c ≤ length b
+  pub found-length : (x : Id) (c : List ℕ) → store_find w b x ≡ Some c → length c ≤ length b
   found-length x c e =
       let t = found-body w b x c e in
       let h = (entry-hit w b x t.0 t.1).0 in

@@ -1,9 +1,9 @@
 -- What `locate` and `try_find` answer. A search among the standing entries finds one under the id, and where their ids rise it misses none; in a
 -- good store these are all entries, and the body of each is a part of the file. An answer is kept only where it is such a part. Assumes nothing.
+use Rattle.std.specs.Prelude.{None, Option, Some}
 use mathlib.Core.Path.{◌≡◌, refl, sym, ◌∙◌, ap, subst}
 use Prim.Native.Nat.{ℕ, ◌+◌, ◌-◌, ◌*◌, ◌≤◌, ◌<◌}
 use mathlib.Core.Bool.{true, false}
-use mathlib.Core.Option.{Option, none, some}
 use mathlib.Core.List.{List, []}
 use native.Mathlib.Omega.{arith}
 use lib.ListN.{length, take, drop}
@@ -12,8 +12,6 @@ use borrow.Author.Tests.{leb-true, le-leb, lt-leb}
 use Rattle.hash.specs.Bytes.{Id, at, if_some}
 use Rattle.hash.proofs.Tests.{by_cases, clash, and_both, and_of}
 use Rattle.idlist.specs.IdList.{IdList, id_of, find_in, Finds, found_of}
-use Rattle.idlist.specs.declared.Found.{Found}
-use Rattle.idlist.specs.declared.Found.TheVariants.{At, Absent as Missed}
 use Rattle.idlist.proofs.Answer.{none_found, other_width, found_all, find_at}
 use Rattle.odb.specs.Store.{entry_size, start, entries, entry_ids, body_start, body_end, body, standing, standing_entries, store_is_ok, find_entry, store_find}
 use Rattle.odb.specs.Lookup.{is_part, part_at, located_of, part_of, is_body, ids_rise, looked_up, Under, FindsEntry, Locates, option_of, TriesFind, NotesEntry}
@@ -80,7 +78,7 @@ module _ (w : ℕ) (b : List ℕ) (x : Id) where
   good-found ok = rw (good-count w b ok)
 
   -- no entry is found: where the ids rise, only if none is there
-  pub locates-none : (ids_rise w b ≡ true → find_in (entry_ids w b) x (standing_entries w b) ≡ none) → Locates w b x Absent
+  pub locates-none : (ids_rise w b ≡ true → find_in (entry_ids w b) x (standing_entries w b) ≡ None) → Locates w b x Absent
   unfolding looked_up
   locates-none f = record {
     good = λ ok. rw (sym (good-found ok) ∙ f (good-rises ok));
@@ -92,7 +90,7 @@ module _ (w : ℕ) (b : List ℕ) (x : Id) where
   }
 
   -- entry k is found
-  pub locates-entry : (k : ℕ) → Under w b x k → length x ≡ w → (ids_rise w b ≡ true → find_in (entry_ids w b) x (standing_entries w b) ≡ some k)
+  pub locates-entry : (k : ℕ) → Under w b x k → length x ≡ w → (ids_rise w b ≡ true → find_in (entry_ids w b) x (standing_entries w b) ≡ Some k)
       → Locates w b x (part_at b (body_start w b k) (body_end w b k))
   unfolding looked_up
   locates-entry k u q f = record {
@@ -106,25 +104,25 @@ module _ (w : ℕ) (b : List ℕ) (x : Id) where
     foreign = λ n. absurd (n q);
   }
 
-found_some : (o : Option ℕ) (k : ℕ) → At k ≡ found_of o → o ≡ some k
-found_some none k e = let z : ◌≡◌ {A = ℕ} 0 1 = cc in absurd (omega arith)
-found_some (some j) k e = cc
+found_some : (o : Option ℕ) (k : ℕ) → Some k ≡ found_of o → o ≡ Some k
+found_some None k e = let z : ◌≡◌ {A = ℕ} 0 1 = cc in absurd (omega arith)
+found_some (Some j) k e = cc
 
-found_none : (o : Option ℕ) → Missed ≡ found_of o → o ≡ none
-found_none none e = refl
-found_none (some j) e = let z : ◌≡◌ {A = ℕ} 0 1 = cc in absurd (omega arith)
+found_none : (o : Option ℕ) → None ≡ found_of o → o ≡ None
+found_none None e = refl
+found_none (Some j) e = let z : ◌≡◌ {A = ℕ} 0 1 = cc in absurd (omega arith)
 
 -- among the standing entries, a search of ids that rise answers with the first under x
-search_found : (w : ℕ) (b : List ℕ) (x : Id) {r : Found} → Finds (entry_ids w b) 0 (standing_entries w b) x r → ids_rise w b ≡ true → r ≡ found_of (find_in (entry_ids w b) x (standing_entries w b))
+search_found : (w : ℕ) (b : List ℕ) (x : Id) {r : Option ℕ} → Finds (entry_ids w b) 0 (standing_entries w b) x r → ids_rise w b ≡ true → r ≡ found_of (find_in (entry_ids w b) x (standing_entries w b))
 unfolding find_in
 search_found w b x {r} f p = by_cases (standing w b) (λ t. found_all f (standing_stand w b t) p) (λ t. nothing t r f)
   where
-    nothing : standing w b ≡ false → (q : Found) → Finds (entry_ids w b) 0 (standing_entries w b) x q → q ≡ found_of (find_in (entry_ids w b) x (standing_entries w b))
-    nothing t (At k) g = absurd (omega (arith, (g.hit k refl).1, broken_count w b t))
-    nothing t Missed g = rw (broken_count w b t)
+    nothing : standing w b ≡ false → (q : Option ℕ) → Finds (entry_ids w b) 0 (standing_entries w b) x q → q ≡ found_of (find_in (entry_ids w b) x (standing_entries w b))
+    nothing t (Some k) g = absurd (omega (arith, (g.hit k refl).1, broken_count w b t))
+    nothing t None g = rw (broken_count w b t)
 
 -- so the search finds the entry under x
-pub search_finds : (w : ℕ) (b : List ℕ) (x : Id) (base n : ℕ) {r : Found} → base ≡ start b → n ≡ standing_entries w b → length x ≡ w
+pub search_finds : (w : ℕ) (b : List ℕ) (x : Id) (base n : ℕ) {r : Option ℕ} → base ≡ start b → n ≡ standing_entries w b → length x ≡ w
     → Finds (record { bytes = b; width = length x; base = base; stride = entry_size w }) 0 n x r → FindsEntry w b x r
 unfolding entry_ids
 search_finds w b x base n {r = r} eb en q f = record {
@@ -139,24 +137,24 @@ search_finds w b x base n {r = r} eb en q f = record {
     g = rw (same, en) at f
 
 -- an entry that stands under x is the one that a search finds: ids that rise stand once
-pub near_finds : (w : ℕ) (b : List ℕ) (x : Id) (k : ℕ) → length x ≡ w → k < standing_entries w b → id_of (entry_ids w b) k ≡ x → FindsEntry w b x (At k)
+pub near_finds : (w : ℕ) (b : List ℕ) (x : Id) (k : ℕ) → length x ≡ w → k < standing_entries w b → id_of (entry_ids w b) k ≡ x → FindsEntry w b x (Some k)
 near_finds w b x k q h is = record {
   hit = λ j e. subst (λ (i : ℕ). Under w b x i × (length x ≡ w)) (one e) (record { stands = h; is = is }, q);
   rises = λ p. ap found_of (sym (find_at (entry_ids w b) x (standing_entries w b) k p h is));
 }
   where
-    one : {j : ℕ} → At k ≡ At j → k ≡ j
+    one : {j : ℕ} → Some k ≡ Some j → k ≡ j
     one e = cc
 
 -- an id of another width stands nowhere
-pub odd-width : (w : ℕ) (b : List ℕ) (x : Id) → (length x ≡ w → ⊥) → FindsEntry w b x Missed
+pub odd-width : (w : ℕ) (b : List ℕ) (x : Id) → (length x ≡ w → ⊥) → FindsEntry w b x None
 unfolding entry_ids
 odd-width w b x n = record {
   hit = λ k e. let z : ◌≡◌ {A = ℕ} 0 1 = cc in absurd (omega arith);
   rises = λ p. ap found_of (sym (by_cases (standing w b) there (λ t. none_found (entry_ids w b) x (standing_entries w b) (λ k h q. omega (arith, broken_count w b t)))));
 }
   where
-    there : standing w b ≡ true → find_in (entry_ids w b) x (standing_entries w b) ≡ none
+    there : standing w b ≡ true → find_in (entry_ids w b) x (standing_entries w b) ≡ None
     there t = other_width (entry_ids w b) x (standing_entries w b) (standing_stand w b t) n
 
 -- an entry that stands in the file ends inside it
@@ -164,16 +162,16 @@ pub stood_within : (w : ℕ) (b : List ℕ) (k : ℕ) → k < standing_entries w
 stood_within w b k h = omega (arith, counted-within w b k h)
 
 -- the body of the entry that was found is the answer of `locate`, and its number is noted
-pub located_at : {w : ℕ} {b : List ℕ} {x : Id} {n : ℕ} {r : Found} (k : ℕ) → FindsEntry w b x r → r ≡ At k → Locates w b x (part_at b (body_start w b k) (body_end w b k)) × NotesEntry w b x n k
+pub located_at : {w : ℕ} {b : List ℕ} {x : Id} {n : ℕ} {r : Option ℕ} (k : ℕ) → FindsEntry w b x r → r ≡ Some k → Locates w b x (part_at b (body_start w b k) (body_end w b k)) × NotesEntry w b x n k
 located_at {w} {b} {x} {n} {r} k f e =
     let t = f.hit k e in
-    let first : ids_rise w b ≡ true → find_in (entry_ids w b) x (standing_entries w b) ≡ some k = λ p. found_some (find_in (entry_ids w b) x (standing_entries w b)) k (sym e ∙ f.rises p) in
+    let first : ids_rise w b ≡ true → find_in (entry_ids w b) x (standing_entries w b) ≡ Some k = λ p. found_some (find_in (entry_ids w b) x (standing_entries w b)) k (sym e ∙ f.rises p) in
     (locates-entry w b x k t.0 t.1 first, record { under = λ d. t.0; rises = λ p. rw (first p) })
 
 -- where none was found nothing is
-pub located_none : {w : ℕ} {b : List ℕ} {x : Id} {n : ℕ} {r : Found} → FindsEntry w b x r → r ≡ Missed → Locates w b x Absent × NotesEntry w b x n n
+pub located_none : {w : ℕ} {b : List ℕ} {x : Id} {n : ℕ} {r : Option ℕ} → FindsEntry w b x r → r ≡ None → Locates w b x Absent × NotesEntry w b x n n
 located_none {w} {b} {x} {n} {r} f e =
-    let gone : ids_rise w b ≡ true → find_in (entry_ids w b) x (standing_entries w b) ≡ none = λ p. found_none (find_in (entry_ids w b) x (standing_entries w b)) (sym e ∙ f.rises p) in
+    let gone : ids_rise w b ≡ true → find_in (entry_ids w b) x (standing_entries w b) ≡ None = λ p. found_none (find_in (entry_ids w b) x (standing_entries w b)) (sym e ∙ f.rises p) in
     (locates-none w b x gone, record { under = λ d. absurd (d refl); rises = λ p. rw (gone p) })
 
 -- ---- `try_find`
@@ -196,12 +194,12 @@ tries_find w b x (Body s e) f =
     whose : (k : ℕ) → s ≡ body_start w b k → e ≡ body_end w b k → at b s (e - s) ≡ body w b k
     whose k u v = λ i. at b (u i) (v i - u i)
 
-    there : (o : Option ℕ) → Body s e ≡ located_of w b o → some (at b s (e - s)) ≡ if_some o none (λ k. some (body w b k))
-    there none q = let z : ◌≡◌ {A = ℕ} 0 1 = cc in absurd (omega arith)
-    there (some k) q =
+    there : (o : Option ℕ) → Body s e ≡ located_of w b o → Some (at b s (e - s)) ≡ if_some o None (λ k. Some (body w b k))
+    there None q = let z : ◌≡◌ {A = ℕ} 0 1 = cc in absurd (omega arith)
+    there (Some k) q =
         let u : s ≡ body_start w b k = cc in
         let v : e ≡ body_end w b k = cc in
-        ap some (whose k u v)
+        ap Some (whose k u v)
 tries_find w b x Absent f = record {
   good = λ ok. gone (find_entry w b x) (f.good ok);
   rises = λ q. (ap is_body (f.rises q), ap (part_of b) (f.rises q));
@@ -212,9 +210,9 @@ tries_find w b x Absent f = record {
   foreign = λ _. (refl, refl);
 }
   where
-    gone : (o : Option ℕ) → Absent ≡ located_of w b o → none ≡ if_some o none (λ k. some (body w b k))
-    gone none q = refl
-    gone (some k) q = let z : ◌≡◌ {A = ℕ} 0 1 = cc in absurd (omega arith)
+    gone : (o : Option ℕ) → Absent ≡ located_of w b o → None ≡ if_some o None (λ k. Some (body w b k))
+    gone None q = refl
+    gone (Some k) q = let z : ◌≡◌ {A = ℕ} 0 1 = cc in absurd (omega arith)
 
     at_none : (b : List ℕ) → at b 0 0 ≡ []
     at_none b = refl

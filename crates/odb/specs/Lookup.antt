@@ -1,10 +1,7 @@
 -- What a lookup in the commit store answers: where a body lies, and the body itself. Assumes nothing.
-use Rattle.std.specs.Prelude.{ℕ, ◌-◌, ◌≤◌, ◌<◌, ◌≡◌, Bool, true, false, cond, ◌&&◌, List, [], length, leb, ltb}
-use Rattle.std.proofs.Math.Option.{Option, none, some}
+use Rattle.std.specs.Prelude.{ℕ, ◌-◌, ◌≤◌, ◌<◌, ◌≡◌, Bool, true, false, cond, ◌&&◌, List, [], length, leb, ltb, None, Option, Some}
 use Rattle.hash.specs.Bytes.{Id, at, if_some}
 use Rattle.idlist.specs.IdList.{id_of, rising, find_in, found_of}
-use Rattle.idlist.specs.declared.Found.{Found}
-use Rattle.idlist.specs.declared.Found.TheVariants.{At, Absent as Missed}
 use Rattle.odb.specs.Store.{entry_ids, body_start, body_end, body, standing, standing_entries, store_is_ok, find_entry, store_find}
 use Rattle.odb.specs.declared.Located.{Located}
 use Rattle.odb.specs.declared.Located.TheVariants.{Body, Absent}
@@ -19,8 +16,8 @@ part_at b s e = cond (is_part b s e) (Body s e) Absent
 
 -- where the body of an entry lies
 abbrev pub located_of : ℕ → List ℕ → Option ℕ → Located
-located_of w b none = Absent
-located_of w b (some k) = Body (body_start w b k) (body_end w b k)
+located_of w b None = Absent
+located_of w b (Some k) = Body (body_start w b k) (body_end w b k)
 
 -- the part of the file that an answer names, empty where it names none
 unfoldable pub part_of : List ℕ → Located → List ℕ
@@ -55,8 +52,8 @@ pub record Under (w : ℕ) (b : List ℕ) (x : Id) (k : ℕ) : Type 0 where
   pub is : id_of (entry_ids w b) k ≡ x
 
 -- which entry a search finds for the id x: it stands in the file, and under x; wherever the ids rise, the first under x
-pub record FindsEntry (w : ℕ) (b : List ℕ) (x : Id) (r : Found) : Type 0 where
-  pub hit : (k : ℕ) → r ≡ At k → Under w b x k × (length x ≡ w)
+pub record FindsEntry (w : ℕ) (b : List ℕ) (x : Id) (r : Option ℕ) : Type 0 where
+  pub hit : (k : ℕ) → r ≡ Some k → Under w b x k × (length x ≡ w)
   pub rises : ids_rise w b ≡ true → r ≡ found_of (find_in (entry_ids w b) x (standing_entries w b))
 
 -- what `locate` and `locate_near` answer for the id x. On a good store: the body of the entry under x. Wherever the ids rise, good store or not: what is looked
@@ -72,8 +69,8 @@ pub record Locates (w : ℕ) (b : List ℕ) (x : Id) (r : Located) : Type 0 wher
 
 -- a value that stands where a test says so
 abbrev pub option_of : Bool → List ℕ → Option (List ℕ)
-option_of true r = some r
-option_of false r = none
+option_of true r = Some r
+option_of false r = None
 
 -- what `try_find` answers for the id x: the same, said of the bytes of the body
 pub record TriesFind (w : ℕ) (b : List ℕ) (x : Id) (found : Bool) (r : List ℕ) : Type 0 where

@@ -11,7 +11,6 @@ ghost use Rattle.odb.specs.Store.{entry_size, start, entries, entry_ids, body_en
 ghost use Rattle.odb.specs.Lookup.{part_at, part_of, is_body, FindsEntry, Locates, TriesFind, NotesEntry};
 
 use hash::Kind;
-use idlist::Found;
 pub use numbered::{entry_bytes, entry_id};
 
 // Where a body lies in the store: its first byte, and the byte after its last.
@@ -107,14 +106,12 @@ fn ends_rise(w: usize, store: &[u8], base: usize, n: usize) -> bool
     ensures { result ≡ (ends_rise w store.now n && eqb (body_start w store.now n) base) }
 {
     let mut last = 0;
-    let mut k = 0;
-    while k < n {
+    for k in 0..n {
         let end = body_end(w, store, base, k);
         if end < last {
             return false;
         }
         last = end;
-        k += 1;
     }
     last == base
 }
@@ -169,14 +166,21 @@ fn id_of_entry(w: usize, store: &[u8], base: usize, k: usize) -> &[u8]
 }
 
 // The number of the entry under an id among the n that stand. Entry near is looked at first: where it is the one, nothing is searched.
-fn find_entry(kind: Kind, store: &[u8], base: usize, n: usize, id: &[u8], near: usize) -> Found
+fn find_entry(
+    kind: Kind,
+    store: &[u8],
+    base: usize,
+    n: usize,
+    id: &[u8],
+    near: usize,
+) -> Option<usize>
     requires { (base ≡ start store.now) × (n ≡ standing_entries (width_of kind) store.now) × (length id.now ≡ width_of kind) }
     ensures { FindsEntry (width_of kind) store.now id.now result }
 {
     let w = hash::width(kind);
     if near < n {
         if hash::same_id(kind, id_of_entry(w, store, base, near), id) {
-            return Found::At(near);
+            return Some(near);
         }
     }
     idlist::find(store, base, w + END_BYTES, 0, n, id)
@@ -195,11 +199,11 @@ fn locate_noting(kind: Kind, store: &[u8], id: &[u8], near: usize, entry: &mut u
     let base = entries_start(store);
     let n = count(kind, store);
     match find_entry(kind, store, base, n, id, near) {
-        Found::At(k) => {
+        Some(k) => {
             *entry = k;
             entry_body(w, store, base, k)
         }
-        Found::Absent => Located::Absent,
+        None => Located::Absent,
     }
 }
 

@@ -1,11 +1,11 @@
 -- Refusals 2 to 6 and 1: which test decides, what an input that passes them has, and how few its places are. Each test is one case of
 -- `refusal`, and a graph file of a good layout has 36 bytes for each commit (48 where an id has 32).
 -- Assumes nothing.
+use Rattle.std.specs.Prelude.{None, Option, Some}
 use mathlib.Core.Path.{◌≡◌, refl, sym, ap}
 use mathlib.Core.Logic.{◌⊎◌, inl, inr}
 use Prim.Native.Nat.{ℕ, ◌+◌, ◌*◌, ◌/◌, ◌%◌, ◌<◌, ◌≤◌}
 use mathlib.Core.Bool.{Bool, true, false, cond, ◌&&◌, ◌||◌}
-use mathlib.Core.Option.{Option, none, some}
 use mathlib.Core.List.{List, [], ◌∷◌}
 use native.Mathlib.Omega.{arith}
 use native.Mathlib.Nat.{mul-zero}
@@ -40,35 +40,35 @@ empty-not (x ∷ g) e = refl
 -- ---- which test decides
 
 module _ (i : Input) where
-  pub by_size : sizes_ok i ≡ false → refusal i ≡ some InputTooLarge
+  pub by_size : sizes_ok i ≡ false → refusal i ≡ Some InputTooLarge
   unfolding refusal
   by_size a = rw a
 
   module _ (a : sizes_ok i ≡ true) where
-    pub by-lists : whole_ids i ≡ false → refusal i ≡ some PartialId
+    pub by-lists : whole_ids i ≡ false → refusal i ≡ Some PartialId
     unfolding refusal
     by-lists b = rw (a, b)
 
     module _ (b : whole_ids i ≡ true) where
-      pub by-store : store_is_ok (width_in i) i.store ≡ false → refusal i ≡ some CorruptStore
+      pub by-store : store_is_ok (width_in i) i.store ≡ false → refusal i ≡ Some CorruptStore
       unfolding refusal
       by-store c = rw (a, b, c)
 
       module _ (c : store_is_ok (width_in i) i.store ≡ true) where
-        pub no-graph : is_empty i.graph ≡ true → refusal i ≡ none
+        pub no-graph : is_empty i.graph ≡ true → refusal i ≡ None
         unfolding refusal
         no-graph d = rw (a, b, c, d)
 
         module _ (d : is_empty i.graph ≡ false) where
-          pub by-head : graph_head (hash_version i.settings.kind) i.graph ≡ false → refusal i ≡ some UnknownGraph
+          pub by-head : graph_head (hash_version i.settings.kind) i.graph ≡ false → refusal i ≡ Some UnknownGraph
           unfolding refusal
           by-head e = rw (a, b, c, d, e)
 
-          pub by-graph : graph_head (hash_version i.settings.kind) i.graph ≡ true → graph_ok (width_in i) i.graph ≡ false → refusal i ≡ some CorruptGraph
+          pub by-graph : graph_head (hash_version i.settings.kind) i.graph ≡ true → graph_ok (width_in i) i.graph ≡ false → refusal i ≡ Some CorruptGraph
           unfolding refusal
           by-graph e f = rw (a, b, c, d, e, f)
 
-          pub all-good : graph_head (hash_version i.settings.kind) i.graph ≡ true → graph_ok (width_in i) i.graph ≡ true → refusal i ≡ none
+          pub all-good : graph_head (hash_version i.settings.kind) i.graph ≡ true → graph_ok (width_in i) i.graph ≡ true → refusal i ≡ None
           unfolding refusal
           all-good e f = rw (a, b, c, d, e, f)
 
@@ -96,18 +96,18 @@ pub record Passes (i : Input) : Type 0 where
   pub store-good : store_is_ok (width_in i) i.store ≡ true
   pub graph-good : (is_empty i.graph ≡ true) ⊎ (graph_ok (width_in i) i.graph ≡ true)
 
-pick-none : (b : Bool) (n : Option Refusal) (r : Refusal) → cond b n (some r) ≡ none → (b ≡ true) × (n ≡ none)
+pick-none : (b : Bool) (n : Option Refusal) (r : Refusal) → cond b n (Some r) ≡ None → (b ≡ true) × (n ≡ None)
 pick-none true n r e = (refl, e)
 pick-none false n r e = no-some (sym e)
 
-pub passes : (i : Input) → refusal i ≡ none → Passes i
+pub passes : (i : Input) → refusal i ≡ None → Passes i
 unfolding refusal sizes_ok whole_ids
 passes i z =
     let a = pick-none (sizes_ok i) _ InputTooLarge z in
     let b = pick-none (whole_ids i) _ PartialId a.1 in
     let c = pick-none (store_is_ok (width_in i) i.store) _ CorruptStore b.1 in
     let d = pick-none (is_empty i.graph || graph_head (hash_version i.settings.kind) i.graph) _ UnknownGraph c.1 in
-    let e = pick-none (is_empty i.graph || graph_ok (width_in i) i.graph) none CorruptGraph d.1 in
+    let e = pick-none (is_empty i.graph || graph_ok (width_in i) i.graph) None CorruptGraph d.1 in
     let s = six true (leb (length i.store) 16777216) (leb (length i.graph) 16777216) (leb (length i.tips) (list_limit (width_in i))) (leb (length i.hidden) (list_limit (width_in i)))
     (leb (length i.excluded) (list_limit (width_in i))) a.0 in
     let v = six true true true (eqb (length i.tips % width_in i) 0) (eqb (length i.hidden % width_in i) 0) (eqb (length i.excluded % width_in i) 0) b.0 in
@@ -143,7 +143,7 @@ few_in kind t h s g n =
     by_kind (λ w. t ≤ list_limit w → h ≤ list_limit w → s ≤ 16777216 → g ≤ 16777216 → row_size w * n ≤ g → t / w + h / w + s / parent_size w + n ≤ 817606) (λ a b c d e. omega arith)
     (λ a b c d e. omega arith) kind
 
-pub places-few : (i : Input) → refusal i ≡ none → P i ≤ 817606
+pub places-few : (i : Input) → refusal i ≡ None → P i ≤ 817606
 unfolding P
 places-few i z =
     let p = passes i z in

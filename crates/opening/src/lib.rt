@@ -2,23 +2,16 @@
 // any bytes and lengths.
 #![tactic(auto)]
 
-ghost use Rattle.std.specs.Prelude.{◌≡◌, List, [], ◌∷◌, ℕ, ◌/◌, ◌%◌, eqb, leb, length};
-ghost use Rattle.std.proofs.Math.Option.{none};
+ghost use Rattle.std.specs.Prelude.{◌≡◌, List, [], ◌∷◌, ℕ, ◌/◌, ◌%◌, eqb, leb, length, None};
 ghost use Rattle.object.specs.Header.{parent_size};
 ghost use Rattle.walk.specs.Opening.{Input, list_ids, P, list_limit, sizes_ok, whole_ids, refusal, room_for, open_walk};
 ghost use Rattle.opening.specs.Checks.{input_of, lengths_of, checked_of, checked_by, fault_of, TestsTips, ChecksTips};
 ghost use Rattle.hash.specs.Bytes.{width_of};
 
+use date::Seconds;
 use hash::Kind;
-use reading::TipRead;
+use reading::TipError;
 use walk::{Refusal, Settings, Sorting};
-
-// What a test of an opening gives: no fault, or the refusal of the first fault.
-#[derive(Clone, Copy)]
-pub enum Checked {
-    Fine,
-    Refused(Refusal),
-}
 
 // The most bytes of the commit store and of the commit-graph file.
 const MOST_FILE: usize = 16777216;
@@ -90,28 +83,28 @@ pub fn check_input(
     tips: &[u8],
     hidden: &[u8],
     excluded: &[u8],
-) -> Checked
+) -> Result<(), Refusal>
     ensures { (s : Settings) → s.kind ≡ kind → result ≡ checked_of (refusal (input_of store.now graph.now tips.now hidden.now excluded.now s)) }
 {
     if !sizes_fit(kind, store, graph, tips, hidden, excluded) {
-        return Checked::Refused(Refusal::InputTooLarge);
+        return Err(Refusal::InputTooLarge);
     }
     if !lists_whole(kind, tips, hidden, excluded) {
-        return Checked::Refused(Refusal::PartialId);
+        return Err(Refusal::PartialId);
     }
     if !odb::is_good(kind, store) {
-        return Checked::Refused(Refusal::CorruptStore);
+        return Err(Refusal::CorruptStore);
     }
     if graph.len() == 0 {
-        return Checked::Fine;
+        return Ok(());
     }
     if !commitgraph::has_header(kind, graph) {
-        return Checked::Refused(Refusal::UnknownGraph);
+        return Err(Refusal::UnknownGraph);
     }
     if !commitgraph::is_good(kind, graph) {
-        return Checked::Refused(Refusal::CorruptGraph);
+        return Err(Refusal::CorruptGraph);
     }
-    Checked::Fine
+    Ok(())
 }
 
 // The most parent lines that can stand in a store of n bytes.
@@ -163,42 +156,35 @@ pub fn has_room(
 }
 
 // What is wrong with a tip that was read: the store lacks it, or its header is not good through committer.
-fn tip_fault(read: TipRead) -> Checked
+fn tip_fault(read: Result<Seconds, TipError>) -> Result<(), Refusal>
     ensures { result ≡ fault_of read }
 {
     match read {
-        TipRead::Good(_) => Checked::Fine,
-        TipRead::Missing => Checked::Refused(Refusal::TipNotFound),
-        TipRead::Unreadable => Checked::Refused(Refusal::TipUnreadable),
+        Ok(_) => Ok(()),
+        Err(TipError::Missing) => Err(Refusal::TipNotFound),
+        Err(TipError::Unreadable) => Err(Refusal::TipUnreadable),
     }
 }
 
 // The same of a tip in the store; one that is excluded is not read.
-fn check_tip(kind: Kind, store: &[u8], excluded: &[u8], id: &[u8]) -> Checked
+fn check_tip(kind: Kind, store: &[u8], excluded: &[u8], id: &[u8]) -> Result<(), Refusal>
     ensures { TestsTips (width_of kind) store.now (list_ids (width_of kind) excluded.now) (id.now ∷ []) result }
 {
     if reading::is_among(kind, excluded, id) {
-        return Checked::Fine;
+        return Ok(());
     }
     tip_fault(reading::read_tip(kind, store, id))
 }
 
 // The first fault of the tips, in list order. A repeated tip has the fault of its first place.
-fn read_tips(kind: Kind, store: &[u8], tips: &[u8], excluded: &[u8]) -> Checked
+fn read_tips(kind: Kind, store: &[u8], tips: &[u8], excluded: &[u8]) -> Result<(), Refusal>
     ensures { TestsTips (width_of kind) store.now (list_ids (width_of kind) excluded.now) (list_ids (width_of kind) tips.now) result }
 {
     let n = hash::ids_in(kind, tips.len());
-    let mut k = 0;
-    while k < n {
-        match check_tip(kind, store, excluded, hash::nth(kind, tips, k)) {
-            Checked::Refused(r) => {
-                return Checked::Refused(r);
-            }
-            Checked::Fine => {}
-        }
-        k += 1;
+    for k in 0..n {
+        check_tip(kind, store, excluded, hash::nth(kind, tips, k))?;
     }
-    Checked::Fine
+    Ok(())
 }
 
 // Refusals 7 and 8: under a time order each tip that is not excluded is in the store, with a header that is good through committer.
@@ -208,11 +194,11 @@ pub fn check_tips(
     tips: &[u8],
     excluded: &[u8],
     sorting: Sorting,
-) -> Checked
+) -> Result<(), Refusal>
     ensures { ChecksTips (width_of kind) store.now tips.now excluded.now sorting result }
 {
     if !walk::is_timed(sorting) {
-        return Checked::Fine;
+        return Ok(());
     }
     read_tips(kind, store, tips, excluded)
 }
@@ -231,20 +217,14 @@ pub fn check(
     times: usize,
     line: usize,
     parents: usize,
-) -> Checked
+) -> Result<(), Refusal>
     ensures { let i = input_of store.now graph.now tips.now hidden.now excluded.now settings in result ≡ checked_by (open_walk i (room_for i (lengths_of names marks levels times line parents))) }
 {
     let kind = settings.kind;
-    match check_input(kind, store, graph, tips, hidden, excluded) {
-        Checked::Refused(r) => Checked::Refused(r),
-        Checked::Fine => {
-            let cap = capacity(kind, store, graph, tips, hidden);
-            if has_room(kind, cap, names, marks, levels, times, line, parents) {
-                let sorting = settings.sorting;
-                check_tips(kind, store, tips, excluded, sorting)
-            } else {
-                Checked::Refused(Refusal::BufferTooSmall)
-            }
-        }
+    check_input(kind, store, graph, tips, hidden, excluded)?;
+    let cap = capacity(kind, store, graph, tips, hidden);
+    if !has_room(kind, cap, names, marks, levels, times, line, parents) {
+        return Err(Refusal::BufferTooSmall);
     }
+    check_tips(kind, store, tips, excluded, settings.sorting)
 }

@@ -1,9 +1,10 @@
 -- The file agrees with its store: the row of an id stands at the number of its entry, its parents are named by the numbers of theirs, and levels fall along
 -- every parent link. Assumes nothing.
+use Rattle.object.specs.declared.HeaderError.TheVariants.{Bad, Crowded}
+use Rattle.std.specs.Prelude.{None, Option, Some, Err}
 use mathlib.Core.Path.{◌≡◌, refl, sym, ◌∙◌, ap, subst}
 use mathlib.Core.Logic.{◌⊎◌, inl, inr, ⊎_elim}
 use mathlib.Core.Bool.{Bool, true, false, cond}
-use mathlib.Core.Option.{Option, none, some}
 use mathlib.Core.List.Memᴰ
 use mathlib.Core.List.{List, [], ◌∷◌, map}
 use Prim.Native.Nat.{ℕ, suc, ◌≤◌, ◌<◌}
@@ -19,7 +20,6 @@ use Rattle.idlist.specs.IdList.{id_of, find_in}
 use Rattle.idlist.proofs.Answer.{find-hit, find_none, none_found}
 use Rattle.object.specs.Header.{Header, header, stamped}
 use Rattle.object.specs.Read.{reading_of, read_as}
-use Rattle.object.specs.declared.Reading.TheVariants.{Bad, Crowded}
 use Rattle.object.proofs.Stamps.{header_stamp}
 use Rattle.odb.specs.Store.{entries, entry_ids, body, standing_entries, store_find}
 use Rattle.odb.specs.Lookup.{entry_id, entry_body}
@@ -53,17 +53,17 @@ use Rattle.owngraph.specs.OwnGraph.{InAgreement, Held}
 abbrev bare : ℤ → Pair
 bare s = record { generation = no_generation; time = s }
 
-pub header-good : (h : Header) → is_readable (reading_of h) ≡ true → (s : ℤ) × (from_store (some h) ≡ good h.ids (bare s))
+pub header-good : (h : Header) → is_readable (reading_of h) ≡ true → (s : ℤ) × (from_store (Some h) ≡ good h.ids (bare s))
 unfolding reading_of from_store
 header-good h e = go h.tree h.crowded h.author h.seconds e
   where
-    go : (t c a : Bool) (o : Option ℤ) → is_readable (pick t (pick c Crowded (pick a (read_as (length h.ids) (stamped o h.zone)) Bad)) Bad) ≡ true
+    go : (t c a : Bool) (o : Option ℤ) → is_readable (pick t (pick c (Err Crowded) (pick a (read_as (length h.ids) (stamped o h.zone)) (Err Bad))) (Err Bad)) ≡ true
         → (s : ℤ) × (cond t (cond c (fail TooManyParents) (cond a (if_some o (fail CommitUnreadable) (λ s. good h.ids (bare s))) (fail CommitUnreadable))) (fail CommitUnreadable) ≡ good h.ids (bare s))
     go false c a o d = clash d refl
     go true true a o d = clash d refl
     go true false false o d = clash d refl
-    go true false true none d = clash d refl
-    go true false true (some s) d = (s, refl)
+    go true false true None d = clash d refl
+    go true false true (Some s) d = (s, refl)
 
 module _ (w : ℕ) (least : 20 ≤ w) (b g : List ℕ) (v : ℕ) (W : Writable w b (standing_entries w b)) (S : Bytes b) (R : ReadBack v w (rows_of w b) g) where
   abbrev n : ℕ
@@ -87,10 +87,10 @@ module _ (w : ℕ) (least : 20 ≤ w) (b g : List ℕ) (v : ℕ) (W : Writable w
   unfolding row_of
   row-id k h = (row_read k h).id
 
-  found : (k : ℕ) → k < n → graph_find w g (entry_id w b k) ≡ some k
+  found : (k : ℕ) → k < n → graph_find w g (entry_id w b k) ≡ Some k
   found k h = ap (graph_find w g) (sym (row-id k h)) ∙ row-found w g R.ok k (omega (arith, R.count, length_rows w b))
 
-  not_found : (x : Id) → ((k : ℕ) → k < n → entry_id w b k ≡ x → ⊥) → graph_find w g x ≡ none
+  not_found : (x : Id) → ((k : ℕ) → k < n → entry_id w b k ≡ x → ⊥) → graph_find w g x ≡ None
   unfolding graph_find graph_id
   not_found x out =
       none_found (graph_ids w g) x (graph_count g)
@@ -107,8 +107,8 @@ module _ (w : ℕ) (least : 20 ≤ w) (b g : List ℕ) (v : ℕ) (W : Writable w
   held? x = go (find_in (entry_ids w b) x n) refl
     where
       go : (o : Option ℕ) → find_in (entry_ids w b) x n ≡ o → Held w b x ⊎ ((k : ℕ) → k < n → entry_id w b k ≡ x → ⊥)
-      go none e = inr (λ k h d. find_none (entry_ids w b) x n k e h (sym (entry-is k h) ∙ d))
-      go (some k) e = let f = find-hit (entry_ids w b) x n k e in inl (record { entry = k; below = f.0; is = entry-is k f.0 ∙ f.1 })
+      go None e = inr (λ k h d. find_none (entry_ids w b) x n k e h (sym (entry-is k h) ∙ d))
+      go (Some k) e = let f = find-hit (entry_ids w b) x n k e in inl (record { entry = k; below = f.0; is = entry-is k f.0 ∙ f.1 })
 
   -- the entry of a number that is one
   number-named : (x : Id) → entry_of w b n x < n → entry_id w b (entry_of w b n x) ≡ x
@@ -116,16 +116,16 @@ module _ (w : ℕ) (least : 20 ≤ w) (b g : List ℕ) (v : ℕ) (W : Writable w
   number-named x h = go (find_in (entry_ids w b) x n) refl h
     where
       go : (o : Option ℕ) → find_in (entry_ids w b) x n ≡ o → if_some o n (λ k. k) < n → entry_id w b (if_some o n (λ k. k)) ≡ x
-      go none e d = absurd (omega arith)
-      go (some k) e d = entry-is k d ∙ (find-hit (entry_ids w b) x n k e).1
+      go None e d = absurd (omega arith)
+      go (Some k) e d = entry-is k d ∙ (find-hit (entry_ids w b) x n k e).1
 
   -- ---- the store
 
-  store_at : (k : ℕ) → k < n → world.store (entry_id w b k) ≡ some (header w (entry_body w b k))
+  store_at : (k : ℕ) → k < n → world.store (entry_id w b k) ≡ Some (header w (entry_body w b k))
   unfolding world_of store_find
   store_at k h =
-      ap (λ (o : Option ℕ). if_some (if_some o none (λ j. some (body w b j))) none (λ c. some (header w c))) (entry_at w b W.ok (entry_id w b k) k (in_store_lem k h) (sym (entry-is k h)))
-      ∙ ap (λ (c : List ℕ). some (header w c)) (sym (good-body w b k W.ok (in_store_lem k h)))
+      ap (λ (o : Option ℕ). if_some (if_some o None (λ j. Some (body w b j))) None (λ c. Some (header w c))) (entry_at w b W.ok (entry_id w b k) k (in_store_lem k h) (sym (entry-is k h)))
+      ∙ ap (λ (c : List ℕ). Some (header w c)) (sym (good-body w b k W.ok (in_store_lem k h)))
 
   good-at : (k : ℕ) → k < n → (s : ℤ) × (from_store (world.store (entry_id w b k)) ≡ good (header w (entry_body w b k)).ids (bare s))
   unfolding readable_body
@@ -141,21 +141,21 @@ module _ (w : ℕ) (least : 20 ≤ w) (b g : List ℕ) (v : ℕ) (W : Writable w
   unfolding links parents_of
   entry-links k h = ap parents_of (good-at k h).1 ∙ (readable-body w (entry_body w b k) (readable-at w b n W k h)).2.ids
 
-  entry-seconds : (k : ℕ) → k < n → store_seconds world (entry_id w b k) ≡ some (pos (seconds_size w (entry_body w b k)))
+  entry-seconds : (k : ℕ) → k < n → store_seconds world (entry_id w b k) ≡ Some (pos (seconds_size w (entry_body w b k)))
   unfolding store_seconds
   entry-seconds k h =
-      ap (λ (o : Option Header). if_some o none (λ a. a.seconds)) (store_at k h)
+      ap (λ (o : Option Header). if_some o None (λ a. a.seconds)) (store_at k h)
       ∙ (header_stamp w (entry_body w b k)).0
       ∙ (in_time w (entry_body w b k) (in-time-at w b n W k h)).is
 
-  pub entry-time : (k : ℕ) → k < n → (t : ℤ) × (store_seconds world (entry_id w b k) ≡ some t)
+  pub entry-time : (k : ℕ) → k < n → (t : ℤ) × (store_seconds world (entry_id w b k) ≡ Some t)
   entry-time k h = (pos (seconds_size w (entry_body w b k)), entry-seconds k h)
 
   -- an absent id leads nowhere
   no-links : (x : Id) → ((k : ℕ) → k < n → entry_id w b k ≡ x → ⊥) → links world x ≡ []
   unfolding links parents_of world_of store_find from_store
   no-links x out =
-      ap (λ (o : Option ℕ). parents_of (from_store (if_some (if_some o none (λ j. some (body w b j))) none (λ c. some (header w c)))))
+      ap (λ (o : Option ℕ). parents_of (from_store (if_some (if_some o None (λ j. Some (body w b j))) None (λ c. Some (header w c)))))
       (none-entry w b x (λ k h d. let l : k < n = omega (arith, good-count w b W.ok) in out k l (entry-is k l ∙ d)))
 
   -- ---- the graph
@@ -204,7 +204,7 @@ module _ (w : ℕ) (least : 20 ≤ w) (b g : List ℕ) (v : ℕ) (W : Writable w
         same-seconds = λ ps l s q.
             let c : row (linked (ids_of k)) (level k) (pos (seconds_size w (entry_body w b k))) ≡ row ps l s = sym e ∙ q in
             let j : pos (seconds_size w (entry_body w b k)) ≡ s = cc in
-            subst (λ (a : ℤ). store_seconds world (entry_id w b k) ≡ some a) j time;
+            subst (λ (a : ℤ). store_seconds world (entry_id w b k) ≡ Some a) j time;
       }
 
   absent-agrees : (x : Id) → ((k : ℕ) → k < n → entry_id w b k ≡ x → ⊥) → Agrees world x
@@ -234,7 +234,7 @@ module _ (w : ℕ) (least : 20 ≤ w) (b g : List ℕ) (v : ℕ) (W : Writable w
   parent-held k h p m =
       let o = place_of p (ids_of k) (subst (λ (l : List Id). Mem p l) (entry-links k h) m) in
       let l = inside k o.0 h o.1 in
-      let c = count_none w (entry_body w b k) (head_at w b n W k h).3.more in
+      let c = count_none w (entry_body w b k) (head_at w b n W k h).1.more in
       let d : level (entry_of w b n (get_or (ids_of k) o.0 [])) < level k = falls (graph_in w b) (level_of (graph_in w b)) (fit-rule (graph_in w b) W.fits) k o.0 h (omega (arith, o.1)) in
       (entry_of w b n (get_or (ids_of k) o.0 []), l, number-named (get_or (ids_of k) o.0 []) l ∙ o.2, d)
 
@@ -255,5 +255,5 @@ module _ (w : ℕ) (least : 20 ≤ w) (b g : List ℕ) (v : ℕ) (W : Writable w
   in-agreement = record { agrees = all-agree; levels = entry-level; falls = all-fall }
 
 -- "Our reader must accept each such file and find it in agreement"
-pub agrees : (kind : Kind) (b : List ℕ) (lent : ℕ) → Bytes b → refusal_for (width_of kind) b lent ≡ none → InAgreement (width_of kind) b (file_of kind b)
+pub agrees : (kind : Kind) (b : List ℕ) (lent : ℕ) → Bytes b → refusal_for (width_of kind) b lent ≡ None → InAgreement (width_of kind) b (file_of kind b)
 agrees kind b lent S e = in-agreement (width_of kind) (width_least kind) b (file_of kind b) (hash_version kind) (accepted (width_of kind) b lent e) S (read_back kind b lent S e)

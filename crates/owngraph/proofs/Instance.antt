@@ -1,10 +1,10 @@
 -- The instances compute; that the history with wrong clocks passes beside its own file is the theorem's, whose premises it meets. Assumes nothing.
+use Rattle.std.specs.Prelude.{None, Some}
 use mathlib.Core.Path.{◌≡◌, refl, sym, ◌∙◌}
 use mathlib.Core.Logic.{⊎_elim}
 use mathlib.Core.Bool.{Bool, true, false, cond}
 use mathlib.Core.List.Memᴰ
 use mathlib.Core.List.{List, [], ◌∷◌}
-use mathlib.Core.Option.{none, some}
 use Prim.Native.Nat.{ℕ, zero, suc, ◌<◌}
 use native.Mathlib.Omega.{arith}
 use lib.ListN.{get_or}
@@ -72,7 +72,7 @@ second-held = record { entry = 1; below = omega (arith, history_many); is = refl
 one-held : (x y : Id) → Held (width_of Sha1) two_turns y → Mem x (y ∷ []) → Held (width_of Sha1) two_turns x
 one-held x y h m = ⊎_elim (λ e. record { entry = h.entry; below = h.below; is = h.is ∙ sym e }) (λ n. absurd (Memᴰ.not-nil n)) (Memᴰ.cases_cons m)
 
-writable' : refusal_for (width_of Sha1) two_turns 5 ≡ none
+writable' : refusal_for (width_of Sha1) two_turns 5 ≡ None
 unfolding two_turns bytes_all id_list_all header_all read_all store_all lookup_all levels_all store_graph_all rows_all writing_all
 writable' = refl
 
@@ -90,27 +90,27 @@ opening_of =
       hidden_held = λ x m. one-held x (id_for 2) second-held m;
     }
 
-refused_alone' : tested_refusal alone ≡ some PairNotFalling
+refused_alone' : tested_refusal alone ≡ Some PairNotFalling
 unfolding alone input_with all two_turns bytes_all id_list_all header_all store_all graph_all walk_all links row_generation pair_at parents_up_to store_parents noted reached_from reach_list each is_good readable_in same_ids same_time same_seconds row_agrees agrees_in falls_in judged tested_over tested_refusal
 refused_alone' = refl
 
-no_levels' : refusal_for (width_of Sha1) circle 2 ≡ some UnfitStore
+no_levels' : refusal_for (width_of Sha1) circle 2 ≡ Some UnfitStore
 unfolding circle bytes_all id_list_all header_all read_all store_all lookup_all levels_all store_graph_all rows_all writing_all
 no_levels' = refl
 
-parent_absent' : refusal_for (width_of Sha1) lost 9 ≡ some UnfitStore
+parent_absent' : refusal_for (width_of Sha1) lost 9 ≡ Some UnfitStore
 unfolding lost bytes_all id_list_all header_all read_all store_all lookup_all levels_all store_graph_all rows_all writing_all
 parent_absent' = refl
 
-wide_writable' : refusal_for (width_of Sha256) (sample_wide (width_of Sha256)) 8 ≡ none
+wide_writable' : refusal_for (width_of Sha256) (sample_wide (width_of Sha256)) 8 ≡ None
 unfolding sample_wide bytes_all id_list_all header_all read_all store_all lookup_all levels_all store_graph_all rows_all writing_all
 wide_writable' = refl
 
-narrow_graph' : refusal (wide_input head_alone []) ≡ some UnknownGraph
+narrow_graph' : refusal (wide_input head_alone []) ≡ Some UnknownGraph
 unfolding wide_input head_alone sample_wide bytes_all id_list_all header_all store_all graph_all walk_all
 narrow_graph' = refl
 
-narrow_list' : refusal (wide_input [] (id_for 8)) ≡ some PartialId
+narrow_list' : refusal (wide_input [] (id_for 8)) ≡ Some PartialId
 unfolding wide_input id_wide sample_wide bytes_all id_list_all header_all store_all graph_all walk_all
 narrow_list' = refl
 

@@ -1,9 +1,9 @@
 -- A store beside its own written graph file passes the tested opening: every reached commit is an entry, so it is readable; the file agrees; and levels fall.
 -- Assumes nothing.
+use Rattle.std.specs.Prelude.{None, Ok, Option, Some}
 use mathlib.Core.Path.{◌≡◌, refl, sym, ◌∙◌, ap, subst}
 use mathlib.Core.Logic.{⊎_elim}
 use mathlib.Core.Bool.{true, false}
-use mathlib.Core.Option.{Option, none, some}
 use mathlib.Core.List.Memᴰ
 use mathlib.Core.List.{List, [], ◌∷◌}
 use Prim.Native.Nat.{ℕ, ◌%◌, ◌≤◌}
@@ -22,14 +22,12 @@ use Rattle.graphfile.specs.GraphFile.{ReadBack, edges_in}
 use Rattle.graphplan.specs.StoreRows.{Writable, rows_of}
 use Rattle.graphwrite.specs.Writing.{Bytes, Writes, file_of}
 use Rattle.graphplan.specs.Refusing.{refusal_for}
-use Rattle.graphwrite.specs.declared.Written.TheVariants.{File}
 use Rattle.graphwrite.proofs.Laid.{length_is}
 use Rattle.graphplan.proofs.Planning.{accepted}
 use Rattle.graphtold.proofs.There.{file-there}
 use Rattle.graphtold.proofs.Right.{read_back}
 use Rattle.walk.specs.declared.Refusal.{Refusal}
 use Rattle.walk.specs.declared.Refusal.TheVariants.{TipUnreadable}
-use Rattle.walk.specs.declared.OpenOutcome.TheVariants.{Accepted}
 use Rattle.walk.specs.declared.OpenAnswer.{OpenAnswer}
 use Rattle.walk.specs.Settings.{timed}
 use Rattle.walk.specs.Lookup.{World, world_of, store_seconds}
@@ -38,7 +36,6 @@ use Rattle.walk.specs.Opening.{Input, walk_of, list_ids, list_limit, sizes_ok, w
 use Rattle.walk.specs.Given.{open_given}
 use Rattle.walk.specs.Reach.{Mem, links, Reaches, itself, through}
 use Rattle.walk.specs.Demand.{Readable, Region, Premises}
-use Rattle.opening.specs.declared.Checked.TheVariants.{Fine}
 use Rattle.opening.specs.Checks.{checked_of, checked_by}
 use Rattle.opening.proofs.Input.{empty-not, all-good}
 use Rattle.opening.proofs.Tips.{first_fault, fault_or, skips, reads, no-tips, open-timed, open-untimed}
@@ -55,12 +52,12 @@ use Rattle.owngraph.proofs.Small.{file-small}
 -- ---- 7 and 8
 
 -- a tip that has seconds in the store is at no fault
-fault_free : (o : Option Header) (t : ℤ) → if_some o none (λ h. h.seconds) ≡ some t → (rest : Option Refusal) → fault_or o rest ≡ rest
+fault_free : (o : Option Header) (t : ℤ) → if_some o None (λ h. h.seconds) ≡ Some t → (rest : Option Refusal) → fault_or o rest ≡ rest
 unfolding fault_or
-fault_free none t e rest = no-some e
-fault_free (some h) t e rest = ap (λ (s : Option ℤ). if_some s (some TipUnreadable) (λ u. rest)) e
+fault_free None t e rest = no-some e
+fault_free (Some h) t e rest = ap (λ (s : Option ℤ). if_some s (Some TipUnreadable) (λ u. rest)) e
 
-no_faults : (w : World) (excluded xs : List Id) → ((x : Id) → Mem x xs → (t : ℤ) × (store_seconds w x ≡ some t)) → first_fault w excluded xs ≡ none
+no_faults : (w : World) (excluded xs : List Id) → ((x : Id) → Mem x xs → (t : ℤ) × (store_seconds w x ≡ Some t)) → first_fault w excluded xs ≡ None
 unfolding store_seconds
 no_faults w excluded [] h = no-tips w excluded
 no_faults w excluded (x ∷ xs) h =
@@ -103,7 +100,7 @@ module _ (i : Input) (W : Writable (width_in i) i.store (standing_entries (width
   some-graph : is_empty graph' ≡ false
   some-graph = empty-not graph' (λ z. omega (arith, R.long, length_is (width_in i) (length (rows_of (width_in i) store')) (length (edges_in (rows_of (width_in i) store')))))
 
-  fine : refusal i ≡ none
+  fine : refusal i ≡ None
   fine = all-good i sizes wholes W.ok some-graph R.head R.ok
 
   -- ---- what is reached
@@ -130,13 +127,13 @@ module _ (i : Input) (W : Writable (width_in i) i.store (standing_entries (width
         falls = λ x p r m. agreement.falls x p m;
       }
 
-  tip-time : (x : Id) → Mem x (list_ids (width_in i) i.tips) → (t : ℤ) × (store_seconds world x ≡ some t)
+  tip-time : (x : Id) → Mem x (list_ids (width_in i) i.tips) → (t : ℤ) × (store_seconds world x ≡ Some t)
   tip-time x m =
       let h = O.tips-held x m in
       let t = entry-time (width_in i) (width_least i.settings.kind) store' graph' (hash_version i.settings.kind) W S R h.entry h.below in
-      (t.0, subst (λ (y : Id). store_seconds world y ≡ some t.0) h.is t.1)
+      (t.0, subst (λ (y : Id). store_seconds world y ≡ Some t.0) h.is t.1)
 
-  tips-fine : checked_by (open_tips i true) ≡ Fine
+  tips-fine : checked_by (open_tips i true) ≡ (Ok tt)
   tips-fine =
       by_cases (timed i.settings.sorting)
       (λ t. open-timed i t ∙ ap checked_of (no_faults world (list_ids (width_in i) i.excluded) (list_ids (width_in i) i.tips) tip-time))
@@ -150,7 +147,7 @@ module _ (i : Input) (W : Writable (width_in i) i.store (standing_entries (width
 -- ---- the file that was written
 
 -- of a store that is not refused
-own-here : (b : List ℕ) (lent : ℕ) → Bytes b → (i : Input) → refusal_for (width_in i) b lent ≡ none → OpeningOf i.settings.kind b (file_of i.settings.kind b) i → Passes i
+own-here : (b : List ℕ) (lent : ℕ) → Bytes b → (i : Input) → refusal_for (width_in i) b lent ≡ None → OpeningOf i.settings.kind b (file_of i.settings.kind b) i → Passes i
 own-here b lent S i a O =
     let R : ReadBack (hash_version i.settings.kind) (width_in i) (rows_of (width_in i) b) (file_of i.settings.kind b) = read_back i.settings.kind b lent S a in
     passes i
@@ -170,23 +167,23 @@ own-here b lent S i a O =
       hidden_held = λ x m. subst (λ (y : List ℕ). Held (width_in i) y x) (sym O.store) (O.hidden_held x m);
     })
 
-pub own-file : (kind : Kind) (b : List ℕ) (lent : ℕ) → Bytes b → refusal_for (width_of kind) b lent ≡ none → (i : Input) → OpeningOf kind b (file_of kind b) i → Passes i
+pub own-file : (kind : Kind) (b : List ℕ) (lent : ℕ) → Bytes b → refusal_for (width_of kind) b lent ≡ None → (i : Input) → OpeningOf kind b (file_of kind b) i → Passes i
 own-file kind b lent S a i O =
-    subst (λ (q : Kind). refusal_for (width_of q) b lent ≡ none → OpeningOf q b (file_of q b) i → Passes i) O.same_kind (own-here b lent S i) a O
+    subst (λ (q : Kind). refusal_for (width_of q) b lent ≡ None → OpeningOf q b (file_of q b) i → Passes i) O.same_kind (own-here b lent S i) a O
 
 -- of a store that was written
-pub own-graph : (kind : Kind) (b s s' out out' : List ℕ) (n : ℕ) → Writes kind b s s' out out' (File n) → (i : Input) → OpeningOf kind b (take n out') i → Passes i
+pub own-graph : (kind : Kind) (b s s' out out' : List ℕ) (n : ℕ) → Writes kind b s s' out out' (Ok n) → (i : Input) → OpeningOf kind b (take n out') i → Passes i
 own-graph kind b s s' out out' n W i O =
     let f = file-there kind b s s' out out' n W in
     own-file kind b (length s) W.lent f.accepted i (subst (λ (g : List ℕ). OpeningOf kind b g i) f.there O)
 
 -- "and find it in agreement"
-pub own_graph_agrees : (kind : Kind) (b s s' out out' : List ℕ) (n : ℕ) → Writes kind b s s' out out' (File n) → InAgreement (width_of kind) b (take n out')
+pub own_graph_agrees : (kind : Kind) (b s s' out out' : List ℕ) (n : ℕ) → Writes kind b s s' out out' (Ok n) → InAgreement (width_of kind) b (take n out')
 own_graph_agrees kind b s s' out out' n W =
     let f = file-there kind b s s' out out' n W in
     subst (InAgreement (width_of kind) b) (sym f.there) (agrees kind b (length s) W.lent f.accepted)
 
-opened-outcome : (st : State) (a : OpenAnswer) → a ≡ open_given (opened st) → a.outcome ≡ Accepted
+opened-outcome : (st : State) (a : OpenAnswer) → a ≡ open_given (opened st) → a.outcome ≡ (Ok tt)
 unfolding open_given
 opened-outcome st a e = ap (λ (c : OpenAnswer). c.outcome) e
 
@@ -195,7 +192,7 @@ unfolding OwnGraphPasses
 own_graph_passes kind b s s' out out' n W i O m room o m' T =
     let p = own-graph kind b s s' out out' n W i O in
     opened-outcome p.state o.answer
-    (T.answer ∙ ap open_given (tested_by i (lengths_of m) (opened p.state) none (ap (open_walk i) room ∙ p.seven_and_eight) p.tests))
+    (T.answer ∙ ap open_given (tested_by i (lengths_of m) (opened p.state) None (ap (open_walk i) room ∙ p.seven_and_eight) p.tests))
 
 pub own_graph_listing : (kind : Kind) (b : List ℕ) → OwnGraphListing kind b
 unfolding OwnGraphListing OwnGraphPasses TestedListing

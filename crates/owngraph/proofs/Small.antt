@@ -1,7 +1,7 @@
 -- The file of a store is at most 16,777,216 bytes: of its 2w + 16 bytes for a commit and 4 for an entry of EDGE the store has 3w + 10 and 2w + 8, and it has
 -- no more than that itself. Assumes nothing.
+use Rattle.std.specs.Prelude.{None}
 use mathlib.Core.Path.{◌≡◌, ap}
-use mathlib.Core.Option.{none}
 use mathlib.Core.List.{List}
 use Prim.Native.Nat.{ℕ, zero, suc, ◌+◌, ◌*◌, ◌-◌, ◌≤◌, ◌<◌}
 use native.Mathlib.Omega.{arith}
@@ -77,5 +77,5 @@ module _ (w : ℕ) (least : 20 ≤ w) (most : w ≤ 32) (b : List ℕ) (W : Writ
   length-small : length_of w b ≤ 16777216
   length-small = four_fifths n (edges_up_to w b n) (w * n) (w * edges_up_to w b n) (mul-le-mul_right n least) store-holds W.small file-holds
 
-pub file-small : (kind : Kind) (b : List ℕ) (lent : ℕ) → refusal_for (width_of kind) b lent ≡ none → length (file_of kind b) ≤ 16777216
+pub file-small : (kind : Kind) (b : List ℕ) (lent : ℕ) → refusal_for (width_of kind) b lent ≡ None → length (file_of kind b) ≤ 16777216
 file-small kind b lent e = omega (arith, file-long kind b lent e, length-small (width_of kind) (width_least kind) (width-most kind) b (accepted (width_of kind) b lent e))

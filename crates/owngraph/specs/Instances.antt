@@ -1,7 +1,6 @@
 -- A history whose clocks are wrong: without a graph file its opening is refused, beside its own written file it passes. And histories that have no file;
 -- a history with ids of 32 bytes. Assumes nothing.
-use Rattle.std.specs.Prelude.{◌≡◌, ℕ, List, [], ◌∷◌}
-use Rattle.std.proofs.Math.Option.{none, some}
+use Rattle.std.specs.Prelude.{◌≡◌, ℕ, List, [], ◌∷◌, None, Some}
 use Rattle.hash.specs.Bytes.{width_of}
 use Rattle.hash.specs.declared.Kind.TheVariants.{Sha1, Sha256}
 use Rattle.graphplan.specs.Refusing.{refusal_for}
@@ -42,12 +41,12 @@ wide_input graph tips = record {
 }
 
 pub record Instances : Type 0 where
-  pub writable : refusal_for (width_of Sha1) two_turns 5 ≡ none
-  pub refused-alone : tested_refusal alone ≡ some PairNotFalling
+  pub writable : refusal_for (width_of Sha1) two_turns 5 ≡ None
+  pub refused-alone : tested_refusal alone ≡ Some PairNotFalling
   pub passes_beside : Passes beside
-  pub no-levels : refusal_for (width_of Sha1) circle 2 ≡ some UnfitStore
-  pub parent-absent : refusal_for (width_of Sha1) lost 9 ≡ some UnfitStore
+  pub no-levels : refusal_for (width_of Sha1) circle 2 ≡ Some UnfitStore
+  pub parent-absent : refusal_for (width_of Sha1) lost 9 ≡ Some UnfitStore
   -- with ids of 32 bytes: it has a file; a graph file and a list with ids of 20 are refused
-  pub wide-writable : refusal_for (width_of Sha256) (sample_wide (width_of Sha256)) 8 ≡ none
-  pub narrow_graph : refusal (wide_input head_alone []) ≡ some UnknownGraph
-  pub narrow_list : refusal (wide_input [] (id_for 8)) ≡ some PartialId
+  pub wide-writable : refusal_for (width_of Sha256) (sample_wide (width_of Sha256)) 8 ≡ None
+  pub narrow_graph : refusal (wide_input head_alone []) ≡ Some UnknownGraph
+  pub narrow_list : refusal (wide_input [] (id_for 8)) ≡ Some PartialId

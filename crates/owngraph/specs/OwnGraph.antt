@@ -1,7 +1,6 @@
 -- A store beside the graph file that is written from it (document 02, card 4): "Our reader must accept each such file and find it in agreement", and such a
 -- store always passes the tested opening of card 1. Assumes nothing.
-use Rattle.std.specs.Prelude.{◌≡◌, ℕ, ◌%◌, ◌≤◌, ◌<◌, true, List, length, take}
-use Rattle.std.proofs.Math.Option.{none}
+use Rattle.std.specs.Prelude.{◌≡◌, ℕ, ◌%◌, ◌≤◌, ◌<◌, true, List, length, take, None, Ok}
 use Rattle.hash.specs.Bytes.{Id, width_of}
 use Rattle.hash.specs.declared.Kind.{Kind}
 use Rattle.odb.specs.Store.{standing_entries}
@@ -9,8 +8,6 @@ use Rattle.odb.specs.Lookup.{entry_id}
 use Rattle.levels.specs.Levels.{level_of}
 use Rattle.levels.specs.StoreGraph.{graph_in}
 use Rattle.graphwrite.specs.Writing.{Writes}
-use Rattle.graphwrite.specs.declared.Written.TheVariants.{File}
-use Rattle.walk.specs.declared.OpenOutcome.TheVariants.{Accepted}
 use Rattle.walk.specs.Lookup.{world_of, lt_pair}
 use Rattle.walk.specs.State.{State}
 use Rattle.walk.specs.Opening.{Input, list_ids, list_limit, refusal, room_for, opened, open_walk}
@@ -58,21 +55,21 @@ pub record OpeningOf (kind : Kind) (b g : List ℕ) (i : Input) : Type 0 where
 
 -- none of 2 to 8 and none of 13 to 15 applies
 pub record Passes (i : Input) : Type 0 where
-  pub two_to_six : refusal i ≡ none
+  pub two_to_six : refusal i ≡ None
   pub state : State
   pub seven_and_eight : open_walk i true ≡ opened state
-  pub tests : tested_refusal i ≡ none
+  pub tests : tested_refusal i ≡ None
 
 -- ---- the claims, of any call that wrote n bytes from the store b into an output
 
 -- "a store with its own written graph always passes the tested opening", with the lent memory of its size
 unfoldable pub OwnGraphPasses : Kind → List ℕ → Type 0
 OwnGraphPasses kind b =
-    (s s' out out' : List ℕ) (n : ℕ) → Writes kind b s s' out out' (File n) → (i : Input) → OpeningOf kind b (take n out') i
-    → (m : Lent) → room_for i (lengths_of m) ≡ true → (o : Opened) (m' : Lent) → TestedOpenSays i m o m' → o.answer.outcome ≡ Accepted
+    (s s' out out' : List ℕ) (n : ℕ) → Writes kind b s s' out out' (Ok n) → (i : Input) → OpeningOf kind b (take n out') i
+    → (m : Lent) → room_for i (lengths_of m) ≡ true → (o : Opened) (m' : Lent) → TestedOpenSays i m o m' → o.answer.outcome ≡ (Ok tt)
 
 -- and so every list of next calls after it is the listing of the third demand, whatever the clocks
 unfoldable pub OwnGraphListing : Kind → List ℕ → Type 0
 OwnGraphListing kind b =
-    (s s' out out' : List ℕ) (n : ℕ) → Writes kind b s s' out out' (File n) → (i : Input) → OpeningOf kind b (take n out') i
+    (s s' out out' : List ℕ) (n : ℕ) → Writes kind b s s' out out' (Ok n) → (i : Input) → OpeningOf kind b (take n out') i
     → (m : Lent) → room_for i (lengths_of m) ≡ true → (o : Opened) (m' : Lent) → TestedOpenSays i m o m' → Delivered i o m'

@@ -1,5 +1,7 @@
 -- The first call's painting, put together: where it is not due the state is the next commit's at once; else the painting in lent memory is the
 -- walk's painting, and what ends it leaves the walk's state after painting, or its refusal. Assumes nothing.
+use Rattle.std.specs.Prelude.{Option, Ok, Err}
+use Rattle.commitgraph.specs.declared.Layout.{Layout}
 use mathlib.Core.Path.{◌≡◌, refl, sym, ap, ap₂, ◌∙◌, subst, subst₂, subst₃}
 use mathlib.Core.Logic.{◌⊎◌, inl, ⊎_elim}
 use Prim.Native.Nat.{ℕ, ◌*◌, ◌/◌}
@@ -12,7 +14,6 @@ use Rattle.hash.specs.Bytes.{Id}
 use Rattle.hash.proofs.Tests.{and_first, clash, or_left, or_right}
 use Rattle.hashtable.specs.Marks.{frontier}
 use Rattle.hashtable.specs.Table.{mark_for}
-use Rattle.commit.specs.declared.Cache.{Cache}
 use Rattle.pending.specs.declared.Pending.{Pending}
 use Rattle.walk.specs.declared.Refusal.{Refusal}
 use Rattle.walk.specs.Lookup.{World}
@@ -37,14 +38,12 @@ use Rattle.state.specs.Reads.{Memory, Universe}
 use Rattle.state.specs.Shapes.{shape_of}
 use Rattle.state.specs.Steps.{mem}
 use Rattle.state.proofs.States.{queue-length}
-use Rattle.frontier.specs.declared.marking.Marked.{Marked}
-use Rattle.frontier.specs.declared.marking.Marked.TheVariants.{Going, Stop, NoRoom}
+use Rattle.frontier.specs.Paint.{Marked}
+use Rattle.frontier.specs.declared.marking.MarkError.TheVariants.{Stop, NoRoom}
 use Rattle.frontier.specs.Paint.{lent, Goes, Stops, Ends}
 use Rattle.frontier.specs.Painted as all
 use Rattle.refill.specs.Painted.{Skips, Leaves, Fails}
-use Rattle.painting.specs.declared.Painted.{Painted}
-use Rattle.painting.specs.declared.Painted.TheVariants.{Done}
-use Rattle.painting.specs.First.{AtFirst, GoesOn, GivesUp, Told, Paints}
+use Rattle.painting.specs.First.{Painted, AtFirst, GoesOn, GivesUp, Told, Paints}
 use Rattle.painting.specs.Inner.{RefusesCall, Finished, Finishes}
 use Rattle.painting.proofs.FirstState.{opened-timed}
 use Rattle.painting.proofs.Ready.{lent_of, kept, waiting-ids, files, same-world, taken-plain, may-paint, due}
@@ -82,7 +81,7 @@ abbrev whole : Input → Record → Memory → List ℕ → Painting
 whole i r m levels = paint (world i) (4 * P i) (all.waiting_ids (width_in i) r.queue (lent_of m levels)) (list_ids (width_in i) i.hidden)
 
 -- what holds where painting was due: it ran, and was finished
-pub record Made (r : Record) (m : Memory) (levels names' marks' levels' : List ℕ) (times' times'' : List ℤ) (line' line'' : List ℕ) (c : Cache) (x : Marked) (y : Painted)
+pub record Made (r : Record) (m : Memory) (levels names' marks' levels' : List ℕ) (times' times'' : List ℤ) (line' line'' : List ℕ) (c : Option Layout) (x : Marked) (y : Painted)
     (store graph hidden : List ℕ) : Type 0 where
   pub some-hidden : length hidden / width_of r.fixed.kind ≡ 0 → ⊥
   pub some_wait : r.queue.count ≡ 0 → ⊥
@@ -187,17 +186,17 @@ module _ {i : Input} {r : Record} {m : Memory} {levels : List ℕ} {st : State} 
     ends : (times'' : List ℤ) (line'' : List ℕ) (x : Marked) (y : Painted)
         → Ends (width_in i) (world i) (P i) (universe i) (all.start_of (P i)) (lent_of m levels) (lent_of m' levels') x (whole i r m levels)
         → Finished r i.store m'.names m'.marks m'.times times'' m'.line line'' x y → Told i st (mem m'.names m'.marks times'' line'') y
-    ends times'' line'' (Going q) y g f = subst (Told i st (mem m'.names m'.marks times'' line'')) (sym f.1) (goes_on g f.2)
-    ends times'' line'' (Stop n) y s f =
+    ends times'' line'' (Ok q) y g f = subst (Told i st (mem m'.names m'.marks times'' line'')) (sym f.1) (goes_on g f.2)
+    ends times'' line'' (Err (Stop n)) y s f =
         subst (Told i st (mem m'.names m'.marks times'' line'')) (sym f.2)
         (subst₂ (λ (t : List ℤ) (l : List ℕ). GivesUp i st f.0 f.1 (mem m'.names m'.marks t l)) (sym f.5) (sym f.6) (gives_up s f.3 f.4))
-    ends times'' line'' NoRoom y n f = absurd n
+    ends times'' line'' (Err NoRoom) y n f = absurd n
 
-  pub is_made : {names' marks' levels' : List ℕ} {times' times'' : List ℤ} {line' line'' : List ℕ} {c : Cache} {x : Marked} {y : Painted}
+  pub is_made : {names' marks' levels' : List ℕ} {times' times'' : List ℤ} {line' line'' : List ℕ} {c : Option Layout} {x : Marked} {y : Painted}
       → Made r m levels names' marks' levels' times' times'' line' line'' c x y i.store i.graph i.hidden → Told i st (mem names' marks' times'' line'') y
   is_made {names'} {marks'} {levels'} {times'} {times''} {line'} {line''} {c} {x} {y} d =
       let p : all.Paints (width_in i) (cache_of (width_in i) i.graph true) i.graph i.store (P i) (lent_of m levels) (lent names' marks' levels' times' line') r.queue (list_ids (width_in i) i.hidden) x =
-      subst₂ (λ (k : Cache) (n : ℕ). all.Paints (width_in i) k i.graph i.store n (lent_of m levels) (lent names' marks' levels' times' line') r.queue (list_ids (width_in i) i.hidden) x)
+      subst₂ (λ (k : Option Layout) (n : ℕ). all.Paints (width_in i) k i.graph i.store n (lent_of m levels) (lent names' marks' levels' times' line') r.queue (list_ids (width_in i) i.hidden) x)
       (d.cache-is ∙ ap₂ (cache_with i.graph) (ap (λ (f : Fixed). f.layout) a.reads.fixed) (kept a)) a.reads.cap
       (subst (λ (k : Kind). all.Paints (width_of k) c i.graph i.store r.queue.cap (lent_of m levels) (lent names' marks' levels' times' line') r.queue (list_ids (width_of k) i.hidden) x)
       same_kind d.paints) in
@@ -206,13 +205,13 @@ module _ {i : Input} {r : Record} {m : Memory} {levels : List ℕ} {st : State} 
 -- ---- as a contract
 
 pub skipped : {store graph hidden : List ℕ} {r r' : Record} {m : Memory} {levels : List ℕ} → (length hidden / width_of r.fixed.kind ≡ 0) ⊎ (r.queue.count ≡ 0) → Skips r r'
-    → Paints store graph hidden r m levels m (Done r')
+    → Paints store graph hidden r m levels m (Ok r')
 skipped {r = r} h s = record {
   right = λ i es eg eh st a. not-due a (subst₂ (λ (k : Kind) (l : List ℕ). (length l / width_of k ≡ 0) ⊎ (r.queue.count ≡ 0)) (same_kind a) (sym eh) h) s;
   of_call = tt;
 }
 
-pub made : {store graph hidden : List ℕ} {r : Record} {m : Memory} {levels names' marks' levels' : List ℕ} {times' times'' : List ℤ} {line' line'' : List ℕ} {c : Cache} {x : Marked} {y : Painted}
+pub made : {store graph hidden : List ℕ} {r : Record} {m : Memory} {levels names' marks' levels' : List ℕ} {times' times'' : List ℤ} {line' line'' : List ℕ} {c : Option Layout} {x : Marked} {y : Painted}
     → Made r m levels names' marks' levels' times' times'' line' line'' c x y store graph hidden → Paints store graph hidden r m levels (mem names' marks' times'' line'') y
 made {r = r} {m = m} {levels = levels} {names' = names'} {marks' = marks'} {levels' = levels'} {times' = times'} {times'' = times''} {line' = line'} {line'' = line''} {c = c} {x = x} {y = y} d = record {
   right = λ i es eg eh st a. is_made a (subst₃ (Made r m levels names' marks' levels' times' times'' line' line'' c x y) (sym es) (sym eg) (sym eh) d);

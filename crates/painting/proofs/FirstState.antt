@@ -1,10 +1,10 @@
 -- The state that an accepted opening leaves: it uses the graph, and where commits wait by time each waits with the seconds that the store has
 -- for it, for a tip enters the queue with the seconds that were read for it and with no others. Assumes nothing.
+use Rattle.std.specs.Prelude.{None, Option, Some}
 use mathlib.Core.Path.{◌≡◌, refl, sym, ap, ◌∙◌, subst}
 use mathlib.Core.Logic.{◌⊎◌, inl, inr, ⊎_elim}
 use Prim.Native.Nat.{ℕ}
 use mathlib.Core.Bool.{Bool, true, cond, not}
-use mathlib.Core.Option.{Option, none, some}
 use mathlib.Core.List.Memᴰ
 use mathlib.Core.List.{List, [], ◌∷◌}
 use native.Mathlib.Omega.{arith}
@@ -39,11 +39,11 @@ entry-out b x (z ∷ zs) y m =
     (λ h. ⊎_elim (λ e. inr (Memᴰ.head e)) (λ k. ⊎_elim inl (λ r. inr (Memᴰ.tail r)) (entry-out b x zs y k)) (Memᴰ.cases_cons (rw h at m)))
 
 -- an opening that goes on past something that is to be there
-there : {A : Type 0} (o : Option A) (n : Refusal) (f : A → Opening) (st : State) → if_some o (closed n) f ≡ opened st → (a : A) × (o ≡ some a) × (f a ≡ opened st)
-there none n f st e = let z : ◌≡◌ {A = ℕ} 0 1 = cc in absurd (omega arith)
-there (some a) n f st e = (a, refl, e)
+there : {A : Type 0} (o : Option A) (n : Refusal) (f : A → Opening) (st : State) → if_some o (closed n) f ≡ opened st → (a : A) × (o ≡ Some a) × (f a ≡ opened st)
+there None n f st e = let z : ◌≡◌ {A = ℕ} 0 1 = cc in absurd (omega arith)
+there (Some a) n f st e = (a, refl, e)
 
-read-seconds : (w : World) (x : Id) (h : Header) (t : ℤ) → w.store x ≡ some h → h.seconds ≡ some t → t ≡ seconds_for w x
+read-seconds : (w : World) (x : Id) (h : Header) (t : ℤ) → w.store x ≡ Some h → h.seconds ≡ Some t → t ≡ seconds_for w x
 unfolding seconds_for store_seconds
 read-seconds w x h t a b = rw (a, b)
 

@@ -1,10 +1,10 @@
 -- At the first call painting may begin, and what ends it may follow: the graph is used, so painting reads the walk's own files; P places are
 -- enough for both lists and for every parent; a taken slot is a seen one; and the numbers are small. Assumes nothing.
+use Rattle.std.specs.Prelude.{None}
 use mathlib.Core.Path.{◌≡◌, refl, sym, ap, ◌∙◌, subst}
 use mathlib.Core.Logic.{⊎_elim}
 use Prim.Native.Nat.{ℕ, ◌+◌, ◌≤◌, ◌<◌}
 use mathlib.Core.Bool.{Bool, true, false}
-use mathlib.Core.Option.{none}
 use mathlib.Core.List.{List, [], ◌∷◌, ◌++◌, map}
 use native.Mathlib.Omega.{arith}
 use lib.ListN.{length, length-append, get_or}
@@ -49,7 +49,7 @@ ids-entries width timed names times [] = refl
 ids-entries width timed names times (s ∷ l) = ap (λ (r : List Id). id_of width names s ∷ r) (ids-entries width timed names times l)
 
 module _ {i : Input} {r : Record} {m : Memory} {levels : List ℕ} {st : State} (a : AtFirst i r m levels st) where
-  none-refused : refusal i ≡ none
+  none-refused : refusal i ≡ None
   none-refused = open_accepted i st a.accepted
 
   pub unpainted : r.painted ≡ false

@@ -1,14 +1,13 @@
 -- What the inner functions promise: a refusal of a call, and what the answer of painting comes to. Assumes nothing.
-use Rattle.std.specs.Prelude.{ℕ, ◌≡◌, List, ℤ}
+use Rattle.std.specs.Prelude.{ℕ, ◌≡◌, List, ℤ, Ok, Err}
 use Rattle.walk.specs.declared.Refusal.{Refusal}
 use Rattle.walk.specs.AnyInput.{OfCall}
 use Rattle.state.specs.declared.Record.{Record}
-use Rattle.frontier.specs.declared.marking.Marked.{Marked}
-use Rattle.frontier.specs.declared.marking.Marked.TheVariants.{Going, Stop, NoRoom}
+use Rattle.frontier.specs.Paint.{Marked}
+use Rattle.frontier.specs.declared.marking.MarkError.TheVariants.{Stop, NoRoom}
 use Rattle.refill.specs.Painted.{Leaves, Fails}
-use Rattle.painting.specs.declared.Painted.{Painted}
-use Rattle.painting.specs.declared.Painted.TheVariants.{Done, Refused, Touched}
-use Rattle.painting.specs.First.{RefusesBy}
+use Rattle.painting.specs.declared.PaintError.TheVariants.{Refused, Touched}
+use Rattle.painting.specs.First.{Painted, RefusesBy}
 
 -- call_refusal, with its answer r: 9, 10 and 11 stay what they are
 pub record RefusesCall (n r : Refusal) : Type 0 where
@@ -17,10 +16,10 @@ pub record RefusesCall (n r : Refusal) : Type 0 where
 
 -- by the answer of painting: "the frontier … leaves the line"; or "line emptied (all of it struck), refusal given"; or there was no room
 abbrev pub Finished : Record → List ℕ → List ℕ → List ℕ → List ℤ → List ℤ → List ℕ → List ℕ → Marked → Painted → Type 0
-Finished r store names marks times times' line line' (Going p) y = (r' : Record) × (y ≡ Done r') × Leaves r store names marks times times' line line' r'
-Finished r store names marks times times' line line' (Stop n) y =
-    (why : Refusal) × (r' : Record) × (y ≡ Refused why r') × RefusesCall n why × Fails r r' × (times' ≡ times) × (line' ≡ line)
-Finished r store names marks times times' line line' NoRoom y = y ≡ Touched
+Finished r store names marks times times' line line' (Ok p) y = (r' : Record) × (y ≡ Ok r') × Leaves r store names marks times times' line line' r'
+Finished r store names marks times times' line line' (Err (Stop n)) y =
+    (why : Refusal) × (r' : Record) × (y ≡ Err (Refused why r')) × RefusesCall n why × Fails r r' × (times' ≡ times) × (line' ≡ line)
+Finished r store names marks times times' line line' (Err NoRoom) y = y ≡ Err Touched
 
 -- finish_painting, with its answer y
 pub record Finishes (a : Marked) (r : Record) (store names marks : List ℕ) (times times' : List ℤ) (line line' : List ℕ) (y : Painted) : Type 0 where

@@ -6,17 +6,21 @@ ghost use Rattle.state.specs.Steps.{mem};
 ghost use Rattle.painting.specs.First.{Paints};
 ghost use Rattle.painting.specs.Inner.{RefusesCall, Finishes};
 
-use frontier::Marked;
+use frontier::{MarkError, Marked};
 use state::Record;
 use walk::Refusal;
 
-// What painting comes to: the walk goes on with this record; or painting was refused; or the memory was seen to be touched.
+// Why the walk does not go on from painting.
 #[derive(Clone, Copy)]
-pub enum Painted {
-    Done(Record),
+pub enum PaintError {
+    // Painting was refused; the record after it, in which nothing waits.
     Refused { why: Refusal, after: Record },
+    // The memory was seen to be touched.
     Touched,
 }
+
+// What painting comes to: the walk goes on with this record, or it does not.
+pub type Painted = Result<Record, PaintError>;
 
 // A refusal of a call: 9, 10 and 11 stay what they are, and nothing else comes of it.
 fn call_refusal(n: Refusal) -> Refusal
@@ -45,14 +49,12 @@ fn finish_painting(
     ensures { Finishes a r store.now names.now marks.now times.old times.new line.old line.new result }
 {
     match a {
-        Marked::Going(_) => Painted::Done(refill::leave_frontier(
-            r, store, names, marks, times, line,
-        )),
-        Marked::Stop(n) => Painted::Refused {
+        Ok(_) => Ok(refill::leave_frontier(r, store, names, marks, times, line)),
+        Err(MarkError::Stop(n)) => Err(PaintError::Refused {
             why: call_refusal(n),
             after: refill::fail_painting(r),
-        },
-        Marked::NoRoom => Painted::Touched,
+        }),
+        Err(MarkError::NoRoom) => Err(PaintError::Touched),
     }
 }
 
@@ -74,10 +76,10 @@ pub fn compute_hidden_frontier(
     let fixed = r.fixed;
     let kind = fixed.kind;
     if hash::ids_in(kind, hidden.len()) == 0 {
-        return Painted::Done(refill::skip_painting(r));
+        return Ok(refill::skip_painting(r));
     }
     if q.count == 0 {
-        return Painted::Done(refill::skip_painting(r));
+        return Ok(refill::skip_painting(r));
     }
     let cache = reading::cache_of(graph, fixed.layout, r.kept);
     let a = frontier::compute_hidden_frontier(

@@ -1,5 +1,6 @@
 -- The choice goes over the line place by place: each place is passed over, is met as stained, or is taken where it goes before what was chosen.
 -- Assumes nothing.
+use Rattle.std.specs.Prelude.{Some, None, Ok, Err}
 use mathlib.Core.Path.{◌≡◌, refl, sym, ◌∙◌, ap, subst}
 use mathlib.Core.Logic.{⊎_elim}
 use Prim.Native.Nat.{ℕ, ◌+◌, ◌≤◌, ◌<◌}
@@ -9,10 +10,8 @@ use native.Mathlib.Omega.{arith}
 use lib.ListN.{get_or}
 use lib.IntN.{ℤ}
 use lib.Signed.{lt_z}
-use Rattle.hash.specs.Bytes.{Id, lt_id, compare_id, pick}
-use Rattle.hash.specs.declared.Order.TheVariants.{Equal}
+use Rattle.hash.specs.Bytes.{Id, lt_id, pick}
 use Rattle.hash.proofs.Tests.{by_cases, clash, not_yes}
-use Rattle.hash.proofs.Ids.{lt_id_irrefl, compare_equal}
 use Rattle.date.specs.declared.Seconds.{Seconds}
 use Rattle.odb.specs.Store.{store_is_ok}
 use Rattle.hashtable.specs.Marks.{frontier}
@@ -22,16 +21,12 @@ use Rattle.reading.specs.Tip.{GivesSeconds}
 use Rattle.reading.proofs.Tips.{seconds-right}
 use Rattle.stain.specs.Stain.{is_stained}
 use Rattle.reach.proofs.Growth.{same_id?, last-place}
-use Rattle.parting.specs.declared.Choice.{Choice}
-use Rattle.parting.specs.declared.Choice.TheVariants.{Nothing, Tangled, Commit}
+use Rattle.parting.specs.declared.Tangled.{Tangled}
 use Rattle.parting.specs.First.{goes_first}
-use Rattle.parting.specs.Choice.{both_at, stain_at, met_of, GoesFirst, FirstOfTwo, Sooner, TakesSooner, ChoosesNext, Knotted, id_at, Picked, ToldChoice, Chooses}
+use Rattle.parting.specs.Choice.{Choice, both_at, stain_at, met_of, GoesFirst, FirstOfTwo, Sooner, TakesSooner, ChoosesNext, Knotted, id_at, Picked, ToldChoice, Chooses}
 use Rattle.parting.proofs.Firsts.{by-seconds, by-later, by-id, first_trans, first-total}
 
 -- ---- which goes first
-
-pub equal_told : (x y : Id) → compare_id x y ≡ Equal → false ≡ lt_id x y
-equal_told x y e = sym (not_yes (λ h. lt_id_irrefl y (subst (λ (z : Id). lt_id z y ≡ true) (compare_equal x y e) h)))
 
 module _ {width : ℕ} {s : List ℕ} (names : List ℕ) (x y : ℕ) {a b : Id} {u v : Seconds} (ea : a ≡ id_of width names x) (eb : b ≡ id_of width names y) (gu : GivesSeconds width s a u) (gv : GivesSeconds width s b v) where
   ours : store_is_ok width s ≡ true → (g : List ℕ) → u.0 ≡ seconds_for (world_of width s g) (id_of width names x)
@@ -61,21 +56,21 @@ module _ {width : ℕ} {s : List ℕ} (names : List ℕ) (x y : ℕ) {a b : Id} 
 
 -- ---- a best one is met
 
-pub sooner-none : (width : ℕ) (s names : List ℕ) {past : Choice} (slot : ℕ) → past ≡ Nothing → TakesSooner width s names past slot (Commit slot)
-sooner-none width s names slot e = record { told = subst (λ (c : Choice). Sooner width s names c slot (Commit slot)) (sym e) refl }
+pub sooner-none : (width : ℕ) (s names : List ℕ) {past : Choice} (slot : ℕ) → past ≡ Ok None → TakesSooner width s names past slot (Ok (Some slot))
+sooner-none width s names slot e = record { told = subst (λ (c : Choice). Sooner width s names c slot (Ok (Some slot))) (sym e) refl }
 
-pub sooner_knot : (width : ℕ) (s names : List ℕ) {past : Choice} (slot : ℕ) → past ≡ Tangled → TakesSooner width s names past slot (Commit slot)
-sooner_knot width s names slot e = record { told = subst (λ (c : Choice). Sooner width s names c slot (Commit slot)) (sym e) refl }
+pub sooner_knot : (width : ℕ) (s names : List ℕ) {past : Choice} {x : Tangled} (slot : ℕ) → past ≡ Err x → TakesSooner width s names past slot (Ok (Some slot))
+sooner_knot width s names slot e = record { told = subst (λ (c : Choice). Sooner width s names c slot (Ok (Some slot))) (sym e) refl }
 
-module _ {width : ℕ} {s names : List ℕ} {past : Choice} {slot other : ℕ} {t : Bool} (f : GoesFirst width s names slot other t) (e : past ≡ Commit other) where
-  taken_as : (r : Choice) → r ≡ Commit (pick t slot other) → TakesSooner width s names past slot r
+module _ {width : ℕ} {s names : List ℕ} {past : Choice} {slot other : ℕ} {t : Bool} (f : GoesFirst width s names slot other t) (e : past ≡ Ok (Some other)) where
+  taken_as : (r : Choice) → r ≡ Ok (Some (pick t slot other)) → TakesSooner width s names past slot r
   taken_as r z = record { told = subst (λ (c : Choice). Sooner width s names c slot r) (sym e) (record { by = t; goes = f; is = z }) }
 
-  pub sooner-new : t ≡ true → TakesSooner width s names past slot (Commit slot)
-  sooner-new p = taken_as (Commit slot) (ap (λ (b : Bool). Commit (pick b slot other)) (sym p))
+  pub sooner-new : t ≡ true → TakesSooner width s names past slot (Ok (Some slot))
+  sooner-new p = taken_as (Ok (Some slot)) (ap (λ (b : Bool). Ok (Some (pick b slot other))) (sym p))
 
-  pub sooner-old : t ≡ false → TakesSooner width s names past slot (Commit other)
-  sooner-old p = taken_as (Commit other) (ap (λ (b : Bool). Commit (pick b slot other)) (sym p))
+  pub sooner-old : t ≡ false → TakesSooner width s names past slot (Ok (Some other))
+  sooner-old p = taken_as (Ok (Some other)) (ap (λ (b : Bool). Ok (Some (pick b slot other))) (sym p))
 
 -- ---- one place
 
@@ -122,19 +117,19 @@ module _ (width : ℕ) (s names marks levels line : List ℕ) (i : ℕ) where
   }
 
   told-passed : (r : Choice) → ToldChoice width s names marks levels line i r → both_at marks line i ≡ false → ToldChoice width s names marks levels line (i + 1) r
-  told-passed Nothing t e = one_more (λ (j : ℕ). both_at marks line j ≡ false) t e
-  told-passed Tangled t e = knotted-more t (λ b. clash b e)
-  told-passed (Commit slot) t e = picked_more t (λ ok g b. clash b e)
+  told-passed (Ok None) t e = one_more (λ (j : ℕ). both_at marks line j ≡ false) t e
+  told-passed (Err x) t e = knotted-more t (λ b. clash b e)
+  told-passed (Ok (Some slot)) t e = picked_more t (λ ok g b. clash b e)
 
   told-met : (r : Choice) → ToldChoice width s names marks levels line i r → both_at marks line i ≡ true → stain_at levels line i ≡ true → ToldChoice width s names marks levels line (i + 1) (met_of r)
-  told-met Nothing t b e = record {
+  told-met (Ok None) t b e = record {
     place = i;
     low = omega arith;
     both = b;
     stained = one_more (λ (j : ℕ). both_at marks line j ≡ true → stain_at levels line j ≡ true) (λ j h k. clash k (t j h)) (λ k. e);
   }
-  told-met Tangled t b e = knotted-more t (λ k. e)
-  told-met (Commit slot) t b e = picked_more t (λ ok g k c. clash e c)
+  told-met (Err x) t b e = knotted-more t (λ k. e)
+  told-met (Ok (Some slot)) t b e = picked_more t (λ ok g k c. clash e c)
 
   -- place i is chosen
   chosen-here : both_at marks line i ≡ true → stain_at levels line i ≡ false → (store_is_ok width s ≡ true → (g : List ℕ) (j : ℕ) → j < i → Behind g i j)
@@ -165,9 +160,9 @@ module _ (width : ℕ) (s names marks levels line : List ℕ) (i : ℕ) where
 
   told-taken : (past r : Choice) → ToldChoice width s names marks levels line i past → both_at marks line i ≡ true → stain_at levels line i ≡ false → Sooner width s names past (get_or line i 0) r
       → ToldChoice width s names marks levels line (i + 1) r
-  told-taken Nothing r t b c o = subst (ToldChoice width s names marks levels line (i + 1)) (sym o) (chosen-here b c (λ ok g j h k. clash k (t j h)))
-  told-taken Tangled r t b c o = subst (ToldChoice width s names marks levels line (i + 1)) (sym o) (chosen-here b c (λ ok g j h k d. clash (t.stained j h k) d))
-  told-taken (Commit slot) r t b c o = told-two slot t b c o
+  told-taken (Ok None) r t b c o = subst (ToldChoice width s names marks levels line (i + 1)) (sym o) (chosen-here b c (λ ok g j h k. clash k (t j h)))
+  told-taken (Err x) r t b c o = subst (ToldChoice width s names marks levels line (i + 1)) (sym o) (chosen-here b c (λ ok g j h k d. clash (t.stained j h k) d))
+  told-taken (Ok (Some slot)) r t b c o = told-two slot t b c o
 
   told-next : {past r : Choice} → ToldChoice width s names marks levels line i past → ChoosesNext width s names marks levels past (get_or line i 0) r → ToldChoice width s names marks levels line (i + 1) r
   told-next {past} {r} t c =
@@ -183,7 +178,7 @@ pub record Choosing (width : ℕ) (s names marks levels line : List ℕ) (n i : 
   pub upto : i ≤ n
   pub told : ToldChoice width s names marks levels line i r
 
-pub choosing_first : (width : ℕ) (s names marks levels line : List ℕ) (n : ℕ) → Choosing width s names marks levels line n 0 Nothing
+pub choosing_first : (width : ℕ) (s names marks levels line : List ℕ) (n : ℕ) → Choosing width s names marks levels line n 0 (Ok None)
 choosing_first width s names marks levels line n = record { upto = omega arith; told = λ i h. absurd (omega arith) }
 
 pub choosing_next : {width : ℕ} {s names marks levels line : List ℕ} {n i slot : ℕ} {past r : Choice} → Choosing width s names marks levels line n i past → i < n → slot ≡ get_or line i 0

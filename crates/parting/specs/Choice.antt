@@ -1,5 +1,5 @@
 -- The choice (document 02, cards 8 and 11) by marks and stains, on any lent memory. Assumes nothing.
-use Rattle.std.specs.Prelude.{ℕ, ◌<◌, ◌≡◌, Bool, true, false, List, get_or}
+use Rattle.std.specs.Prelude.{ℕ, ◌<◌, ◌≡◌, Bool, true, false, List, get_or, Option, Some, None, Result, Ok, Err}
 use Rattle.hash.specs.Bytes.{Id, pick}
 use Rattle.odb.specs.Store.{store_is_ok}
 use Rattle.hashtable.specs.Marks.{frontier}
@@ -7,8 +7,11 @@ use Rattle.hashtable.specs.Table.{id_of}
 use Rattle.walk.specs.Lookup.{world_of}
 use Rattle.stain.specs.Stain.{is_stained}
 use Rattle.parting.specs.First.{goes_first}
-use Rattle.parting.specs.declared.Choice.{Choice}
-use Rattle.parting.specs.declared.Choice.TheVariants.{Nothing, Tangled, Commit}
+use Rattle.parting.specs.declared.Tangled.{Tangled}
+
+-- what the commits of the line come to: a best one stands in a slot; none is common; or some are, and none of these is best
+abbrev pub Choice : Type 0
+Choice = Result (Option ℕ) Tangled
 
 -- the commit at place i of the line has both marks; it is stained
 abbrev pub both_at : List ℕ → List ℕ → ℕ → Bool
@@ -19,9 +22,9 @@ stain_at levels line i = is_stained levels (get_or line i 0)
 
 -- a common commit is met that is not best
 abbrev pub met_of : Choice → Choice
-met_of Nothing = Tangled
-met_of Tangled = Tangled
-met_of (Commit slot) = Commit slot
+met_of (Ok None) = Err (record {})
+met_of (Ok (Some slot)) = Ok (Some slot)
+met_of (Err e) = Err e
 
 -- what `goes_first` answers of the commits in two slots
 pub record GoesFirst (width : ℕ) (s names : List ℕ) (x y : ℕ) (r : Bool) : Type 0 where
@@ -31,13 +34,13 @@ pub record GoesFirst (width : ℕ) (s names : List ℕ) (x y : ℕ) (r : Bool) :
 pub record FirstOfTwo (width : ℕ) (s names : List ℕ) (x y : ℕ) (r : Choice) : Type 0 where
   pub by : Bool
   pub goes : GoesFirst width s names x y by
-  pub is : r ≡ Commit (pick by x y)
+  pub is : r ≡ Ok (Some (pick by x y))
 
 -- a best commit is met: it is chosen where it is the first so far
 abbrev pub Sooner : ℕ → List ℕ → List ℕ → Choice → ℕ → Choice → Type 0
-Sooner width s names Nothing slot r = r ≡ Commit slot
-Sooner width s names Tangled slot r = r ≡ Commit slot
-Sooner width s names (Commit other) slot r = FirstOfTwo width s names slot other r
+Sooner width s names (Ok None) slot r = r ≡ Ok (Some slot)
+Sooner width s names (Err _) slot r = r ≡ Ok (Some slot)
+Sooner width s names (Ok (Some other)) slot r = FirstOfTwo width s names slot other r
 
 -- what `sooner` does
 pub record TakesSooner (width : ℕ) (s names : List ℕ) (past : Choice) (slot : ℕ) (r : Choice) : Type 0 where
@@ -72,9 +75,9 @@ pub record Picked (width : ℕ) (s names marks levels line : List ℕ) (k slot :
 
 -- by the answer
 abbrev pub ToldChoice : ℕ → List ℕ → List ℕ → List ℕ → List ℕ → List ℕ → ℕ → Choice → Type 0
-ToldChoice width s names marks levels line k Nothing = (i : ℕ) → i < k → both_at marks line i ≡ false
-ToldChoice width s names marks levels line k Tangled = Knotted marks levels line k
-ToldChoice width s names marks levels line k (Commit slot) = Picked width s names marks levels line k slot
+ToldChoice width s names marks levels line k (Ok None) = (i : ℕ) → i < k → both_at marks line i ≡ false
+ToldChoice width s names marks levels line k (Err _) = Knotted marks levels line k
+ToldChoice width s names marks levels line k (Ok (Some slot)) = Picked width s names marks levels line k slot
 
 -- what `choose` does
 pub record Chooses (width : ℕ) (s names marks levels line : List ℕ) (n : ℕ) (r : Choice) : Type 0 where

@@ -4,40 +4,45 @@
 
 ghost use Rattle.std.specs.Prelude.{◌≡◌};
 ghost use Rattle.hash.specs.Bytes.{lt_id, width_of};
+ghost use Rattle.walk.specs.declared.Refusal.TheVariants.{TangledReach};
 ghost use Rattle.parting.specs.Choice.{met_of, GoesFirst, TakesSooner, ChoosesNext, Chooses};
 
-use hash::{Kind, Order};
+use hash::Kind;
 use hashtable::table;
 use stain::{has_both, is_stained, slot_at};
+use walk::Refusal;
 
-// What the commits of the line come to: none is common; some are, and none of these is best; or a best one stands in a slot.
+// Some commits are common, and none of these is best.
 #[derive(Clone, Copy)]
-pub enum Choice {
-    Nothing,
-    Tangled,
-    Commit(u32),
+pub struct Tangled;
+
+impl From<Tangled> for Refusal {
+    ghost from_gives = { λ _ r. r ≡ TangledReach };
+
+    fn from(_e: Tangled) -> Refusal {
+        Refusal::TangledReach
+    }
 }
+
+// What the commits of the line come to: a best one stands in a slot, or none is common.
+pub type Choice = Result<Option<u32>, Tangled>;
 
 // A common commit is met that is not best.
 fn met(past: Choice) -> Choice
     ensures { result ≡ met_of past }
 {
     match past {
-        Choice::Nothing => Choice::Tangled,
-        Choice::Tangled => Choice::Tangled,
-        Choice::Commit(slot) => Choice::Commit(slot),
+        Ok(None) => Err(Tangled),
+        _ => past,
     }
 }
 
 // Whether an id is smaller than another.
+#[tactic(auto, using(hash::proofs::Ids::is_lt_compare))]
 fn is_smaller(x: &[u8], y: &[u8]) -> bool
     ensures { result ≡ lt_id x.now y.now }
 {
-    match hash::compare(x, y) {
-        Order::Less => true,
-        Order::Equal => false,
-        Order::Greater => false,
-    }
+    hash::compare(x, y).is_lt()
 }
 
 // Whether the commit in slot x goes before that in slot y: by greater seconds in the store, then by the smaller id.
@@ -48,10 +53,10 @@ fn goes_first(kind: Kind, names: &[u8], store: &[u8], x: u32, y: u32) -> bool
     let b = table::id_of(kind, names, y as usize);
     let s = reading::seconds_for(kind, store, a);
     let t = reading::seconds_for(kind, store, b);
-    if date::before(t, s) {
+    if t < s {
         return true;
     }
-    if date::before(s, t) {
+    if s < t {
         return false;
     }
     is_smaller(a, b)
@@ -61,16 +66,12 @@ fn goes_first(kind: Kind, names: &[u8], store: &[u8], x: u32, y: u32) -> bool
 fn sooner(kind: Kind, names: &[u8], store: &[u8], past: Choice, slot: u32) -> Choice
     ensures { TakesSooner (width_of kind) store.now names.now past slot result }
 {
-    match past {
-        Choice::Nothing => Choice::Commit(slot),
-        Choice::Tangled => Choice::Commit(slot),
-        Choice::Commit(other) => {
-            if goes_first(kind, names, store, slot, other) {
-                return Choice::Commit(slot);
-            }
-            Choice::Commit(other)
+    if let Ok(Some(other)) = past {
+        if !goes_first(kind, names, store, slot, other) {
+            return past;
         }
     }
+    Ok(Some(slot))
 }
 
 // The choice with the commit in one slot more.
@@ -107,12 +108,10 @@ pub fn choose(
 ) -> Choice
     ensures { Chooses (width_of kind) store.now names.now marks.now levels.now line.now n result }
 {
-    let mut r = Choice::Nothing;
-    let mut i = 0;
-    while i < n {
+    let mut r = Ok(None);
+    for i in 0..n {
         let slot = slot_at(line, i);
         r = choose_next(kind, names, marks, levels, store, r, slot);
-        i += 1;
     }
     r
 }

@@ -6,7 +6,7 @@
 ghost use Rattle.std.specs.Prelude.{◌≤◌};
 
 use hash::Kind;
-use mergebase::{MergeBase, Parted};
+use object::ObjectId;
 use std::io;
 use walk::Refusal;
 
@@ -16,15 +16,7 @@ fn text(rt: &impl Print, s: &[u8]) -> io::Result<()> {
 
 // An id in hexadecimal digits, two for each byte of its width.
 fn id(rt: &impl Print, kind: Kind, s: &[u8]) -> io::Result<()> {
-    host::print_hex(rt, hash::be64(s, 0), 16)?;
-    host::print_hex(rt, hash::be64(s, 8), 16)?;
-    match kind {
-        Kind::Sha1 => { host::print_hex(rt, hash::be32(s, 16) as u64, 8) }
-        Kind::Sha256 => {
-            host::print_hex(rt, hash::be64(s, 16), 16)?;
-            host::print_hex(rt, hash::be64(s, 24), 16)
-        }
-    }
+    host::print_bytes(rt, hash::part(s, 0, hash::width(kind)))
 }
 
 // A refusal by its number.
@@ -34,13 +26,15 @@ fn refusal(rt: &impl Print, r: Refusal) -> io::Result<()> {
 }
 
 // An answer on a line.
-fn print_base(rt: &impl Print, kind: Kind, r: MergeBase) -> io::Result<()> {
-    let o = r.outcome;
-    let c = r.commit;
-    match o {
-        Parted::Nothing => text(rt, b"none")?,
-        Parted::Commit => id(rt, kind, &c.bytes)?,
-        Parted::Refused(n) => refusal(rt, n)?,
+fn print_base(
+    rt: &impl Print,
+    kind: Kind,
+    said: Result<Option<ObjectId>, Refusal>,
+) -> io::Result<()> {
+    match said {
+        Ok(Some(commit)) => id(rt, kind, &commit.bytes)?,
+        Ok(None) => text(rt, b"none")?,
+        Err(r) => refusal(rt, r)?,
     }
     text(rt, b"\n")
 }
@@ -86,7 +80,7 @@ fn lend(
     let d = lent(lengths, 12, times.len());
     let e = lent(lengths, 16, line.len());
     let f = lent(lengths, 20, parents.len());
-    let base = mergebase::merge_base(
+    let said = mergebase::merge_base(
         kind,
         store,
         object::id_of(hash::nth(kind, tips, 0)),
@@ -98,7 +92,7 @@ fn lend(
         &mut line[..e],
         &parents[..f],
     );
-    print_base(rt, kind, base)
+    print_base(rt, kind, said)
 }
 
 // A case, in memory for 512 places of either kind.

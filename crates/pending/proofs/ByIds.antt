@@ -7,31 +7,8 @@ use Prim.Native.Nat.{ℕ, suc, ◌+◌, ◌-◌, ◌≤◌, ◌<◌}
 use native.Mathlib.Omega.{arith}
 use lib.ListN.{length, take, drop, get_or, set, length-append, length-drop, take-append-drop}
 use lib.Seq.{slice, length-slice, length-take-le, take-suc, take-append-add, drop-cons, set_at, get_or_at, get_or-append-add, get_or-drop, take_at, drop_at, take-take}
-use Rattle.hash.specs.Bytes.{lt_id, compare_id}
-use Rattle.hash.specs.declared.Order.TheVariants.{Less, Equal, Greater}
-use Rattle.hash.proofs.Tests.{not_yes}
-use Rattle.hash.proofs.Ids.{lt_id_asym, lt_id_irrefl, compare_less, compare_equal, compare_greater}
-use Rattle.hashtable.specs.Table.{id_of}
 use Rattle.pending.specs.Pending.{not_above, Placed, put_in, Sorts}
 use Rattle.pending.proofs.Inserts.{slice_first}
-
--- ---- the three ways in which two ids compare
-
-module _ (w : ℕ) (names : List ℕ) (a b : ℕ) where
-  pub above-less : compare_id (id_of w names a) (id_of w names b) ≡ Less → true ≡ not_above w names a b
-  unfolding not_above
-  above-less e = rw (lt_id_asym _ _ (compare_less _ _ e))
-
-  pub above_equal : compare_id (id_of w names a) (id_of w names b) ≡ Equal → true ≡ not_above w names a b
-  unfolding not_above
-  above_equal e =
-      let s = compare_equal _ _ e in
-      let n : lt_id (id_of w names b) (id_of w names a) ≡ false = not_yes (λ h. lt_id_irrefl _ (rw s at h)) in
-      rw n
-
-  pub above-greater : compare_id (id_of w names a) (id_of w names b) ≡ Greater → false ≡ not_above w names a b
-  unfolding not_above
-  above-greater e = rw (compare_greater _ _ e)
 
 -- ---- moving up
 
@@ -91,7 +68,7 @@ module _ (old : List ℕ) (k to x : ℕ) (hk : k ≤ to) (inside : to < length o
               );
         }
 
-    pub carried-all : to ≤ i → set line i held ≡ put_in old k to x
+    pub carried-all : to ≤ i → set line to held ≡ put_in old k to x
     unfolding put_in
     carried-all h =
         let j : i ≡ to = omega (arith, m.high) in
@@ -101,7 +78,7 @@ module _ (old : List ℕ) (k to x : ℕ) (hk : k ≤ to) (inside : to < length o
         ap (λ (s : ℕ). take s (grown old k x)) q
         ∙ take-append-add (take k old) (x ∷ drop k old) (suc (to - k))
         ∙ ap (λ (s : List ℕ). take k old ++ (x ∷ s)) (sym (slice_first k to old)) in
-        store ∙ ap (λ (s : ℕ). take (suc s) (grown old k x) ++ drop (suc s) old) j ∙ rw (n, t) (simp append_assoc)
+        ap (λ (n : ℕ). set line n held) (sym j) ∙ store ∙ ap (λ (s : ℕ). take (suc s) (grown old k x) ++ drop (suc s) old) j ∙ rw (n, t) (simp append_assoc)
 
 -- ---- from the memory to the run
 

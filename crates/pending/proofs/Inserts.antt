@@ -1,5 +1,5 @@
 -- Stable insertion into a part of the memory, place by place: what has been passed stays in front of the new slot. Assumes nothing.
-use mathlib.Core.Path.{◌≡◌, sym, ap, ◌∙◌}
+use mathlib.Core.Path.{◌≡◌, sym, ap, ◌∙◌, subst}
 use mathlib.Core.List.{List, [], ◌∷◌, ◌++◌, append_assoc}
 use mathlib.Core.Bool.{Bool, true, false}
 use Prim.Native.Nat.{ℕ, zero, suc, ◌+◌, ◌-◌, ◌≤◌, ◌<◌}
@@ -76,3 +76,6 @@ module _ {lt : ℕ → ℕ → Bool} {l : List ℕ} {from to x i : ℕ} (m : Pas
   pub placed-last : to ≤ i → Placed lt l from to x i
   unfolding insert_by
   placed-last h = placed (rw (slice_none i to l h))
+
+  pub placed-end : to ≤ i → Placed lt l from to x to
+  placed-end h = let e : i ≡ to = omega (arith, m.high) in subst (Placed lt l from to x) e (placed-last h)

@@ -12,7 +12,6 @@ use lib.Seq.{slice, length-slice, take-take, drop-drop, get_or-take, get_or-set_
 use Rattle.hash.specs.Bytes.{Id, lt_id}
 use Rattle.hashtable.specs.Table.{id_of}
 use Rattle.pending.specs.declared.Pending.{Pending}
-use Rattle.pending.specs.declared.Pushed.{Pushed}
 use Rattle.pending.specs.declared.Taken.{Taken}
 use Rattle.revwalk.specs.Order.{seconds_of, insert_by, In}
 use Rattle.pending.specs.Pending.{level_of, ahead, not_above, older_in, younger_in, slots_in, waiting, Right, Room, Entered, Took, fresh}
@@ -48,18 +47,18 @@ empty_right b e line h k = record { base = omega arith; low = omega arith; apart
 
 -- ---- members
 
-module _ {levels : List ℕ} {times : List ℤ} {x : ℕ} {p : Pending} {line : List ℕ} {r : Pushed} {line' : List ℕ} (e : Entered levels times x p line r line') where
-  pub length-pushed : length (slots_in levels times r.pending line') ≡ suc (length (slots_in levels times p line))
+module _ {levels : List ℕ} {times : List ℤ} {x : ℕ} {p : Pending} {line : List ℕ} {r : Pending} {line' : List ℕ} (e : Entered levels times x p line r line') where
+  pub length-pushed : length (slots_in levels times r line') ≡ suc (length (slots_in levels times p line))
   length-pushed = ap length e.slots ∙ length_insert (ahead levels times) x (slots_in levels times p line)
 
-  pub in-pushed : (z : ℕ) → In z (slots_in levels times r.pending line') → (z ≡ x) ⊎ In z (slots_in levels times p line)
+  pub in-pushed : (z : ℕ) → In z (slots_in levels times r line') → (z ≡ x) ⊎ In z (slots_in levels times p line)
   in-pushed z h = in_insert (ahead levels times) x z (slots_in levels times p line) (subst (In z) e.slots h)
 
-  pub pushed-in : (z : ℕ) → (z ≡ x) ⊎ In z (slots_in levels times p line) → In z (slots_in levels times r.pending line')
+  pub pushed-in : (z : ℕ) → (z ≡ x) ⊎ In z (slots_in levels times p line) → In z (slots_in levels times r line')
   pushed-in z h = subst (In z) (sym e.slots) (insert_in (ahead levels times) x z (slots_in levels times p line) h)
 
   -- what holds of the new slot and of all that wait holds of all that wait then
-  pub pushed-all : (P : ℕ → Type 0) → P x → ((z : ℕ) → In z (slots_in levels times p line) → P z) → (z : ℕ) → In z (slots_in levels times r.pending line') → P z
+  pub pushed-all : (P : ℕ → Type 0) → P x → ((z : ℕ) → In z (slots_in levels times p line) → P z) → (z : ℕ) → In z (slots_in levels times r line') → P z
   pushed-all P b f z h = ⊎_elim (λ q. subst P (sym q) b) (f z) (in-pushed z h)
 
 module _ {levels : List ℕ} {times : List ℤ} {p : Pending} {line : List ℕ} {r : Taken} (e : Took levels times p line r) where

@@ -11,6 +11,7 @@ use lib.Dec.{ltb}
 use lib.IntN.{ℤ}
 use lib.ListN.{length, get_or}
 use lib.Seq.{slice}
+use Rattle.std.specs.Prelude.{Some}
 use Rattle.hash.proofs.Tests.{by_cases, clash}
 use Rattle.pending.specs.declared.Pending.{Pending}
 use Rattle.pending.specs.Pending.{ahead, Runs, Leaves, Waits, Pops, fresh}
@@ -66,46 +67,32 @@ waits-runs p line w =
 module _ (levels : List ℕ) (times : List ℤ) (p : Pending) (line : List ℕ) where
   module _ (w : Waits p line) (r : Bool) (l : Leaves (ahead levels times) line p.start p.end p.low p.high r) where
     pub pops-older : r ≡ true
-        → Pops levels times p line (record { found = true; slot = get_or line p.start 0; pending = record { base = p.base; low = p.low; high = p.high; start = p.start + 1; end = p.end } })
+        → Pops levels times p line (Some (record { slot = get_or line p.start 0; pending = record { base = p.base; low = p.low; high = p.high; start = p.start + 1; end = p.end } }))
     pops-older e =
         let k = l.from-older e in
-        let q = w.right in
-        record {
-          waits = λ f. w;
-          took = λ v. record {
-            found = refl;
+        let q = w.right in (
+          w,
+          record {
             base = refl;
             end = refl;
             right = record { base = q.base; low = q.low; apart = omega (arith, q.apart); start = omega arith; end = q.end };
             slots = l.older e;
-          };
-          none = λ n. absurd (n w);
-        }
+          },
+        )
 
     pub pops-younger : r ≡ false
-        → Pops levels times p line (record { found = true; slot = get_or line p.low 0; pending = record { base = p.base; low = p.low + 1; high = p.high; start = p.start; end = p.end } })
+        → Pops levels times p line (Some (record { slot = get_or line p.low 0; pending = record { base = p.base; low = p.low + 1; high = p.high; start = p.start; end = p.end } }))
     pops-younger e =
         let k = l.from-younger e in
-        let q = w.right in
-        record {
-          waits = λ f. w;
-          took = λ v. record {
-            found = refl;
+        let q = w.right in (
+          w,
+          record {
             base = refl;
             end = refl;
             right = record { base = omega (arith, q.base); low = omega arith; apart = omega (arith, q.apart); start = q.start; end = q.end };
             slots = l.younger e;
-          };
-          none = λ n. absurd (n w);
-        }
-
-  pub pops-none : (Waits p line → ⊥) → Pops levels times p line (record { found = false; slot = 0; pending = p })
-  pops-none n =
-      record {
-        waits = λ e. clash e refl;
-        took = λ w. absurd (n w);
-        none = λ h. refl;
-      }
+          },
+        )
 
 -- ---- a slot that lacks STALE
 

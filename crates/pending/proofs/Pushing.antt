@@ -11,7 +11,7 @@ use lib.IntN.{ℤ}
 use lib.ListN.{length, take, drop, get_or, set, length-append, length-drop}
 use lib.Seq.{slice, slice_empty, length-slice, length-take-le, drop-cons, set_at, split_at, get_or-append-add, get_or-drop, take_at, drop_at, take-append-le, take-take}
 use Rattle.pending.specs.declared.Pending.{Pending}
-use Rattle.pending.specs.declared.Pushed.{Pushed}
+use Rattle.std.specs.Prelude.{Option, Some, None}
 use Rattle.revwalk.specs.Order.{insert_by}
 use Rattle.pending.specs.Pending.{ahead, merge_by, older_in, younger_in, shifted_in, merged_in, Placed, Right, Room, Widens, OlderOnly, Settles, Enters, Pushes}
 use Rattle.revwalk.proofs.QueueSorts.{length_insert}
@@ -79,8 +79,8 @@ module _ (lt : ℕ → ℕ → Bool) (old : List ℕ) (head tail x : ℕ) (h0 : 
     pub put-here : i < tail → lt x (get_or old i 0) ≡ true → set line (i - 1) x ≡ shifted_in lt old head tail x
     put-here l e = put (placed-here m.passed hl l e)
 
-    pub put_last : tail ≤ i → set line (i - 1) x ≡ shifted_in lt old head tail x
-    put_last l = put (placed-last m.passed hl l)
+    pub put_last : tail ≤ i → set line (tail - 1) x ≡ shifted_in lt old head tail x
+    put_last l = let e : tail ≡ i = omega (arith, m.passed.high) in ap (λ (n : ℕ). set line (n - 1) x) e ∙ put (placed-last m.passed hl l)
 
 -- ---- from the memory to the queue
 
@@ -114,7 +114,7 @@ module _ (levels : List ℕ) (times : List ℤ) (p : Pending) (line : List ℕ) 
 
   module _ (x : ℕ) (line' : List ℕ) where
     pub enters-younger : Widens p → line' ≡ shifted_in (ahead levels times) line p.low p.high x
-        → Enters levels times x p line (record { done = true; pending = record { base = p.base; low = p.low - 1; high = p.high; start = p.start; end = p.end } }) line'
+        → Enters levels times x p line (record { base = p.base; low = p.low - 1; high = p.high; start = p.start; end = p.end }) line'
     unfolding shifted_in
     enters-younger w e =
         let new = insert_by (ahead levels times) x (younger_in p line) in
@@ -128,7 +128,6 @@ module _ (levels : List ℕ) (times : List ℤ) (p : Pending) (line : List ℕ) 
           below = part-below line new (p.low - 1) p.high h k fits line' e p.base (omega (arith, w.free));
           above = drop-above line line' p.high above p.end (omega (arith, r.apart, r.start));
           entered = record {
-            done = refl;
             base = refl;
             end = refl;
             right = record { base = omega (arith, w.free); low = h; apart = omega (arith, w.apart); start = r.start; end = omega (arith, r.end) };
@@ -139,7 +138,7 @@ module _ (levels : List ℕ) (times : List ℤ) (p : Pending) (line : List ℕ) 
         }
 
     pub enters-older : OlderOnly p → line' ≡ shifted_in (ahead levels times) line p.start p.end x
-        → Enters levels times x p line (record { done = true; pending = record { base = p.base; low = p.base; high = p.base; start = p.start - 1; end = p.end } }) line'
+        → Enters levels times x p line (record { base = p.base; low = p.base; high = p.base; start = p.start - 1; end = p.end }) line'
     unfolding shifted_in
     enters-older w e =
         let new = insert_by (ahead levels times) x (older_in p line) in
@@ -151,7 +150,6 @@ module _ (levels : List ℕ) (times : List ℤ) (p : Pending) (line : List ℕ) 
           below = part-below line new (p.start - 1) p.end h r.end fits line' e p.base (omega (arith, w.free));
           above = part-above line new (p.start - 1) p.end h r.end fits line' e;
           entered = record {
-            done = refl;
             base = refl;
             end = refl;
             right = record { base = omega arith; low = omega arith; apart = omega (arith, w.free); start = h; end = omega (arith, r.end) };
@@ -187,7 +185,7 @@ module _ (levels : List ℕ) (times : List ℤ) (p : Pending) (line : List ℕ) 
       }
 
 -- a slot enters once the runs are merged
-pub settled_enters : {levels : List ℕ} {times : List ℤ} {x : ℕ} {p q : Pending} {line line₁ line₂ : List ℕ} {r : Pushed} → Settles levels times p line q line₁ → Enters levels times x q line₁ r line₂
+pub settled_enters : {levels : List ℕ} {times : List ℤ} {x : ℕ} {p q : Pending} {line line₁ line₂ : List ℕ} {r : Pending} → Settles levels times p line q line₁ → Enters levels times x q line₁ r line₂
     → Enters levels times x p line r line₂
 settled_enters {levels} {times} {x} {p} {q} {line} {line₁} {line₂} {r} s e =
     record {
@@ -195,7 +193,6 @@ settled_enters {levels} {times} {x} {p} {q} {line} {line₁} {line₂} {r} s e =
       below = subst (λ (b : ℕ). take b line₂ ≡ take b line₁) s.base e.below ∙ s.below;
       above = subst (λ (b : ℕ). drop b line₂ ≡ drop b line₁) s.end e.above ∙ s.above;
       entered = record {
-        done = e.entered.done;
         base = e.entered.base ∙ s.base;
         end = e.entered.end ∙ s.end;
         right = e.entered.right;
@@ -205,22 +202,8 @@ settled_enters {levels} {times} {x} {p} {q} {line} {line₁} {line₂} {r} s e =
 
 -- ---- with room a slot has entered, without it nothing has changed
 
-pub pushes_room : {levels : List ℕ} {times : List ℤ} {x : ℕ} {p : Pending} {line line' : List ℕ} {r : Pushed} → Room p line → Enters levels times x p line r line' → Pushes levels times x p line r line'
-pushes_room w e =
-    record {
-      long = e.long;
-      below = e.below;
-      above = e.above;
-      entered = λ s. e.entered;
-      refused = λ n. absurd (n w);
-    }
+pub pushes_room : {levels : List ℕ} {times : List ℤ} {x : ℕ} {p : Pending} {line line' : List ℕ} {r : Pending} → Room p line → Enters levels times x p line r line' → Pushes levels times x p line (Some r) line'
+pushes_room w e = record { long = e.long; below = e.below; above = e.above; entered = (w, e.entered) }
 
-pub pushes_refused : (levels : List ℕ) (times : List ℤ) (x : ℕ) (p : Pending) (line : List ℕ) → (Room p line → ⊥) → Pushes levels times x p line (record { done = false; pending = p }) line
-pushes_refused levels times x p line n =
-    record {
-      long = refl;
-      below = refl;
-      above = refl;
-      entered = λ r. absurd (n r);
-      refused = λ h. (refl, refl);
-    }
+pub pushes_refused : (levels : List ℕ) (times : List ℤ) (x : ℕ) (p : Pending) (line : List ℕ) → (Room p line → ⊥) → Pushes levels times x p line None line
+pushes_refused levels times x p line n = record { long = refl; below = refl; above = refl; entered = (n, refl) }

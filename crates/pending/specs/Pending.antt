@@ -1,7 +1,7 @@
 -- Painting's queue, two runs of the memory, as the list of the slots that wait, in the order in which they leave; and the waiting ids
 -- by rising id.
 -- Assumes nothing.
-use Rattle.std.specs.Prelude.{ℕ, ◌+◌, ◌-◌, ◌≤◌, ◌<◌, ◌≡◌, ◌⊎◌, List, [], ◌∷◌, ◌++◌, Bool, true, false, cond, not, length, take, drop, get_or, ℤ}
+use Rattle.std.specs.Prelude.{ℕ, ◌+◌, ◌-◌, ◌≤◌, ◌<◌, ◌≡◌, ◌⊎◌, List, [], ◌∷◌, ◌++◌, Bool, true, false, cond, not, length, take, drop, get_or, ℤ, Option, Some, None}
 use Rattle.std.proofs.Math.Seq.{slice}
 use Rattle.hash.specs.Bytes.{lt_id}
 use Rattle.hashtable.specs.Marks.{stale}
@@ -9,7 +9,6 @@ use Rattle.hashtable.specs.Table.{id_of}
 use Rattle.revwalk.specs.Order.{seconds_of, insert_by}
 use Rattle.walk.specs.Lookup.{Pair, lt_pair}
 use Rattle.pending.specs.declared.Pending.{Pending}
-use Rattle.pending.specs.declared.Pushed.{Pushed}
 use Rattle.pending.specs.declared.Taken.{Taken}
 
 -- ---- the order
@@ -71,19 +70,22 @@ pub record Room (p : Pending) (line : List ℕ) : Type 0 where
   pub free : waiting p < p.end - p.base
 
 -- what a slot's entering makes of a queue with room
-pub record Entered (levels : List ℕ) (times : List ℤ) (x : ℕ) (p : Pending) (line : List ℕ) (r : Pushed) (line' : List ℕ) : Type 0 where
-  pub done : r.done ≡ true
-  pub base : r.pending.base ≡ p.base
-  pub end : r.pending.end ≡ p.end
-  pub right : Right r.pending line'
-  pub slots : slots_in levels times r.pending line' ≡ insert_by (ahead levels times) x (slots_in levels times p line)
+pub record Entered (levels : List ℕ) (times : List ℤ) (x : ℕ) (p : Pending) (line : List ℕ) (q : Pending) (line' : List ℕ) : Type 0 where
+  pub base : q.base ≡ p.base
+  pub end : q.end ≡ p.end
+  pub right : Right q line'
+  pub slots : slots_in levels times q line' ≡ insert_by (ahead levels times) x (slots_in levels times p line)
 
-pub record Pushes (levels : List ℕ) (times : List ℤ) (x : ℕ) (p : Pending) (line : List ℕ) (r : Pushed) (line' : List ℕ) : Type 0 where
+-- with room for it the slot has entered; else nothing is changed
+abbrev pub EntersIfRoom : List ℕ → List ℤ → ℕ → Pending → List ℕ → Option Pending → List ℕ → Type 0
+EntersIfRoom levels times x p line (Some q) line' = Room p line × Entered levels times x p line q line'
+EntersIfRoom levels times x p line None line' = (Room p line → ⊥) × (line' ≡ line)
+
+pub record Pushes (levels : List ℕ) (times : List ℤ) (x : ℕ) (p : Pending) (line : List ℕ) (r : Option Pending) (line' : List ℕ) : Type 0 where
   pub long : length line' ≡ length line
   pub below : take p.base line' ≡ take p.base line
   pub above : drop p.end line' ≡ drop p.end line
-  pub entered : Room p line → Entered levels times x p line r line'
-  pub refused : (Room p line → ⊥) → (r ≡ record { done = false; pending = p }) × (line' ≡ line)
+  pub entered : EntersIfRoom levels times x p line r line'
 
 -- a slot waits
 pub record Waits (p : Pending) (line : List ℕ) : Type 0 where
@@ -91,17 +93,16 @@ pub record Waits (p : Pending) (line : List ℕ) : Type 0 where
   pub some : 0 < waiting p
 
 -- the first of the waiting slots leaves
-pub record Took (levels : List ℕ) (times : List ℤ) (p : Pending) (line : List ℕ) (r : Taken) : Type 0 where
-  pub found : r.found ≡ true
-  pub base : r.pending.base ≡ p.base
-  pub end : r.pending.end ≡ p.end
-  pub right : Right r.pending line
-  pub slots : slots_in levels times p line ≡ r.slot ∷ slots_in levels times r.pending line
+pub record Took (levels : List ℕ) (times : List ℤ) (p : Pending) (line : List ℕ) (t : Taken) : Type 0 where
+  pub base : t.pending.base ≡ p.base
+  pub end : t.pending.end ≡ p.end
+  pub right : Right t.pending line
+  pub slots : slots_in levels times p line ≡ t.slot ∷ slots_in levels times t.pending line
 
-pub record Pops (levels : List ℕ) (times : List ℤ) (p : Pending) (line : List ℕ) (r : Taken) : Type 0 where
-  pub waits : r.found ≡ true → Waits p line
-  pub took : Waits p line → Took levels times p line r
-  pub none : (Waits p line → ⊥) → r ≡ record { found = false; slot = 0; pending = p }
+-- where a slot waits the first of them leaves; else none does
+abbrev pub Pops : List ℕ → List ℤ → Pending → List ℕ → Option Taken → Type 0
+Pops levels times p line (Some t) = Waits p line × Took levels times p line t
+Pops levels times p line None = Waits p line → ⊥
 
 -- ---- STALE
 
@@ -169,11 +170,11 @@ pub record Settles (levels : List ℕ) (times : List ℤ) (p : Pending) (line : 
   pub slots : slots_in levels times q line' ≡ slots_in levels times p line
 
 -- a slot has entered, and the memory elsewhere is as it was
-pub record Enters (levels : List ℕ) (times : List ℤ) (x : ℕ) (p : Pending) (line : List ℕ) (r : Pushed) (line' : List ℕ) : Type 0 where
+pub record Enters (levels : List ℕ) (times : List ℤ) (x : ℕ) (p : Pending) (line : List ℕ) (q : Pending) (line' : List ℕ) : Type 0 where
   pub long : length line' ≡ length line
   pub below : take p.base line' ≡ take p.base line
   pub above : drop p.end line' ≡ drop p.end line
-  pub entered : Entered levels times x p line r line'
+  pub entered : Entered levels times x p line q line'
 
 -- k is the place of line[from .. to) at which x goes in
 pub record Placed (lt : ℕ → ℕ → Bool) (line : List ℕ) (from to x k : ℕ) : Type 0 where

@@ -14,7 +14,7 @@ ghost use Rattle.pending.specs.Pending.{level_of, pair_at, ahead, not_above, sta
 ghost use Rattle.hash.specs.Bytes.{width_of};
 
 use commitgraph::Level;
-use hash::{Kind, Order};
+use hash::Kind;
 use hashtable::table;
 use walk::GenThenTime;
 
@@ -28,17 +28,9 @@ pub struct Pending {
     pub end: usize,
 }
 
-// Whether a slot has entered, and the queue then.
-#[derive(Clone, Copy)]
-pub struct Pushed {
-    pub done: bool,
-    pub pending: Pending,
-}
-
 // What leaves the queue, and the queue without it.
 #[derive(Clone, Copy)]
 pub struct Taken {
-    pub found: bool,
     pub slot: u32,
     pub pending: Pending,
 }
@@ -77,16 +69,15 @@ fn shift_in(line: &mut [u32], levels: &[u32], times: &[i64], head: usize, tail: 
     requires { (0 < head) × (head ≤ tail) × (tail ≤ length line.old) }
     ensures { line.new ≡ shifted_in (ahead levels.now times.now) line.old head tail slot }
 {
-    let mut i = head;
-    while i < tail {
+    for i in head..tail {
         let y = line[i];
         if is_ahead(levels, times, slot, y) {
-            break;
+            line[i - 1] = slot;
+            return;
         }
         line[i - 1] = y;
-        i += 1;
     }
-    line[i - 1] = slot;
+    line[tail - 1] = slot;
 }
 
 // Whether the queue stands in the memory as it should.
@@ -174,6 +165,7 @@ fn merge(
     let mut o = start - (high - low);
     let mut a = start;
     let mut b = low;
+    // no counted range: how many slots the older run gives until the younger one is used up is told by their pairs
     while b < high {
         if is_older_first(line, levels, times, a, end, b, high) {
             line[o] = line[a];
@@ -189,14 +181,13 @@ fn merge(
 // About three to six times the square root of n: a power of two from 16 up to 1,048,576. (To merge costs more than to move, for each
 // slot: so the younger run is that much longer than the square root, at which as many slots are merged as are moved.)
 fn about_root(n: usize) -> usize {
-    let mut c: usize = 16;
-    while c < 1048576 {
+    for k in 4u32..20 {
+        let c = 1usize << k;
         if n / c <= c / 8 {
-            break;
+            return c;
         }
-        c = 2 * c;
     }
-    c
+    1048576
 }
 
 // Where an empty younger run begins: about the square root of the older run above `base`, half of the free room at most.
@@ -242,43 +233,33 @@ fn has_place(p: Pending) -> bool
 }
 
 // A slot enters the younger run.
-fn put_younger(p: Pending, line: &mut [u32], levels: &[u32], times: &[i64], slot: u32) -> Pushed
+fn put_younger(p: Pending, line: &mut [u32], levels: &[u32], times: &[i64], slot: u32) -> Pending
     requires { Right p line.old × Widens p }
     ensures { Enters levels.now times.now slot p line.old result line.new }
 {
     shift_in(line, levels, times, p.low, p.high, slot);
-    Pushed {
-        done: true,
-        pending: Pending {
-            base: p.base,
-            low: p.low - 1,
-            high: p.high,
-            start: p.start,
-            end: p.end,
-        },
+    Pending {
+        low: p.low - 1,
+        ..p
     }
 }
 
 // A slot enters the older run, where the younger one is empty.
-fn put_older(p: Pending, line: &mut [u32], levels: &[u32], times: &[i64], slot: u32) -> Pushed
+fn put_older(p: Pending, line: &mut [u32], levels: &[u32], times: &[i64], slot: u32) -> Pending
     requires { Right p line.old × OlderOnly p }
     ensures { Enters levels.now times.now slot p line.old result line.new }
 {
     shift_in(line, levels, times, p.start, p.end, slot);
-    Pushed {
-        done: true,
-        pending: Pending {
-            base: p.base,
-            low: p.base,
-            high: p.base,
-            start: p.start - 1,
-            end: p.end,
-        },
+    Pending {
+        low: p.base,
+        high: p.base,
+        start: p.start - 1,
+        ..p
     }
 }
 
 // A slot enters the queue, whose younger run has no place for it.
-fn settle_and_put(p: Pending, line: &mut [u32], levels: &[u32], times: &[i64], slot: u32) -> Pushed
+fn settle_and_put(p: Pending, line: &mut [u32], levels: &[u32], times: &[i64], slot: u32) -> Pending
     requires { Room p line.old }
     ensures { Enters levels.now times.now slot p line.old result line.new }
 {
@@ -290,60 +271,49 @@ fn settle_and_put(p: Pending, line: &mut [u32], levels: &[u32], times: &[i64], s
     }
 }
 
-// A slot enters the queue. Without room nothing is changed.
-pub fn push(p: Pending, line: &mut [u32], levels: &[u32], times: &[i64], slot: u32) -> Pushed
+// A slot enters the queue; the answer is the queue then. Without room it is None, and nothing is changed.
+pub fn push(
+    p: Pending,
+    line: &mut [u32],
+    levels: &[u32],
+    times: &[i64],
+    slot: u32,
+) -> Option<Pending>
     ensures { Pushes levels.now times.now slot p line.old result line.new }
 {
     if !has_room(p, line) {
-        return Pushed {
-            done: false,
-            pending: p,
-        };
+        return None;
     }
     if has_place(p) {
-        put_younger(p, line, levels, times, slot)
+        Some(put_younger(p, line, levels, times, slot))
     } else {
-        settle_and_put(p, line, levels, times, slot)
+        Some(settle_and_put(p, line, levels, times, slot))
     }
 }
 
 // The first slot leaves the queue, where one waits.
-pub fn pop(p: Pending, line: &[u32], levels: &[u32], times: &[i64]) -> Taken
+pub fn pop(p: Pending, line: &[u32], levels: &[u32], times: &[i64]) -> Option<Taken>
     ensures { Pops levels.now times.now p line.now result }
 {
     if !is_waiting(p, line) {
-        return Taken {
-            found: false,
-            slot: 0,
-            pending: p,
-        };
+        return None;
     }
-    let low = p.low;
-    let start = p.start;
-    if is_older_first(line, levels, times, start, p.end, low, p.high) {
-        Taken {
-            found: true,
-            slot: line[start],
+    if is_older_first(line, levels, times, p.start, p.end, p.low, p.high) {
+        Some(Taken {
+            slot: line[p.start],
             pending: Pending {
-                base: p.base,
-                low,
-                high: p.high,
-                start: start + 1,
-                end: p.end,
+                start: p.start + 1,
+                ..p
             },
-        }
+        })
     } else {
-        Taken {
-            found: true,
-            slot: line[low],
+        Some(Taken {
+            slot: line[p.low],
             pending: Pending {
-                base: p.base,
-                low: low + 1,
-                high: p.high,
-                start,
-                end: p.end,
+                low: p.low + 1,
+                ..p
             },
-        }
+        })
     }
 }
 
@@ -358,15 +328,13 @@ fn is_stale(marks: &[u8], slot: u32) -> bool
 fn lacking_in(line: &[u32], from: usize, to: usize, marks: &[u8]) -> bool
     ensures { result ≡ fresh (stale_at marks.now) (slice from to line.now) }
 {
-    let mut i = from;
-    while i < to {
+    for i in from..to {
         if line.len() <= i {
             return false;
         }
         if !is_stale(marks, line[i]) {
             return true;
         }
-        i += 1;
     }
     false
 }
@@ -382,16 +350,13 @@ pub fn any_lacking(p: Pending, line: &[u32], marks: &[u8]) -> bool
 }
 
 // Whether the id of slot a is not above that of slot b.
+#[tactic(auto, using(hash::proofs::Ids::is_le_compare), unfolding(crate::specs::Pending::not_above))]
 fn not_above(kind: Kind, names: &[u8], a: u32, b: u32) -> bool
     ensures { result ≡ not_above (width_of kind) names.now a b }
 {
     let x = table::id_of(kind, names, a as usize);
     let y = table::id_of(kind, names, b as usize);
-    match hash::compare(x, y) {
-        Order::Less => true,
-        Order::Equal => true,
-        Order::Greater => false,
-    }
+    hash::compare(x, y).is_le()
 }
 
 // The first place of line[from..to) before which a slot goes by its id.
@@ -399,14 +364,12 @@ fn place_by_id(kind: Kind, line: &[u32], names: &[u8], from: usize, to: usize, s
     requires { (from ≤ to) × (to ≤ length line.now) }
     ensures { Placed (not_above (width_of kind) names.now) line.now from to slot result }
 {
-    let mut i = from;
-    while i < to {
+    for i in from..to {
         if not_above(kind, names, slot, line[i]) {
             return i;
         }
-        i += 1;
     }
-    i
+    to
 }
 
 // Puts a slot at place k; line[k..to) moves up by one.
@@ -415,14 +378,12 @@ fn put_in(line: &mut [u32], k: usize, to: usize, slot: u32)
     ensures { line.new ≡ put_in line.old k to slot }
 {
     let mut x = slot;
-    let mut i = k;
-    while i < to {
+    for i in k..to {
         let y = line[i];
         line[i] = x;
         x = y;
-        i += 1;
     }
-    line[i] = x;
+    line[to] = x;
 }
 
 // Puts a slot into line[from..from + n), which rises by the slots' ids; the run is then one longer. Without room nothing is

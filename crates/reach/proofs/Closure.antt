@@ -1,10 +1,10 @@
 -- On any store the list of what some ids reach exists, and is no longer than the ids and the store's parent lines; so reaching is decided.
 -- Assumes nothing.
+use Rattle.std.specs.Prelude.{None, Option, Some}
 use mathlib.Core.Path.{◌≡◌, refl, sym, subst}
 use mathlib.Core.Logic.{◌⊎◌, inl, inr, ⊎_elim}
 use Prim.Native.Nat.{ℕ, zero, suc, ◌+◌, ◌/◌, ◌≤◌, ◌<◌}
 use mathlib.Core.Bool.{Bool, true, false, cond}
-use mathlib.Core.Option.{Option, none, some}
 use mathlib.Core.List.Memᴰ
 use mathlib.Core.List.{List, [], ◌∷◌, ◌++◌}
 use native.Mathlib.Omega.{arith}
@@ -74,12 +74,12 @@ module _ {w : World} {roots : List Id} where
 -- ---- the ids that can be met
 
 -- the parents that are read of a header are its own
-ids_of_lem : (o : Option Header) (p : Id) → Mem p (parents_of (from_store o)) → (h : Header) × (o ≡ some h) × Mem p h.ids
+ids_of_lem : (o : Option Header) (p : Id) → Mem p (parents_of (from_store o)) → (h : Header) × (o ≡ Some h) × Mem p h.ids
 unfolding from_store parents_of
-ids_of_lem none p m = absurd (Memᴰ.not-nil m)
-ids_of_lem (some h) p m = go (from_store (some h)) refl m
+ids_of_lem None p m = absurd (Memᴰ.not-nil m)
+ids_of_lem (Some h) p m = go (from_store (Some h)) refl m
   where
-    go : (d : Read) → from_store (some h) ≡ d → Mem p (parents_of d) → (k : Header) × (some h ≡ some k) × Mem p k.ids
+    go : (d : Read) → from_store (Some h) ≡ d → Mem p (parents_of d) → (k : Header) × (Some h ≡ Some k) × Mem p k.ids
     go (fail n) e k = absurd (Memᴰ.not-nil k)
     go (good ps q) e k = (h, refl, subst (λ (l : List Id). Mem p l) (sym (from-body h ps q e).1) k)
 
@@ -87,8 +87,8 @@ ids_of_lem (some h) p m = go (from_store (some h)) refl m
 pub links-named : (width : ℕ) (store graph : List ℕ) (x p : Id) → Mem p (links (world_of width store graph) x) → Mem p (store_parents width store)
 unfolding links world_of
 links-named width store graph x p m =
-    let a = ids_of_lem (if_some (store_find width store x) none (λ body. some (header width body))) p m in
-    let o = some_of (store_find width store x) (λ body. some (header width body)) a.0 a.1 in
+    let a = ids_of_lem (if_some (store_find width store x) None (λ body. Some (header width body))) p m in
+    let o = some_of (store_find width store x) (λ body. Some (header width body)) a.0 a.1 in
     let k : header width o.0 ≡ a.0 = some_in o.2 in
     find_parents width store x o.0 o.1 p (subst (λ (q : Header). Mem p q.ids) (sym k) a.2)
 

@@ -1,5 +1,6 @@
 -- A search begins: memory whose marks are cleared has nothing marked, and P places are room for all that can be met. A second search
 -- in the same table leaves what the first has found. Assumes nothing.
+use Rattle.std.specs.Prelude.{None, Option, Some, Result, Ok, Err}
 use mathlib.Core.Path.{◌≡◌, refl, sym, ◌∙◌, ap, subst}
 use Prim.Native.Nat.{ℕ, ◌+◌, ◌/◌, ◌≤◌}
 use mathlib.Core.Bool.{Bool, true, false, not}
@@ -17,10 +18,8 @@ use Rattle.walk.specs.Lookup.{World, world_of}
 use Rattle.walk.specs.Reach.{Mem, empty, links}
 use Rattle.walk.specs.Universe.{store_parents}
 use Rattle.walk.proofs.Files.{store_parents_length}
-use Rattle.reach.specs.declared.notes.Grown.{Grown}
-use Rattle.reach.specs.declared.notes.Grown.TheVariants.{Count, NoRoom}
-use Rattle.reach.specs.declared.seek.Sought.{Sought}
-use Rattle.reach.specs.declared.seek.Sought.TheVariants.{Whole, Unreadable, NoRoom as TooSmall}
+use Rattle.reach.specs.declared.seek.SeekError.{SeekError}
+use Rattle.reach.specs.declared.seek.SeekError.TheVariants.{Unreadable, NoRoom}
 use Rattle.reach.specs.Memory.{most_slots, has_bit, Lent, lent, Lists, Named, Spares, Told, NotesAll}
 use Rattle.reach.specs.Seek.{ToldSought, Seeks, SeeksFrom}
 use Rattle.reach.proofs.Growth.{grow-none, grow-more, root-reached}
@@ -31,18 +30,18 @@ use Rattle.reach.proofs.Noting.{spares_then}
 
 -- ---- from a list of roots
 
-sought_after : (width : ℕ) (second : Bool) (cap from : ℕ) (w : World) (u roots : List Id) (m m₁ m' : Lent) (r : Sought) → Spares width second cap from m m₁ → ToldSought width w u roots second cap from m₁ m' r
+sought_after : (width : ℕ) (second : Bool) (cap from : ℕ) (w : World) (u roots : List Id) (m m₁ m' : Lent) (r : Result ℕ SeekError) → Spares width second cap from m m₁ → ToldSought width w u roots second cap from m₁ m' r
     → ToldSought width w u roots second cap from m m' r
-sought_after width second cap from w u roots m m₁ m' (Whole n) a t =
+sought_after width second cap from w u roots m m₁ m' (Ok n) a t =
     record { list = t.list; reached = t.reached; readable = t.readable; lists = t.lists; named = t.named; spares = spares_then a t.spares }
-sought_after width second cap from w u roots m m₁ m' Unreadable a t = t
-sought_after width second cap from w u roots m m₁ m' TooSmall a t = t
+sought_after width second cap from w u roots m m₁ m' (Err Unreadable) a t = t
+sought_after width second cap from w u roots m m₁ m' (Err NoRoom) a t = t
 
-module _ {width : ℕ} {second : Bool} {cap from : ℕ} {m m₁ : Lent} {roots : List Id} {q : Grown} (a : NotesAll width second cap from m m₁ (Count 0) roots q) where
-  pub from-count : {s : List ℕ} {m' : Lent} {n : ℕ} {r : Sought} → q ≡ Count n → Seeks width second cap from s m₁ m' n r → SeeksFrom width second cap from s m m' roots r
+module _ {width : ℕ} {second : Bool} {cap from : ℕ} {m m₁ : Lent} {roots : List Id} {q : Option ℕ} (a : NotesAll width second cap from m m₁ (Some 0) roots q) where
+  pub from-count : {s : List ℕ} {m' : Lent} {n : ℕ} {r : Result ℕ SeekError} → q ≡ Some n → Seeks width second cap from s m₁ m' n r → SeeksFrom width second cap from s m m' roots r
   from-count {s} {m'} {n} {r} e o = record {
     right = λ ok g u h d i p.
-        let t = subst (λ (c : Grown). Told width second cap from u m m₁ [] roots c) e (a.does u [] h d i) in
+        let t = subst (λ (c : Option ℕ). Told width second cap from u m m₁ [] roots c) e (a.does u [] h d i) in
         sought_after width second cap from (world_of width s g) u roots m m₁ m' r t.spares
         (o.right ok g u roots t.list
         (record {
@@ -55,8 +54,8 @@ module _ {width : ℕ} {second : Bool} {cap from : ℕ} {m m₁ : Lent} {roots :
         }));
   }
 
-  pub from-none : (s : List ℕ) → q ≡ NoRoom → SeeksFrom width second cap from s m m₁ roots TooSmall
-  from-none s e = record { right = λ ok g u h d i p. subst (λ (c : Grown). Told width second cap from u m m₁ [] roots c) e (a.does u [] h d i) }
+  pub from-none : (s : List ℕ) → q ≡ None → SeeksFrom width second cap from s m m₁ roots (Err NoRoom)
+  from-none s e = record { right = λ ok g u h d i p. subst (λ (c : Option ℕ). Told width second cap from u m m₁ [] roots c) e (a.does u [] h d i) }
 
 -- ---- cleared memory
 

@@ -1,10 +1,10 @@
 -- Card 1: a tested opening has one verdict, and where it passes the third demand holds with no premise on the history.
 -- Assumes nothing.
+use Rattle.std.specs.Prelude.{None, Option, Some}
 use mathlib.Core.Path.{◌≡◌, refl, sym, ◌∙◌, ap, subst}
 use mathlib.Core.Logic.{⊎_elim}
 use Prim.Native.Nat.{ℕ, ◌<◌}
 use mathlib.Core.Bool.{Bool, true, false, not, ◌&&◌}
-use mathlib.Core.Option.{Option, none, some}
 use mathlib.Core.List.Memᴰ
 use mathlib.Core.List.{List, [], ◌∷◌, ◌++◌, map}
 use native.Mathlib.Omega.{arith}
@@ -62,7 +62,7 @@ unfolding RegionReadable RegionAgrees RegionFalls
 premises-passed p r = one_verdict r (passes p.readable p.agrees p.falls)
 
 -- "After a tested opening the listing holds with only one premise left"
-pub tested_delivers : (i : Input) → refusal i ≡ none → (r : Verdict (walk_of i) (list_ids (width_in i) i.tips)) → verdict_number r ≡ 0 → Delivers i
+pub tested_delivers : (i : Input) → refusal i ≡ None → (r : Verdict (walk_of i) (list_ids (width_in i) i.tips)) → verdict_number r ≡ 0 → Delivers i
 unfolding Third
 tested_delivers i e r p = third i e (passed-premises r p)
 
@@ -160,15 +160,15 @@ pub same_time_of : (a b : ℤ) → a ≡ b → same_time a b ≡ true
 unfolding same_time
 same_time_of a b e = subst (λ (c : ℤ). (not (lt_z a c) && not (lt_z c a)) ≡ true) e (and_of (ap not (not-before a)) (ap not (not-before a)))
 
-same_some : (o : Option ℤ) (s : ℤ) → same_seconds o s ≡ true → o ≡ some s
+same_some : (o : Option ℤ) (s : ℤ) → same_seconds o s ≡ true → o ≡ Some s
 unfolding same_seconds
-same_some none s e = clash e refl
-same_some (some t) s e = ap some (same_time_eq t s e)
+same_some None s e = clash e refl
+same_some (Some t) s e = ap Some (same_time_eq t s e)
 
-some_same : (o : Option ℤ) (s : ℤ) → o ≡ some s → same_seconds o s ≡ true
+some_same : (o : Option ℤ) (s : ℤ) → o ≡ Some s → same_seconds o s ≡ true
 unfolding same_seconds
-some_same none s e = let z : ◌≡◌ {A = ℕ} 0 1 = cc in absurd (omega arith)
-some_same (some t) s e = same_time_of t s (some_in e)
+some_same None s e = let z : ◌≡◌ {A = ℕ} 0 1 = cc in absurd (omega arith)
+some_same (Some t) s e = same_time_of t s (some_in e)
 
 row-agrees : (w : World) (x : Id) (r : Row) → w.graph x ≡ r → row_agrees r (links w x) (store_seconds w x) ≡ true → Agrees w x
 unfolding row_agrees
@@ -184,7 +184,7 @@ row-agrees w x (row ps l s) e t =
     record {
       whole = λ q. let k : row ps l s ≡ corrupt = sym e ∙ q in let z : ◌≡◌ {A = ℕ} 0 1 = cc in absurd (omega arith);
       same-parents = λ ps' l' s' q. let k : row ps l s ≡ row ps' l' s' = sym e ∙ q in let j : ps ≡ ps' = cc in subst (λ (a : List (Id × ℤ)). map (λ p. p.0) a ≡ links w x) j ids;
-      same-seconds = λ ps' l' s' q. let k : row ps l s ≡ row ps' l' s' = sym e ∙ q in let j : s ≡ s' = cc in subst (λ (a : ℤ). store_seconds w x ≡ some a) j time;
+      same-seconds = λ ps' l' s' q. let k : row ps l s ≡ row ps' l' s' = sym e ∙ q in let j : s ≡ s' = cc in subst (λ (a : ℤ). store_seconds w x ≡ Some a) j time;
     }
 
 agrees-row : (w : World) (x : Id) (r : Row) → w.graph x ≡ r → Agrees w x → row_agrees r (links w x) (store_seconds w x) ≡ true
@@ -279,26 +279,26 @@ tested_is i r =
 
 module _ (v : Walk) (tips : List Id) where
   -- what a verdict's refusal says
-  refusal-none : (r : Verdict v tips) → verdict_refusal r ≡ none → Premises v tips
+  refusal-none : (r : Verdict v tips) → verdict_refusal r ≡ None → Premises v tips
   unfolding RegionReadable RegionAgrees RegionFalls
   refusal-none (passes a b c) e = record { readable = a; agrees = b; falls = c }
   refusal-none (unreadable a) e = let z : ◌≡◌ {A = ℕ} 0 1 = cc in absurd (omega arith)
   refusal-none (at-odds a b) e = let z : ◌≡◌ {A = ℕ} 0 1 = cc in absurd (omega arith)
   refusal-none (not-falling a b c) e = let z : ◌≡◌ {A = ℕ} 0 1 = cc in absurd (omega arith)
 
-  refusal-13 : (r : Verdict v tips) → verdict_refusal r ≡ some UnreadableReach → RegionReadable v tips → ⊥
+  refusal-13 : (r : Verdict v tips) → verdict_refusal r ≡ Some UnreadableReach → RegionReadable v tips → ⊥
   refusal-13 (passes a b c) e = let z : ◌≡◌ {A = ℕ} 0 1 = cc in absurd (omega arith)
   refusal-13 (unreadable a) e = a
   refusal-13 (at-odds a b) e = let z : ◌≡◌ {A = ℕ} 0 1 = cc in absurd (omega arith)
   refusal-13 (not-falling a b c) e = let z : ◌≡◌ {A = ℕ} 0 1 = cc in absurd (omega arith)
 
-  refusal-14 : (r : Verdict v tips) → verdict_refusal r ≡ some GraphAtOdds → RegionReadable v tips × (RegionAgrees v tips → ⊥)
+  refusal-14 : (r : Verdict v tips) → verdict_refusal r ≡ Some GraphAtOdds → RegionReadable v tips × (RegionAgrees v tips → ⊥)
   refusal-14 (passes a b c) e = let z : ◌≡◌ {A = ℕ} 0 1 = cc in absurd (omega arith)
   refusal-14 (unreadable a) e = let z : ◌≡◌ {A = ℕ} 0 1 = cc in absurd (omega arith)
   refusal-14 (at-odds a b) e = (a, b)
   refusal-14 (not-falling a b c) e = let z : ◌≡◌ {A = ℕ} 0 1 = cc in absurd (omega arith)
 
-  refusal-15 : (r : Verdict v tips) → verdict_refusal r ≡ some PairNotFalling → RegionReadable v tips × RegionAgrees v tips × (RegionFalls v tips → ⊥)
+  refusal-15 : (r : Verdict v tips) → verdict_refusal r ≡ Some PairNotFalling → RegionReadable v tips × RegionAgrees v tips × (RegionFalls v tips → ⊥)
   refusal-15 (passes a b c) e = let z : ◌≡◌ {A = ℕ} 0 1 = cc in absurd (omega arith)
   refusal-15 (unreadable a) e = let z : ◌≡◌ {A = ℕ} 0 1 = cc in absurd (omega arith)
   refusal-15 (at-odds a b) e = let z : ◌≡◌ {A = ℕ} 0 1 = cc in absurd (omega arith)

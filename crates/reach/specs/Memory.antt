@@ -1,5 +1,5 @@
 -- The search in lent memory: which list of ids the memory reads as, and what noting ids does. Assumes nothing.
-use Rattle.std.specs.Prelude.{ℕ, ◌+◌, ◌≤◌, ◌<◌, ◌≡◌, Bool, true, false, not, List, [], ◌∷◌, length, get_or, set}
+use Rattle.std.specs.Prelude.{ℕ, ◌+◌, ◌≤◌, ◌<◌, ◌≡◌, Bool, true, false, not, List, [], ◌∷◌, length, get_or, set, None, Option, Some}
 use Rattle.hash.specs.Bytes.{Id}
 use Rattle.object.specs.Header.{Header}
 use Rattle.hashtable.specs.Marks.{visible, hidden, with_visible, with_hidden}
@@ -8,8 +8,6 @@ use Rattle.hashtable.specs.declared.table.Slot.TheVariants.{Full as TableFull}
 use Rattle.walk.specs.Reach.{Mem, NoDup}
 use Rattle.reach.specs.declared.notes.Marking.{Marking}
 use Rattle.reach.specs.declared.notes.Marking.TheVariants.{Fresh, Known, Full}
-use Rattle.reach.specs.declared.notes.Grown.{Grown}
-use Rattle.reach.specs.declared.notes.Grown.TheVariants.{Count, NoRoom}
 use Rattle.reach.specs.Search.{Grows}
 
 -- slot numbers that fit a u32
@@ -97,8 +95,8 @@ pub record MarksId (width : ℕ) (second : Bool) (names marks names' marks' : Li
   pub right : Table width false names marks cap → cap ≤ most_slots → ToldMark width second names marks names' marks' cap x r
 
 -- what `put` does
-pub record Puts (line line' : List ℕ) (from n slot : ℕ) (r : Grown) : Type 0 where
-  pub right : from + n < length line → (r ≡ Count (n + 1)) × (line' ≡ set line (from + n) slot)
+pub record Puts (line line' : List ℕ) (from n slot : ℕ) (r : Option ℕ) : Type 0 where
+  pub right : from + n < length line → (r ≡ Some (n + 1)) × (line' ≡ set line (from + n) slot)
 
 -- ---- ids are noted
 
@@ -111,37 +109,37 @@ pub record Went (width : ℕ) (second : Bool) (cap from : ℕ) (u : List Id) (m 
   pub spares : Spares width second cap from m m'
 
 -- by the answer; where there is room, no answer says that there is none
-abbrev pub Told : ℕ → Bool → ℕ → ℕ → List Id → Lent → Lent → List Id → List Id → Grown → Type 0
-Told width second cap from u m m' l xs (Count n') = Went width second cap from u m m' l xs n'
-Told width second cap from u m m' l xs NoRoom = ⊥
+abbrev pub Told : ℕ → Bool → ℕ → ℕ → List Id → Lent → Lent → List Id → List Id → Option ℕ → Type 0
+Told width second cap from u m m' l xs (Some n') = Went width second cap from u m m' l xs n'
+Told width second cap from u m m' l xs None = ⊥
 
 -- what `note` does, where u has the id
-pub record Notes (width : ℕ) (second : Bool) (cap from : ℕ) (m m' : Lent) (n : ℕ) (x : Id) (r : Grown) : Type 0 where
+pub record Notes (width : ℕ) (second : Bool) (cap from : ℕ) (m m' : Lent) (n : ℕ) (x : Id) (r : Option ℕ) : Type 0 where
   pub right : (u l : List Id) → Lists width second cap from m n l → Named width cap u m → length x ≡ width → Mem x u → Told width second cap from u m m' l (x ∷ []) r
 
 -- the same after an answer: where there is no room, nothing is done
-abbrev pub NotedAfter : ℕ → Bool → ℕ → ℕ → Lent → Lent → Grown → Id → Grown → Type 0
-NotedAfter width second cap from m m' (Count n) x r = Notes width second cap from m m' n x r
-NotedAfter width second cap from m m' NoRoom x r = (m' ≡ m) × (r ≡ NoRoom)
+abbrev pub NotedAfter : ℕ → Bool → ℕ → ℕ → Lent → Lent → Option ℕ → Id → Option ℕ → Type 0
+NotedAfter width second cap from m m' (Some n) x r = Notes width second cap from m m' n x r
+NotedAfter width second cap from m m' None x r = (m' ≡ m) × (r ≡ None)
 
-pub record NotesNext (width : ℕ) (second : Bool) (cap from : ℕ) (m m' : Lent) (past : Grown) (x : Id) (r : Grown) : Type 0 where
+pub record NotesNext (width : ℕ) (second : Bool) (cap from : ℕ) (m m' : Lent) (past : Option ℕ) (x : Id) (r : Option ℕ) : Type 0 where
   pub does : NotedAfter width second cap from m m' past x r
 
 -- a list of ids, one after another
-abbrev pub AllNoted : ℕ → Bool → ℕ → ℕ → Lent → Lent → Grown → List Id → Grown → Type 0
-AllNoted width second cap from m m' (Count n) xs r = (u l : List Id) → Lists width second cap from m n l → Named width cap u m → ((x : Id) → Mem x xs → Mem x u) → Told width second cap from u m m' l xs r
-AllNoted width second cap from m m' NoRoom xs r = (m' ≡ m) × (r ≡ NoRoom)
+abbrev pub AllNoted : ℕ → Bool → ℕ → ℕ → Lent → Lent → Option ℕ → List Id → Option ℕ → Type 0
+AllNoted width second cap from m m' (Some n) xs r = (u l : List Id) → Lists width second cap from m n l → Named width cap u m → ((x : Id) → Mem x xs → Mem x u) → Told width second cap from u m m' l xs r
+AllNoted width second cap from m m' None xs r = (m' ≡ m) × (r ≡ None)
 
-pub record NotesAll (width : ℕ) (second : Bool) (cap from : ℕ) (m m' : Lent) (past : Grown) (xs : List Id) (r : Grown) : Type 0 where
+pub record NotesAll (width : ℕ) (second : Bool) (cap from : ℕ) (m m' : Lent) (past : Option ℕ) (xs : List Id) (r : Option ℕ) : Type 0 where
   pub does : AllNoted width second cap from m m' past xs r
 
 -- what `note_one` does: an id of the width is noted, and it is parent k of a header with a good tree line, where there is one
-pub record NotesOne (width : ℕ) (second : Bool) (cap from : ℕ) (h : Header) (m m' : Lent) (n k : ℕ) (r : Grown) : Type 0 where
+pub record NotesOne (width : ℕ) (second : Bool) (cap from : ℕ) (h : Header) (m m' : Lent) (n k : ℕ) (r : Option ℕ) : Type 0 where
   pub id : Id
   pub is : h.tree ≡ true → k < length h.ids → id ≡ get_or h.ids k []
   pub wide : length id ≡ width
   pub notes : Notes width second cap from m m' n id r
 
 -- the parents of a header with a good tree line, of which there are c, are noted after the n of the line
-pub record NotesParents (width : ℕ) (second : Bool) (cap from : ℕ) (h : Header) (m m' : Lent) (n c : ℕ) (r : Grown) : Type 0 where
-  pub right : h.tree ≡ true → c ≡ length h.ids → AllNoted width second cap from m m' (Count n) h.ids r
+pub record NotesParents (width : ℕ) (second : Bool) (cap from : ℕ) (h : Header) (m m' : Lent) (n c : ℕ) (r : Option ℕ) : Type 0 where
+  pub right : h.tree ≡ true → c ≡ length h.ids → AllNoted width second cap from m m' (Some n) h.ids r

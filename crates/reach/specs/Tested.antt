@@ -1,6 +1,5 @@
 -- What a tested opening (document 02, card 1) tests over everything reachable from all tips and hidden tips, and its verdict. Assumes nothing.
-use Rattle.std.specs.Prelude.{ℕ, ◌≡◌, ◌↔◌, Bool, true, false, cond, not, ◌&&◌, List, [], ◌∷◌, ◌++◌, map, ℤ}
-use Rattle.std.proofs.Math.Option.{Option, none, some}
+use Rattle.std.specs.Prelude.{ℕ, ◌≡◌, ◌↔◌, Bool, true, false, cond, not, ◌&&◌, List, [], ◌∷◌, ◌++◌, map, ℤ, None, Option, Some}
 use Rattle.std.specs.Int.Signed.{lt_z}
 use Rattle.hash.specs.Bytes.{Id, eq_id}
 use Rattle.walk.specs.declared.Refusal.{Refusal}
@@ -39,8 +38,8 @@ unfoldable pub same_time : ℤ → ℤ → Bool
 same_time a b = not (lt_z a b) && not (lt_z b a)
 
 unfoldable pub same_seconds : Option ℤ → ℤ → Bool
-same_seconds none s = false
-same_seconds (some t) s = same_time t s
+same_seconds None s = false
+same_seconds (Some t) s = same_time t s
 
 -- "the graph agrees": a commit that it lists has there its book parents, in order, and its book seconds
 unfoldable pub row_agrees : Row → List Id → Option ℤ → Bool
@@ -58,9 +57,9 @@ falls_in w x = each (λ p. lt_pair (pair_at w p) (pair_at w x)) (links w x)
 -- "13 unreadable reach, 14 graph at odds, 15 pair not falling; tested in that order", each over all that is reached
 unfoldable pub judged : Bool → Bool → Bool → Option Refusal
 judged readable agrees falls =
-    let fifteen : Option Refusal = cond falls none (some PairNotFalling) in
-    let fourteen : Option Refusal = cond agrees fifteen (some GraphAtOdds) in
-    cond readable fourteen (some UnreadableReach)
+    let fifteen : Option Refusal = cond falls None (Some PairNotFalling) in
+    let fourteen : Option Refusal = cond agrees fifteen (Some GraphAtOdds) in
+    cond readable fourteen (Some UnreadableReach)
 
 unfoldable pub tested_over : World → List Id → Option Refusal
 tested_over w l = judged (each (readable_in w) l) (each (agrees_in w) l) (each (falls_in w) l)
@@ -72,8 +71,8 @@ tested_refusal i = tested_over (world_of (width_in i) i.store i.graph) (reach_li
 -- "where 1 to 8 do not apply"
 abbrev pub after_tests : Opening → Option Refusal → Opening
 after_tests (closed r) t = closed r
-after_tests (opened st) none = opened st
-after_tests (opened st) (some r) = closed r
+after_tests (opened st) None = opened st
+after_tests (opened st) (Some r) = closed r
 
 -- a tested opening; `room` says whether every lent buffer has its size
 unfoldable pub tested_open : Input → Bool → Opening
@@ -108,15 +107,15 @@ verdict_number (not-falling a b c) = 15
 
 -- the refusal of a verdict
 abbrev pub verdict_refusal : {v : Walk} {tips : List Id} → Verdict v tips → Option Refusal
-verdict_refusal (passes a b c) = none
-verdict_refusal (unreadable a) = some UnreadableReach
-verdict_refusal (at-odds a b) = some GraphAtOdds
-verdict_refusal (not-falling a b c) = some PairNotFalling
+verdict_refusal (passes a b c) = None
+verdict_refusal (unreadable a) = Some UnreadableReach
+verdict_refusal (at-odds a b) = Some GraphAtOdds
+verdict_refusal (not-falling a b c) = Some PairNotFalling
 
 -- "accepts exactly when every commit is readable in the book, the graph agrees, and each pair falls": the third demand's premises; and each
 -- number exactly where its test is the first to fail
 pub record TestsDecide (i : Input) : Type 0 where
-  pub accepted : (tested_refusal i ≡ none) ↔ Premises (walk_of i) (list_ids (width_in i) i.tips)
-  pub thirteen : (tested_refusal i ≡ some UnreadableReach) ↔ (RegionReadable (walk_of i) (list_ids (width_in i) i.tips) → ⊥)
-  pub fourteen : (tested_refusal i ≡ some GraphAtOdds) ↔ (RegionReadable (walk_of i) (list_ids (width_in i) i.tips) × (RegionAgrees (walk_of i) (list_ids (width_in i) i.tips) → ⊥))
-  pub fifteen : (tested_refusal i ≡ some PairNotFalling) ↔ (RegionReadable (walk_of i) (list_ids (width_in i) i.tips) × RegionAgrees (walk_of i) (list_ids (width_in i) i.tips) × (RegionFalls (walk_of i) (list_ids (width_in i) i.tips) → ⊥))
+  pub accepted : (tested_refusal i ≡ None) ↔ Premises (walk_of i) (list_ids (width_in i) i.tips)
+  pub thirteen : (tested_refusal i ≡ Some UnreadableReach) ↔ (RegionReadable (walk_of i) (list_ids (width_in i) i.tips) → ⊥)
+  pub fourteen : (tested_refusal i ≡ Some GraphAtOdds) ↔ (RegionReadable (walk_of i) (list_ids (width_in i) i.tips) × (RegionAgrees (walk_of i) (list_ids (width_in i) i.tips) → ⊥))
+  pub fifteen : (tested_refusal i ≡ Some PairNotFalling) ↔ (RegionReadable (walk_of i) (list_ids (width_in i) i.tips) × RegionAgrees (walk_of i) (list_ids (width_in i) i.tips) × (RegionFalls (walk_of i) (list_ids (width_in i) i.tips) → ⊥))

@@ -7,5 +7,5 @@ mod bits;
 mod notes;
 mod seek;
 
-pub use notes::{Grown, note, note_list, note_parents};
-pub use seek::{Sought, search, search_from};
+pub use notes::{note, note_list, note_parents};
+pub use seek::{SeekError, search, search_from};

@@ -10,19 +10,13 @@ use hash::Kind;
 use hashtable::table;
 use hashtable::table::Slot;
 
-// What came of an id: it was new to this search and stands in a slot; it was known; or there is no slot for it.
+// What came of an id: it was new to this search and stands in a slot; it was known; or there is no slot for it. An enum of three, and no Result
+// of an Option: `note` goes on differently after each.
 #[derive(Clone, Copy)]
 pub enum Marking {
     Fresh(u32),
     Known,
     Full,
-}
-
-// How many slots the line has now; or that the lent memory is too small.
-#[derive(Clone, Copy)]
-pub enum Grown {
-    Count(usize),
-    NoRoom,
 }
 
 // A slot as the line holds it.
@@ -68,17 +62,17 @@ fn mark_id(
 }
 
 // Sets a slot down at the end of the line's n from `from` on.
-fn put(line: &mut [u32], from: usize, n: usize, slot: u32) -> Grown
+fn put(line: &mut [u32], from: usize, n: usize, slot: u32) -> Option<usize>
     ensures { Puts line.old line.new from n slot result }
 {
     if line.len() <= from {
-        return Grown::NoRoom;
+        return None;
     }
     if line.len() - from <= n {
-        return Grown::NoRoom;
+        return None;
     }
     line[from + n] = slot;
-    Grown::Count(n + 1)
+    Some(n + 1)
 }
 
 // Notes one id.
@@ -92,14 +86,14 @@ pub fn note(
     from: usize,
     n: usize,
     id: &[u8],
-) -> Grown
+) -> Option<usize>
     ensures { Notes (width_of kind) second cap from (lent names.old marks.old line.old) (lent names.new marks.new line.new) n id.now result }
 {
     let marked = mark_id(kind, names, marks, cap, second, id);
     match marked {
         Marking::Fresh(slot) => put(line, from, n, slot),
-        Marking::Known => Grown::Count(n),
-        Marking::Full => Grown::NoRoom,
+        Marking::Known => Some(n),
+        Marking::Full => None,
     }
 }
 
@@ -112,15 +106,13 @@ pub fn note_next(
     cap: usize,
     second: bool,
     from: usize,
-    past: Grown,
+    past: Option<usize>,
     id: &[u8],
-) -> Grown
+) -> Option<usize>
     ensures { NotesNext (width_of kind) second cap from (lent names.old marks.old line.old) (lent names.new marks.new line.new) past id.now result }
 {
-    match past {
-        Grown::Count(n) => note(kind, names, marks, line, cap, second, from, n, id),
-        Grown::NoRoom => Grown::NoRoom,
-    }
+    let n = past?;
+    note(kind, names, marks, line, cap, second, from, n, id)
 }
 
 // Notes each id of a list, in order.
@@ -132,18 +124,16 @@ pub fn note_list(
     cap: usize,
     second: bool,
     from: usize,
-    past: Grown,
+    past: Option<usize>,
     list: &[u8],
-) -> Grown
+) -> Option<usize>
     ensures { NotesAll (width_of kind) second cap from (lent names.old marks.old line.old) (lent names.new marks.new line.new) past (list_ids (width_of kind) list.now) result }
 {
     let count = hash::ids_in(kind, list.len());
     let mut r = past;
-    let mut i = 0;
-    while i < count {
+    for i in 0..count {
         let id = hash::nth(kind, list, i);
         r = note_next(kind, names, marks, line, cap, second, from, r, id);
-        i += 1;
     }
     r
 }
@@ -160,7 +150,7 @@ fn note_one(
     n: usize,
     body: &[u8],
     k: usize,
-) -> Grown
+) -> Option<usize>
     ensures { NotesOne (width_of kind) second cap from (header (width_of kind) body.now) (lent names.old marks.old line.old) (lent names.new marks.new line.new) n k result }
 {
     let id = reading::body_parent(kind, body, k);
@@ -191,21 +181,12 @@ pub fn note_parents(
     n: usize,
     body: &[u8],
     count: usize,
-) -> Grown
+) -> Option<usize>
     ensures { NotesParents (width_of kind) second cap from (header (width_of kind) body.now) (lent names.old marks.old line.old) (lent names.new marks.new line.new) n count result }
 {
     let mut have = n;
-    let mut i = 0;
-    while i < count {
-        match note_one(kind, names, marks, line, cap, second, from, have, body, i) {
-            Grown::Count(m) => {
-                have = m;
-            }
-            Grown::NoRoom => {
-                return Grown::NoRoom;
-            }
-        }
-        i += 1;
+    for i in 0..count {
+        have = note_one(kind, names, marks, line, cap, second, from, have, body, i)?;
     }
-    Grown::Count(have)
+    Some(have)
 }

@@ -4,30 +4,30 @@ ghost use Rattle.hashtable.specs.Table.{id_of};
 ghost use Rattle.walk.specs.Opening.{list_ids};
 ghost use Rattle.reading.specs.Stored.{GivesBody};
 ghost use Rattle.reach.specs.Memory.{lent};
-ghost use Rattle.reach.specs.Seek.{step_of, Reads, Seeks, SeeksFrom};
+ghost use Rattle.reach.specs.Seek.{refusal_of, Reads, Seeks, SeeksFrom};
 ghost use Rattle.hash.specs.Bytes.{width_of};
 
 use crate::notes;
-use crate::notes::Grown;
 use hash::Kind;
 use hashtable::table;
-use object::Reading;
+use walk::Refusal;
 
-// One commit read: how many slots the line has then; it is not readable; or the lent memory is too small.
+// Why a search stops short: a commit that is reached is not readable; or the lent memory is too small.
 #[derive(Clone, Copy)]
-pub enum Step {
-    Count(usize),
+pub enum SeekError {
     Unreadable,
     NoRoom,
 }
 
-// How a search ends: the line has the slots of all that is reached, so many; a commit that is reached is not readable; or the lent memory is
-// too small.
-#[derive(Clone, Copy)]
-pub enum Sought {
-    Whole(usize),
-    Unreadable,
-    NoRoom,
+impl From<SeekError> for Refusal {
+    ghost from_gives = { λ e r. r ≡ refusal_of e };
+
+    fn from(e: SeekError) -> Refusal {
+        match e {
+            SeekError::Unreadable => Refusal::UnreadableReach,
+            SeekError::NoRoom => Refusal::BufferTooSmall,
+        }
+    }
 }
 
 // The slot at place k of the line's part that begins at `from`; 0 past the end.
@@ -50,17 +50,7 @@ fn body_in<'a>(kind: Kind, names: &[u8], slot: u32, store: &'a [u8]) -> &'a [u8]
     reading::stored_body(kind, store, table::id_of(kind, names, slot as usize))
 }
 
-// The parents noted, as an answer.
-fn noted(r: Grown) -> Step
-    ensures { result ≡ step_of r }
-{
-    match r {
-        Grown::Count(n) => Step::Count(n),
-        Grown::NoRoom => Step::NoRoom,
-    }
-}
-
-// Reads the commit at place k of the n, and notes its parents.
+// Reads the commit at place k of the n, and notes its parents: how many slots the line has then.
 fn read_at(
     kind: Kind,
     names: &mut [u8],
@@ -72,21 +62,30 @@ fn read_at(
     store: &[u8],
     n: usize,
     k: usize,
-) -> Step
+) -> Result<usize, SeekError>
     ensures { Reads (width_of kind) second cap from store.now (lent names.old marks.old line.old) (lent names.new marks.new line.new) n k result }
 {
     let slot = slot_after(line, from, k);
     let body = body_in(kind, names, slot, store);
     match object::readable(kind, body) {
-        Reading::Readable { parents, .. } => noted(notes::note_parents(
-            kind, names, marks, line, cap, second, from, n, body, parents,
-        )),
-        Reading::Bad => Step::Unreadable,
-        Reading::Crowded => Step::Unreadable,
+        Ok(header) => notes::note_parents(
+            kind,
+            names,
+            marks,
+            line,
+            cap,
+            second,
+            from,
+            n,
+            body,
+            header.parents,
+        )
+        .ok_or(SeekError::NoRoom),
+        Err(_) => Err(SeekError::Unreadable),
     }
 }
 
-// The search, over the n slots that the line has to begin with.
+// The search, over the n slots that the line has to begin with: how many it has with all that is reached.
 pub fn search(
     kind: Kind,
     names: &mut [u8],
@@ -97,29 +96,20 @@ pub fn search(
     from: usize,
     store: &[u8],
     n: usize,
-) -> Sought
+) -> Result<usize, SeekError>
     ensures { Seeks (width_of kind) second cap from store.now (lent names.old marks.old line.old) (lent names.new marks.new line.new) n result }
 {
     let mut count = n;
     let mut k = 0;
+    // A `while`: the line grows as it is read, so the bound is no range's.
     while k < count {
         if cap <= k {
-            return Sought::NoRoom;
+            return Err(SeekError::NoRoom);
         }
-        match read_at(kind, names, marks, line, cap, second, from, store, count, k) {
-            Step::Count(m) => {
-                count = m;
-            }
-            Step::Unreadable => {
-                return Sought::Unreadable;
-            }
-            Step::NoRoom => {
-                return Sought::NoRoom;
-            }
-        }
+        count = read_at(kind, names, marks, line, cap, second, from, store, count, k)?;
         k += 1;
     }
-    Sought::Whole(count)
+    Ok(count)
 }
 
 // The search from the ids of a list, where nothing has its mark yet.
@@ -133,22 +123,12 @@ pub fn search_from(
     from: usize,
     store: &[u8],
     roots: &[u8],
-) -> Sought
+) -> Result<usize, SeekError>
     ensures { SeeksFrom (width_of kind) second cap from store.now (lent names.old marks.old line.old) (lent names.new marks.new line.new) (list_ids (width_of kind) roots.now) result }
 {
-    let begun = notes::note_list(
-        kind,
-        names,
-        marks,
-        line,
-        cap,
-        second,
-        from,
-        Grown::Count(0),
-        roots,
-    );
-    match begun {
-        Grown::Count(n) => search(kind, names, marks, line, cap, second, from, store, n),
-        Grown::NoRoom => Sought::NoRoom,
-    }
+    let begun = notes::note_list(kind, names, marks, line, cap, second, from, Some(0), roots);
+    let Some(n) = begun else {
+        return Err(SeekError::NoRoom);
+    };
+    search(kind, names, marks, line, cap, second, from, store, n)
 }

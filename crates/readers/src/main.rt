@@ -4,11 +4,10 @@
 
 ghost use Rattle.std.specs.Io.{ReadsAtMost};
 
-use commitgraph::parents::ParentList;
 use commitgraph::{Layout, parents, rows};
 use date::Seconds;
 use hash::Kind;
-use object::Reading;
+use object::{HeaderError, ReadableHeader};
 use std::rt::Files;
 use std::{fs, io};
 
@@ -21,21 +20,7 @@ fn number(rt: &impl Print, n: usize) -> io::Result<()> {
 }
 
 fn seconds(rt: &impl Print, s: Seconds) -> io::Result<()> {
-    if date::is_negative(s) {
-        text(rt, b"-")?;
-    }
-    host::print_decimal(rt, date::magnitude(s))
-}
-
-fn byte(rt: &impl Print, b: u8) -> io::Result<()> {
-    host::print_hex(rt, b as u64, 2)
-}
-
-fn hex(rt: &impl Print, s: &[u8]) -> io::Result<()> {
-    for i in 0..s.len() {
-        byte(rt, s[i])?;
-    }
-    Ok(())
+    print!(rt; "{}", s.0)
 }
 
 fn counted(rt: &impl Print, n: usize, s: Seconds) -> io::Result<()> {
@@ -54,12 +39,12 @@ fn stored(rt: &impl Print, store: &[u8], id: &[u8]) -> io::Result<()> {
         return Ok(());
     }
     match object::readable(Kind::Sha1, body) {
-        Reading::Readable { parents: n, stamp } => {
+        Ok(ReadableHeader { parents: n, stamp }) => {
             let s = stamp.seconds;
             counted(rt, n, s)
         }
-        Reading::Bad => text(rt, b"a bad header line"),
-        Reading::Crowded => text(rt, b"over 256 parents"),
+        Err(HeaderError::Bad) => text(rt, b"a bad header line"),
+        Err(HeaderError::Crowded) => text(rt, b"over 256 parents"),
     }
 }
 
@@ -70,14 +55,14 @@ fn listed(rt: &impl Print, graph: &[u8], l: Layout, p: usize) -> io::Result<()> 
     host::print_decimal(rt, level.0 as u64)?;
     text(rt, b"; graph: ")?;
     match parents::parents(Kind::Sha1, graph, l, p) {
-        ParentList::Good(n) => counted(rt, n, rows::seconds(Kind::Sha1, graph, l, p)),
-        ParentList::Corrupt => text(rt, b"a corrupt parent list"),
+        Some(n) => counted(rt, n, rows::seconds(Kind::Sha1, graph, l, p)),
+        None => text(rt, b"a corrupt parent list"),
     }
 }
 
 fn commits(rt: &impl Print, graph: &[u8], l: Layout, store: &[u8]) -> io::Result<()> {
     for p in 0..l.count {
-        hex(rt, rows::id_at(Kind::Sha1, graph, l, p))?;
+        host::print_bytes(rt, rows::id_at(Kind::Sha1, graph, l, p))?;
         listed(rt, graph, l, p)?;
         text(rt, b"; store: ")?;
         stored(rt, store, rows::id_at(Kind::Sha1, graph, l, p))?;

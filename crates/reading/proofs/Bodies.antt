@@ -1,5 +1,6 @@
 -- The parents of a body read in one pass: under a good tree line the ids that stand end to end are the header's first ones, as many as there are parent
 -- lines so far; and where no more stands, or one too many, the reading ends as the header says. Assumes nothing.
+use Rattle.std.specs.Prelude.{Option}
 use mathlib.Core.Path.{◌≡◌, refl, sym, ap, ◌∙◌}
 use Prim.Native.Nat.{ℕ, suc, ◌+◌, ◌*◌, ◌≤◌, ◌<◌}
 use mathlib.Core.Bool.{Bool, true, false, cond, not, ◌&&◌}
@@ -10,11 +11,12 @@ use lib.Dec.{eqb, ltb}
 use lib.ListN.{length, take, get_or, length-append, length-take}
 use lib.Seq.{length-take-le, take-suc, take_all}
 use borrow.Author.Tests.{eqb-true, eqb-false, ltb-true, ltb-false}
-use Rattle.hash.specs.Bytes.{Id, pick, set_down}
+use Rattle.hash.specs.Bytes.{Id, if_some, pick, set_down}
 use Rattle.hash.proofs.Bytes.{length_set_down}
 use Rattle.hash.proofs.Tests.{by_cases, clash}
 use Rattle.hash.proofs.Widths.{apart}
-use Rattle.object.specs.Ids.{id_room, id_in}
+use Rattle.object.specs.declared.ObjectId.{ObjectId}
+use Rattle.object.specs.Ids.{id_room, padded, id_in}
 use Rattle.object.specs.Header.{Header, header, most}
 use Rattle.object.proofs.IdBytes.{id_in_lem}
 use Rattle.object.proofs.Headers.{header_lines, no_header, parent-width}
@@ -26,8 +28,10 @@ use Rattle.walk.specs.Given.{joined}
 use Rattle.commititer.specs.Token.{here, token_at, parents_place}
 use Rattle.commititer.specs.declared.Place.{Place}
 use Rattle.commititer.specs.declared.State.TheVariants.{Parents as ParentLines}
-use Rattle.commititer.specs.Tokens.{is_parent, is_author, parent_down}
-use Rattle.commititer.specs.declared.TokenRead.{TokenRead}
+use Rattle.commititer.specs.Tokens.{is_parent, is_author, id_told, parent_down}
+use Rattle.commititer.specs.declared.Token.{Token}
+use Rattle.commititer.specs.declared.Token.TheVariants.{Parent}
+use Rattle.commititer.proofs.Agree.{a-parent, no-id}
 use Rattle.commititer.proofs.ByHeader.{parent-token, parent-told, crowd-told, stop-told}
 use Rattle.reading.specs.Body.{end_of, refusal_of, most_read, PutsParents, IsCrowded, EndsAfter, ReadsBody}
 use Rattle.reading.specs.declared.body.BodyEnd.{BodyEnd}
@@ -68,11 +72,11 @@ pub at_place : (w : ℕ) (d : List ℕ) (k : ℕ) {q : Place} → q ≡ parents_
 unfolding parents_place
 at_place w d k e = ap (λ (r : Place). token_at w d (here r.at ParentLines)) e
 
-module _ {w : ℕ} (small : w ≤ id_room) {d b b' : List ℕ} {k : ℕ} (p : Putting w d b b' k) {t : TokenRead} (read : t ≡ token_at w d (parents_place w k)) where
+module _ {w : ℕ} (small : w ≤ id_room) {d b b' : List ℕ} {k : ℕ} (p : Putting w d b b' k) {t : Token} (read : t ≡ token_at w d (parents_place w k)) where
   -- another parent
-  pub putting-next : (first : Bool) {b'' : List ℕ} → k < most_read first → is_parent t.token ≡ true → b'' ≡ parent_down w k t b' → Putting w d b b'' (k + 1)
+  pub putting-next : (first : Bool) {b'' : List ℕ} → k < most_read first → is_parent t ≡ true → b'' ≡ parent_down w k t b' → Putting w d b b'' (k + 1)
   putting-next first {b''} less stands put = record {
-    same_length = ap length placed ∙ length_set_down b' (w * k) (id_in w t.id.bytes) ∙ p.same_length;
+    same_length = ap length placed ∙ length_set_down b' (w * k) (id_in w x.bytes) ∙ p.same_length;
     within = λ g. omega (arith, there g);
     long = λ g. ap length (more g) ∙ simp length-append (omega (arith, p.long g, ap length (is g), parent-width w d g k (there g), next));
     down = λ g h.
@@ -84,7 +88,7 @@ module _ {w : ℕ} (small : w ≤ id_room) {d b b' : List ℕ} {k : ℕ} (p : Pu
         ∙ ap (λ (j : ℕ). set_down (set_down b 0 y) j (get_or (header w d).ids k [])) (sym (p.long g))
         ∙ set_down-next b y (get_or (header w d).ids k []) l
         ∙ ap (set_down b 0) (sym (more g));
-    past = λ j h. ap (λ (c : List ℕ). get_or c j 0) placed ∙ set_down-past b' (w * k) (id_in w t.id.bytes) j (omega (arith, h, next, narrow w t.id.bytes)) ∙ p.past j (omega (arith, h, next));
+    past = λ j h. ap (λ (c : List ℕ). get_or c j 0) placed ∙ set_down-past b' (w * k) (id_in w x.bytes) j (omega (arith, h, next, narrow w x.bytes)) ∙ p.past j (omega (arith, h, next));
   }
     where
       few : k < most
@@ -93,15 +97,23 @@ module _ {w : ℕ} (small : w ≤ id_room) {d b b' : List ℕ} {k : ℕ} (p : Pu
       next : w * (k + 1) ≡ w * k + w
       next = let n : k + 1 ≡ suc k = omega arith in ap (λ (j : ℕ). w * j) n ∙ mul-suc w k
 
-      placed : b'' ≡ set_down b' (w * k) (id_in w t.id.bytes)
-      placed = put ∙ ap (λ (c : Bool). pick c (set_down b' (w * k) (id_in w t.id.bytes)) b') stands
+      x : ObjectId
+      x = (a-parent t stands).0
+
+      token : t ≡ Parent x
+      token = (a-parent t stands).1
+
+      placed : b'' ≡ set_down b' (w * k) (id_in w x.bytes)
+      placed = put ∙ ap (λ (r : Token). parent_down w k r b') token
 
       there : (header w d).tree ≡ true → k < length (header w d).ids
       there g = parent-told w small d g k (p.within g) read few stands
 
-      is : (g : (header w d).tree ≡ true) → id_in w t.id.bytes ≡ get_or (header w d).ids k []
+      is : (g : (header w d).tree ≡ true) → id_in w x.bytes ≡ get_or (header w d).ids k []
       is g =
-          ap (λ (r : TokenRead). id_in w r.id.bytes) (read ∙ parent-token w small d g k (there g))
+          let same : Parent x ≡ Parent (record { bytes = padded (get_or (header w d).ids k []) }) = sym token ∙ read ∙ parent-token w small d g k (there g) in
+          let id : x ≡ record { bytes = padded (get_or (header w d).ids k []) } = cc in
+          ap (λ (y : ObjectId). id_in w y.bytes) id
           ∙ id_in_lem w (get_or (header w d).ids k []) (parent-width w d g k (there g)) small
 
       more : (header w d).tree ≡ true → joined (take (k + 1) (header w d).ids) ≡ joined (take k (header w d).ids) ++ get_or (header w d).ids k []
@@ -112,7 +124,7 @@ module _ {w : ℕ} (small : w ≤ id_room) {d b b' : List ℕ} {k : ℕ} (p : Pu
           ∙ joined_snoc (take k (header w d).ids) (get_or (header w d).ids k [])
 
   -- no other parent
-  pub putting-stop : (first : Bool) {b'' : List ℕ} → k < most_read first → is_parent t.token ≡ false → b'' ≡ parent_down w k t b' → PutsParents w first d b b'' k
+  pub putting-stop : (first : Bool) {b'' : List ℕ} → k < most_read first → is_parent t ≡ false → b'' ≡ parent_down w k t b' → PutsParents w first d b b'' k
   putting-stop first {b''} less none-stands put = record {
     count = λ g.
         let s = (stop-told w small d g k (p.within g) read none-stands).0 in
@@ -122,7 +134,7 @@ module _ {w : ℕ} (small : w ≤ id_room) {d b b' : List ℕ} {k : ℕ} (p : Pu
   }
     where
       kept : b'' ≡ b'
-      kept = put ∙ ap (λ (c : Bool). pick c (set_down b' (w * k) (id_in w t.id.bytes)) b') none-stands
+      kept = put ∙ ap (λ (o : Option ObjectId). if_some o b' (λ x. set_down b' (w * k) (id_in w x.bytes))) (no-id t none-stands)
 
 -- as many as are read at most
 pub putting_full : {w : ℕ} {d b b' : List ℕ} {k : ℕ} (first : Bool) → Putting w d b b' k → k ≡ most_read first → PutsParents w first d b b' k
@@ -139,35 +151,35 @@ not-crowded w d k less = record {
   is = λ g e. by_cases (header w d).crowded (λ c. absurd (omega (arith, e, (header_lines w d g).full c, less))) (λ c. sym c);
 }
 
-module _ {w : ℕ} (small : w ≤ id_room) (d : List ℕ) (k : ℕ) {t : TokenRead} (read : t ≡ token_at w d (parents_place w k)) where
-  pub crowded-told : most ≤ k → IsCrowded (header w d) k (is_parent t.token)
+module _ {w : ℕ} (small : w ≤ id_room) (d : List ℕ) (k : ℕ) {t : Token} (read : t ≡ token_at w d (parents_place w k)) where
+  pub crowded-told : most ≤ k → IsCrowded (header w d) k (is_parent t)
   crowded-told many = record {
     is = λ g e.
-        by_cases (is_parent t.token)
+        by_cases (is_parent t)
         (λ y. y ∙ sym (crowd-told w small d g k (omega (arith, e)) read many y).1)
         (λ n. n ∙ sym (stop-told w small d g k (omega (arith, e)) read n).1);
   }
 
   -- no parent stands there: the author decides
   module _ (g : (header w d).tree ≡ true) (e : k ≡ length (header w d).ids) (c : (header w d).crowded ≡ false) where
-    no-parent : is_parent t.token ≡ false
+    no-parent : is_parent t ≡ false
     no-parent =
-        by_cases (is_parent t.token)
+        by_cases (is_parent t)
         (λ y.
         by_cases (ltb k most)
         (λ l. absurd (omega (arith, e, parent-told w small d g k (omega (arith, e)) read (ltb-true k most l) y)))
         (λ l. clash (crowd-told w small d g k (omega (arith, e)) read (ltb-false k most l) y).1 c))
         (λ n. n)
 
-    author-is : is_author t.token ≡ (header w d).author
+    author-is : is_author t ≡ (header w d).author
     author-is = (stop-told w small d g k (omega (arith, e)) read no-parent).2
 
 pub ends-crowded : {h : Header} {k : ℕ} {r : Bool} → IsCrowded h k r → r ≡ true → EndsAfter h k Crowded
 unfolding end_of
 ends-crowded {h} i y = record { is = λ g e. sym (ap (λ (c : Bool). pick c Crowded (pick h.author Whole Unreadable)) (sym (i.is g e) ∙ y)) }
 
-pub ends_by_author : {w : ℕ} (small : w ≤ id_room) (d : List ℕ) (k : ℕ) {t : TokenRead} (read : t ≡ token_at w d (parents_place w k)) {r : Bool} → IsCrowded (header w d) k r → r ≡ false
-    → (a : Bool) → a ≡ is_author t.token → EndsAfter (header w d) k (pick a Whole Unreadable)
+pub ends_by_author : {w : ℕ} (small : w ≤ id_room) (d : List ℕ) (k : ℕ) {t : Token} (read : t ≡ token_at w d (parents_place w k)) {r : Bool} → IsCrowded (header w d) k r → r ≡ false
+    → (a : Bool) → a ≡ is_author t → EndsAfter (header w d) k (pick a Whole Unreadable)
 unfolding end_of
 ends_by_author {w} small d k {t} read i n a f = record {
   is = λ g e.

@@ -1,9 +1,9 @@
 -- Laws of rows: a row of the walk's world is a row of the file, its parents those at the positions that the file lists, each with the
 -- seconds of its own row. Assumes nothing.
+use Rattle.std.specs.Prelude.{None, Option, Some}
 use mathlib.Core.Path.{◌≡◌, refl, sym, ◌∙◌, ap, subst}
 use Prim.Native.Nat.{ℕ, zero, suc, ◌+◌, ◌*◌, ◌≤◌, ◌<◌}
 use mathlib.Core.Bool.{true}
-use mathlib.Core.Option.{Option, none, some}
 use mathlib.Core.List.{List, [], ◌∷◌, map}
 use native.Mathlib.Omega.{arith}
 use native.Mathlib.Nat.{le_of_suc-le-suc, not-suc-le-zero}
@@ -16,13 +16,11 @@ use Rattle.idlist.specs.IdList.{id_of}
 use Rattle.commitgraph.specs.Graph.{chunk_start, OIDL, graph_ok, graph_count, graph_ids, graph_id, graph_seconds, generation, graph_parents, layout_of, id_in, seconds_in, parents_in, parent_in, most_parents, parent_list_of}
 use Rattle.commitgraph.specs.declared.Layout.{Layout}
 use Rattle.commitgraph.specs.declared.Level.{Level}
-use Rattle.commitgraph.specs.declared.parents.ParentList.TheVariants.{Good, Corrupt as Broken}
 use Rattle.commitgraph.proofs.LayoutRight.{right}
 use Rattle.commitgraph.proofs.Edges.{good-list, parent_listed, parents-few, parents-at-below}
 use Rattle.walk.specs.Lookup.{corrupt, row, row_at}
-use Rattle.reading.specs.Row.{level_of, row_read_of, row_parent}
+use Rattle.reading.specs.Row.{row_with, level_of, row_read_of, row_parent}
 use Rattle.reading.specs.declared.row.RowRead.{RowRead}
-use Rattle.reading.specs.declared.row.RowRead.TheVariants.{Corrupt, Row as RowAt}
 
 -- ---- the parents of a row
 
@@ -32,7 +30,7 @@ parent_at w g q = (graph_id w g q, graph_seconds w g q)
 
 pub record RowParts (w : ℕ) (g : List ℕ) (p : ℕ) (ps : List (Id × ℤ)) (v : ℕ) (t : ℤ) : Type 0 where
   pub places : List ℕ
-  pub listed : graph_parents w g p ≡ some places
+  pub listed : graph_parents w g p ≡ Some places
   pub same : ps ≡ map (parent_at w g) places
   pub level : v ≡ generation w g p
   pub seconds : t ≡ graph_seconds w g p
@@ -42,8 +40,8 @@ unfolding row_at
 row-parts w g p ps v t e = go (graph_parents w g p) refl e
   where
     go : (o : Option (List ℕ)) → graph_parents w g p ≡ o → if_some o corrupt (λ qs. row (map (parent_at w g) qs) (generation w g p) (graph_seconds w g p)) ≡ row ps v t → RowParts w g p ps v t
-    go none k e' = let z : ◌≡◌ {A = ℕ} 0 1 = cc in absurd (omega arith)
-    go (some qs) k e' = record { places = qs; listed = k; same = cc; level = cc; seconds = cc }
+    go None k e' = let z : ◌≡◌ {A = ℕ} 0 1 = cc in absurd (omega arith)
+    go (Some qs) k e' = record { places = qs; listed = k; same = cc; level = cc; seconds = cc }
 
 -- an element of a list that was mapped
 mapped : {A B : Type 0} (f : A → B) (l : List A) (k : ℕ) (d : A) (e : B) → k < length l → get_or (map f l) k e ≡ f (get_or l k d)
@@ -87,7 +85,7 @@ module _ (w : ℕ) (g : List ℕ) (l : Layout) (p k : ℕ) where
   parent-by-place read e = e ∙ ap (id_in w g l) read
 
   -- of a good list it is the id at the position that the list has
-  pub row-parent-listed : (ps : List ℕ) → parents_in w g l p ≡ some ps → k < length ps → row_parent w g l p k ≡ id_in w g l (get_or ps k 0)
+  pub row-parent-listed : (ps : List ℕ) → parents_in w g l p ≡ Some ps → k < length ps → row_parent w g l p k ≡ id_in w g l (get_or ps k 0)
   unfolding row_parent
   row-parent-listed ps e h = ap (id_in w g l) (parent_listed w g l p k refl ps e h)
 
@@ -100,32 +98,36 @@ row_parent-right w g p k own ps v t f h = ap (λ (a : Id × ℤ). a.0) (parent-t
 -- ---- one row
 
 -- a parent list that was read
-pub list-good : (o : Option (List ℕ)) (n : ℕ) → Good n ≡ parent_list_of o → (ps : List ℕ) × (o ≡ some ps) × (n ≡ length ps)
-list-good none n e = let z : ◌≡◌ {A = ℕ} 0 1 = cc in absurd (omega arith)
-list-good (some ps) n e = (ps, refl, cc)
+pub list-good : (o : Option (List ℕ)) (n : ℕ) → Some n ≡ parent_list_of o → (ps : List ℕ) × (o ≡ Some ps) × (n ≡ length ps)
+list-good None n e = let z : ◌≡◌ {A = ℕ} 0 1 = cc in absurd (omega arith)
+list-good (Some ps) n e = (ps, refl, cc)
 
-pub list_broken : (o : Option (List ℕ)) → Broken ≡ parent_list_of o → o ≡ none
-list_broken none e = refl
-list_broken (some ps) e = let z : ◌≡◌ {A = ℕ} 0 1 = cc in absurd (omega arith)
+pub list_broken : (o : Option (List ℕ)) → None ≡ parent_list_of o → o ≡ None
+list_broken None e = refl
+list_broken (Some ps) e = let z : ◌≡◌ {A = ℕ} 0 1 = cc in absurd (omega arith)
 
-pub row_read : {n : ℕ} {v : Level} (w : Level) (o : Option (List ℕ)) → Good n ≡ parent_list_of o → v.0 ≡ w.0 → RowAt n v ≡ row_read_of w o
+pub row_read : {n : ℕ} {v : Level} (w : Level) (o : Option (List ℕ)) → Some n ≡ parent_list_of o → v.0 ≡ w.0 → Some (row_with n v) ≡ row_read_of w o
 row_read {n} {v} w o e f =
     let r = list-good o n e in
-    ap (λ (m : ℕ). RowAt m v) r.2 ∙ ap (λ (u : Level). RowAt (length r.0) u) same ∙ ap (row_read_of w) (sym r.1)
+    ap (λ (m : ℕ). Some (row_with m v)) r.2 ∙ ap (λ (u : Level). Some (row_with (length r.0) u)) same ∙ ap (row_read_of w) (sym r.1)
   where
     same : v ≡ w
     same = λ i. record { 0 = f i }
 
-pub row-corrupt : (w : Level) (o : Option (List ℕ)) → Broken ≡ parent_list_of o → Corrupt ≡ row_read_of w o
+pub row-corrupt : (w : Level) (o : Option (List ℕ)) → None ≡ parent_list_of o → None ≡ row_read_of w o
 row-corrupt w o e = ap (row_read_of w) (sym (list_broken o e))
 
+-- two rows that are one
+row-same : {m n : ℕ} {u v : Level} → ◌≡◌ {A = Option RowRead} (Some (row_with m u)) (Some (row_with n v)) → (m ≡ n) × (u ≡ v)
+row-same {m} {n} {u} {v} e = (ap (λ (o : Option RowRead). if_some o m (λ r. r.parents)) e, ap (λ (o : Option RowRead). if_some o u (λ r. r.level)) e)
+
 -- a count of a row's parents, 0 where the list is corrupt, is at most 256 on any bytes
-pub list-few : (w : ℕ) (g : List ℕ) (l : Layout) (p : ℕ) (count : Option (List ℕ) → ℕ) → count none ≡ 0 → ((ps : List ℕ) → count (some ps) ≡ length ps) → count (parents_in w g l p) ≤ most_parents
+pub list-few : (w : ℕ) (g : List ℕ) (l : Layout) (p : ℕ) (count : Option (List ℕ) → ℕ) → count None ≡ 0 → ((ps : List ℕ) → count (Some ps) ≡ length ps) → count (parents_in w g l p) ≤ most_parents
 list-few w g l p count z n = go (parents_in w g l p) refl
   where
     go : (o : Option (List ℕ)) → parents_in w g l p ≡ o → count o ≤ most_parents
-    go none e = omega (arith, z)
-    go (some ps) e = omega (arith, n ps, (good-list w g l p ps e).few)
+    go None e = omega (arith, z)
+    go (Some ps) e = omega (arith, n ps, (good-list w g l p ps e).few)
 
 -- the row at position p of the file g has n parents and the level v
 pub record RowIs (w : ℕ) (g : List ℕ) (p n : ℕ) (v : Level) : Type 0 where
@@ -136,34 +138,34 @@ pub record RowIs (w : ℕ) (g : List ℕ) (p n : ℕ) (v : Level) : Type 0 where
 
 module _ (w : ℕ) (g : List ℕ) (l : Layout) (p : ℕ) where
   -- a row that was read by the file's own layout is the walk's
-  pub row_is : {n : ℕ} {v : Level} {r : RowRead} → l ≡ layout_of w g → r ≡ row_read_of (level_of w g l p) (parents_in w g l p) → r ≡ RowAt n v → RowIs w g p n v
+  pub row_is : {n : ℕ} {v : Level} {r : Option RowRead} → l ≡ layout_of w g → r ≡ row_read_of (level_of w g l p) (parents_in w g l p) → r ≡ Some (row_with n v) → RowIs w g p n v
   unfolding row_at generation graph_parents
   row_is {n} {v} {r} own e f =
       go (graph_parents w g p) refl (sym f ∙ e ∙ ap (λ (m : Layout). row_read_of (level_of w g m p) (parents_in w g m p)) own)
     where
-      go : (o : Option (List ℕ)) → graph_parents w g p ≡ o → RowAt n v ≡ row_read_of (level_of w g (layout_of w g) p) o → RowIs w g p n v
-      go none k h = let z : ◌≡◌ {A = ℕ} 0 1 = cc in absurd (omega arith)
-      go (some qs) k h =
-          let same : v ≡ level_of w g (layout_of w g) p = cc in
+      go : (o : Option (List ℕ)) → graph_parents w g p ≡ o → Some (row_with n v) ≡ row_read_of (level_of w g (layout_of w g) p) o → RowIs w g p n v
+      go None k h = let z : ◌≡◌ {A = ℕ} 0 1 = cc in absurd (omega arith)
+      go (Some qs) k h =
+          let same : v ≡ level_of w g (layout_of w g) p = (row-same h).1 in
           record {
             parents = map (parent_at w g) qs;
             seconds = graph_seconds w g p;
             is = rw k (ap (λ (c : ℕ). row (map (parent_at w g) qs) c (graph_seconds w g p)) (sym (ap (λ (u : Level). u.0) same)));
-            count = let m : n ≡ length qs = cc in m ∙ sym (length-map qs (parent_at w g));
+            count = (row-same h).0 ∙ sym (length-map qs (parent_at w g));
           }
 
-  pub row-torn : {r : RowRead} → l ≡ layout_of w g → r ≡ row_read_of (level_of w g l p) (parents_in w g l p) → r ≡ Corrupt → row_at w g p ≡ corrupt
+  pub row-torn : {r : Option RowRead} → l ≡ layout_of w g → r ≡ row_read_of (level_of w g l p) (parents_in w g l p) → r ≡ None → row_at w g p ≡ corrupt
   unfolding row_at graph_parents
   row-torn {r} own e f = go (graph_parents w g p) refl (sym f ∙ e ∙ ap (λ (m : Layout). row_read_of (level_of w g m p) (parents_in w g m p)) own)
     where
-      go : (o : Option (List ℕ)) → graph_parents w g p ≡ o → Corrupt ≡ row_read_of (level_of w g (layout_of w g) p) o → row_at w g p ≡ corrupt
-      go none k h = rw k
-      go (some qs) k h = let z : ◌≡◌ {A = ℕ} 0 1 = cc in absurd (omega arith)
+      go : (o : Option (List ℕ)) → graph_parents w g p ≡ o → None ≡ row_read_of (level_of w g (layout_of w g) p) o → row_at w g p ≡ corrupt
+      go None k h = rw k
+      go (Some qs) k h = let z : ◌≡◌ {A = ℕ} 0 1 = cc in absurd (omega arith)
 
   -- on any bytes it has at most 256 parents
-  pub row-counted : {n : ℕ} {v : Level} {r : RowRead} → r ≡ row_read_of (level_of w g l p) (parents_in w g l p) → r ≡ RowAt n v → n ≤ most_parents
+  pub row-counted : {n : ℕ} {v : Level} {r : Option RowRead} → r ≡ row_read_of (level_of w g l p) (parents_in w g l p) → r ≡ Some (row_with n v) → n ≤ most_parents
   row-counted {n} {v} e f = go (parents_in w g l p) refl (sym f ∙ e)
     where
-      go : (o : Option (List ℕ)) → parents_in w g l p ≡ o → RowAt n v ≡ row_read_of (level_of w g l p) o → n ≤ most_parents
-      go none k h = let z : ◌≡◌ {A = ℕ} 0 1 = cc in absurd (omega arith)
-      go (some qs) k h = let m : n ≡ length qs = cc in omega (arith, m, (good-list w g l p qs k).few)
+      go : (o : Option (List ℕ)) → parents_in w g l p ≡ o → Some (row_with n v) ≡ row_read_of (level_of w g l p) o → n ≤ most_parents
+      go None k h = let z : ◌≡◌ {A = ℕ} 0 1 = cc in absurd (omega arith)
+      go (Some qs) k h = omega (arith, (row-same h).0, (good-list w g l p qs k).few)

@@ -1,9 +1,10 @@
 -- One commit read whole: a row tells what `read` of the walk has from the row, a body what it has from the header, and nothing where
 -- neither file has the commit. Assumes nothing.
+use Rattle.object.specs.declared.HeaderError.TheVariants.{Bad, Crowded}
+use Rattle.std.specs.Prelude.{None, Option, Some, Err}
 use mathlib.Core.Path.{◌≡◌, refl, sym, ◌∙◌, ap, subst}
 use Prim.Native.Nat.{ℕ, ◌≤◌, ◌<◌}
 use mathlib.Core.Bool.{Bool, true, false, cond}
-use mathlib.Core.Option.{Option, none, some}
 use mathlib.Core.List.{List, [], map}
 use native.Mathlib.Omega.{arith}
 use lib.ListN.{length, get_or, length-map, get_or-map}
@@ -12,10 +13,8 @@ use Rattle.hash.specs.Bytes.{Id, if_some, pick}
 use Rattle.hash.proofs.Tests.{by_cases}
 use Rattle.date.specs.declared.Seconds.{Seconds}
 use Rattle.object.specs.Header.{Header, header, most, stamped}
-use Rattle.object.specs.Read.{read_as, reading_of}
+use Rattle.object.specs.Read.{read_as, reading_of, Reading}
 use Rattle.object.specs.declared.ObjectId.{ObjectId}
-use Rattle.object.specs.declared.Reading.{Reading}
-use Rattle.object.specs.declared.Reading.TheVariants.{Bad, Crowded}
 use Rattle.object.proofs.Headers.{header_lines, no_header}
 use Rattle.odb.specs.Store.{store_is_ok}
 use Rattle.odb.specs.Lookup.{part_of}
@@ -23,9 +22,7 @@ use Rattle.odb.specs.declared.Located.TheVariants.{Body as BodyAt}
 use Rattle.commitgraph.specs.Graph.{graph_seconds, generation, graph_parents, layout_of, parents_in, parent_list_of}
 use Rattle.commitgraph.specs.declared.Layout.{Layout}
 use Rattle.commitgraph.specs.declared.Level.{Level}
-use Rattle.commitgraph.specs.declared.parents.ParentList.TheVariants.{Good, Corrupt}
 use Rattle.commit.specs.Find.{GoodCache, found_in, FindsCommit}
-use Rattle.commit.specs.declared.Cache.{Cache}
 use Rattle.commit.specs.declared.Either.{Either}
 use Rattle.commit.specs.declared.Either.TheVariants.{CachedCommit, CommitRefIter, Absent}
 use Rattle.walk.specs.Lookup.{World, Row as ModelRow, corrupt, row, row_at, Pair, no_generation, Read, fail, good, from_store, read_row, read}
@@ -46,7 +43,7 @@ use Rattle.reading.proofs.Lines.{parent-right}
 
 -- ---- a row
 
-pub row-good : (p : ℕ) {n : ℕ} {v : Level} {t : Seconds} (w : GenThenTime) (o : Option (List ℕ)) → Good n ≡ parent_list_of o → v.0 ≡ w.generation.0 → t.0 ≡ w.time.0
+pub row-good : (p : ℕ) {n : ℕ} {v : Level} {t : Seconds} (w : GenThenTime) (o : Option (List ℕ)) → Some n ≡ parent_list_of o → v.0 ≡ w.generation.0 → t.0 ≡ w.time.0
     → Row p n (record { generation = v; time = t }) ≡ row_commit p w o
 row-good p {n} {v} {t} w o e f k =
     let r = list-good o n e in
@@ -55,7 +52,7 @@ row-good p {n} {v} {t} w o e f k =
     same : ◌≡◌ {A = GenThenTime} (record { generation = v; time = t }) w
     same = λ i. record { generation = record { 0 = f i }; time = record { 0 = k i } }
 
-pub row-bad : (p : ℕ) (w : GenThenTime) (o : Option (List ℕ)) → Corrupt ≡ parent_list_of o → Failed CommitUnreadable ≡ row_commit p w o
+pub row-bad : (p : ℕ) (w : GenThenTime) (o : Option (List ℕ)) → None ≡ parent_list_of o → Failed CommitUnreadable ≡ row_commit p w o
 row-bad p w o e = ap (row_commit p w) (sym (list_broken o e))
 
 tells_row : (w : ℕ) (v : World) (x : Id) (g : List ℕ) (p : ℕ) → Tells (row_commit p (pair_in w g (layout_of w g) p) (graph_parents w g p)) (read_row v x (row_at w g p))
@@ -63,19 +60,19 @@ unfolding row_at read_row generation graph_seconds
 tells_row w v x g p = go (graph_parents w g p) refl
   where
     go : (o : Option (List ℕ)) → graph_parents w g p ≡ o → Tells (row_commit p (pair_in w g (layout_of w g) p) o) (read_row v x (row_at w g p))
-    go none k = rw k
-    go (some qs) k = record {
+    go None k = rw k
+    go (Some qs) k = record {
       parents = map (λ q. q.0) (map (parent_at w g) qs);
       is = rw k;
       count = sym (length-map (map (parent_at w g) qs) (λ q. q.0) ∙ length-map qs (parent_at w g));
     }
 
 names-row : (p a b : ℕ) (w : GenThenTime) (o : Option (List ℕ)) {e : Either} → e ≡ CachedCommit p a b → Names (row_commit p w o) e
-names-row p a b w none f = tt
-names-row p a b w (some qs) f = (a, b, f)
+names-row p a b w None f = tt
+names-row p a b w (Some qs) f = (a, b, f)
 
 -- a row that was found
-row_is_read : {w : ℕ} {c : Cache} {g s : List ℕ} {x : Id} (p a b : ℕ) → GoodCache w c g → found_in w c g s x ≡ CachedCommit p a b → IsRead w c g s x (commit_at w c g s (CachedCommit p a b))
+row_is_read : {w : ℕ} {c : Option Layout} {g s : List ℕ} {x : Id} (p a b : ℕ) → GoodCache w c g → found_in w c g s x ≡ CachedCommit p a b → IsRead w c g s x (commit_at w c g s (CachedCommit p a b))
 unfolding read graph_parents
 row_is_read {w} {c} {g} {s} {x} p a b t f =
     let r : RowFound w c g s x p = found-row w c g s x p a b t f in
@@ -101,7 +98,7 @@ told-failed : (a e n : ℕ) (r : Refusal) → BodyTold a e n (fail r) (Failed r)
 told-failed a e n r = record { tells = refl; few = omega arith; names = λ f k. tt }
 
 -- the header's lines decide in their order
-pub body-told : (a e : ℕ) (h : Header) → BodyTold a e (length h.ids) (from_store (some h)) (body_commit a e (reading_of h))
+pub body-told : (a e : ℕ) (h : Header) → BodyTold a e (length h.ids) (from_store (Some h)) (body_commit a e (reading_of h))
 unfolding reading_of from_store
 body-told a e h = go h.tree h.crowded h.author h.seconds
   where
@@ -111,12 +108,12 @@ body-told a e h = go h.tree h.crowded h.author h.seconds
     go : (t c u : Bool) (o : Option ℤ)
         → BodyTold a e (length h.ids)
         (cond t (cond c (fail TooManyParents) (cond u (whole o) (fail CommitUnreadable))) (fail CommitUnreadable))
-        (body_commit a e (pick t (pick c Crowded (pick u (read_as (length h.ids) (stamped o h.zone)) Bad)) Bad))
+        (body_commit a e (pick t (pick c (Err Crowded) (pick u (read_as (length h.ids) (stamped o h.zone)) (Err Bad))) (Err Bad)))
     go false c u o = told-failed a e (length h.ids) CommitUnreadable
     go true true u o = told-failed a e (length h.ids) TooManyParents
     go true false false o = told-failed a e (length h.ids) CommitUnreadable
-    go true false true none = told-failed a e (length h.ids) CommitUnreadable
-    go true false true (some s) = record {
+    go true false true None = told-failed a e (length h.ids) CommitUnreadable
+    go true false true (Some s) = record {
       tells = record { parents = h.ids; is = refl; count = refl };
       few = omega arith;
       names = λ f k. k;
@@ -130,7 +127,7 @@ header-few w b =
     (λ g. let n : length (header w b).ids ≡ 0 = ap (λ (h : Header). length h.ids) (no_header w b g) in omega arith)
 
 -- a body that was found
-body_is_read : {w : ℕ} {c : Cache} {g s : List ℕ} {x : Id} (a e : ℕ) → store_is_ok w s ≡ true → found_in w c g s x ≡ CommitRefIter a e → IsRead w c g s x (commit_at w c g s (CommitRefIter a e))
+body_is_read : {w : ℕ} {c : Option Layout} {g s : List ℕ} {x : Id} (a e : ℕ) → store_is_ok w s ≡ true → found_in w c g s x ≡ CommitRefIter a e → IsRead w c g s x (commit_at w c g s (CommitRefIter a e))
 unfolding read read_row
 body_is_read {w} {c} {g} {s} {x} a e ok f =
     let r = found-body w c g s x a e ok f in
@@ -138,17 +135,17 @@ body_is_read {w} {c} {g} {s} {x} a e ok f =
     record { tells = rw (r.0, r.1) b.tells; names = b.names (found_in w c g s x) f }
 
 -- neither
-none_is_read : {w : ℕ} {c : Cache} {g s : List ℕ} {x : Id} → found_in w c g s x ≡ Absent → IsRead w c g s x (Failed CommitNotFound)
+none_is_read : {w : ℕ} {c : Option Layout} {g s : List ℕ} {x : Id} → found_in w c g s x ≡ Absent → IsRead w c g s x (Failed CommitNotFound)
 unfolding read read_row from_store
 none_is_read {w} {c} {g} {s} {x} f = let r = found-absent w c g s x f in record { tells = rw (r.0, r.1); names = tt }
 
 -- ---- what `find` found, read
 
-pub reads-found : {w : ℕ} {c : Cache} {g s : List ℕ} {x : Id} {e : Either} {r : Commit} (f : Either) → FindsCommit w c g s x e → e ≡ f → r ≡ commit_at w c g s f → ReadsCommit w c g s x r
+pub reads-found : {w : ℕ} {c : Option Layout} {g s : List ℕ} {x : Id} {e : Either} {r : Commit} (f : Either) → FindsCommit w c g s x e → e ≡ f → r ≡ commit_at w c g s f → ReadsCommit w c g s x r
 reads-found {w} {c} {g} {s} {x} f k i e = record { found = f; finds = subst (FindsCommit w c g s x) i k; is = e }
 
 -- in good files it is what the walk's world has
-pub commit-right : {w : ℕ} {c : Cache} {g s : List ℕ} {x : Id} {r : Commit} → ReadsCommit w c g s x r → store_is_ok w s ≡ true → GoodCache w c g → IsRead w c g s x r
+pub commit-right : {w : ℕ} {c : Option Layout} {g s : List ℕ} {x : Id} {r : Commit} → ReadsCommit w c g s x r → store_is_ok w s ≡ true → GoodCache w c g → IsRead w c g s x r
 commit-right {w} {c} {g} {s} {x} {r} k ok t = subst (IsRead w c g s x) (sym k.is) (go k.found (sym (k.finds.good ok t)))
   where
     go : (f : Either) → found_in w c g s x ≡ f → IsRead w c g s x (commit_at w c g s f)
@@ -157,7 +154,7 @@ commit-right {w} {c} {g} {s} {x} {r} k ok t = subst (IsRead w c g s x) (sym k.is
     go Absent e = none_is_read e
 
 -- on any bytes it has at most 256 parents
-pub commit-few : {w : ℕ} {c : Cache} {g s : List ℕ} {x : Id} {r : Commit} → ReadsCommit w c g s x r → parent_count r ≤ most
+pub commit-few : {w : ℕ} {c : Option Layout} {g s : List ℕ} {x : Id} {r : Commit} → ReadsCommit w c g s x r → parent_count r ≤ most
 commit-few {w} {c} {g} {s} {x} {r} k = subst (λ (m : Commit). parent_count m ≤ most) (sym k.is) (go k.found)
   where
     go : (f : Either) → parent_count (commit_at w c g s f) ≤ most
@@ -176,10 +173,10 @@ from_row w v x g p ps q e = go (graph_parents w g p) refl e
     go : (o : Option (List ℕ)) → graph_parents w g p ≡ o
         → read_row v x (if_some o corrupt (λ qs. row (map (parent_at w g) qs) (generation w g p) (graph_seconds w g p))) ≡ good ps q
         → (qs : List (Id × ℤ)) × (l : ℕ) × (t : ℤ) × (row_at w g p ≡ row qs l t) × (ps ≡ map (λ a. a.0) qs)
-    go none k e' = let z : ◌≡◌ {A = ℕ} 0 1 = cc in absurd (omega arith)
-    go (some qs) k e' = (map (parent_at w g) qs, generation w g p, graph_seconds w g p, rw k, cc)
+    go None k e' = let z : ◌≡◌ {A = ℕ} 0 1 = cc in absurd (omega arith)
+    go (Some qs) k e' = (map (parent_at w g) qs, generation w g p, graph_seconds w g p, rw k, cc)
 
-pub from-body : (h : Header) (ps : List Id) (q : Pair) → from_store (some h) ≡ good ps q → (h.tree ≡ true) × (h.ids ≡ ps)
+pub from-body : (h : Header) (ps : List Id) (q : Pair) → from_store (Some h) ≡ good ps q → (h.tree ≡ true) × (h.ids ≡ ps)
 unfolding from_store
 from-body h ps q e = go h.tree h.crowded h.author h.seconds refl e
   where
@@ -192,22 +189,22 @@ from-body h ps q e = go h.tree h.crowded h.author h.seconds refl e
     go false c u o k f = let z : ◌≡◌ {A = ℕ} 0 1 = cc in absurd (omega arith)
     go true true u o k f = let z : ◌≡◌ {A = ℕ} 0 1 = cc in absurd (omega arith)
     go true false false o k f = let z : ◌≡◌ {A = ℕ} 0 1 = cc in absurd (omega arith)
-    go true false true none k f = let z : ◌≡◌ {A = ℕ} 0 1 = cc in absurd (omega arith)
-    go true false true (some s) k f = (k, cc)
+    go true false true None k f = let z : ◌≡◌ {A = ℕ} 0 1 = cc in absurd (omega arith)
+    go true false true (Some s) k f = (k, cc)
 
-pub parent_of_row : {w : ℕ} {c : Cache} {g s : List ℕ} {k : ℕ} {y : Id} {r : ObjectId} {l : Layout} (p n : ℕ) (v : GenThenTime) → l ≡ layout_under c → y ≡ row_parent w g l p k → r.bytes ≡ padded y
+pub parent_of_row : {w : ℕ} {c : Option Layout} {g s : List ℕ} {k : ℕ} {y : Id} {r : ObjectId} {l : Layout} (p n : ℕ) (v : GenThenTime) → l ≡ layout_under c → y ≡ row_parent w g l p k → r.bytes ≡ padded y
     → GivesParent w c g s (Row p n v) k r
 parent_of_row {w} {g = g} {k = k} p n v own give e = record { is = e ∙ ap padded (give ∙ ap (λ (m : Layout). row_parent w g m p k) own) }
 
-pub parent_of_body : {w : ℕ} {c : Cache} {g s : List ℕ} {k : ℕ} {b : List ℕ} {r : ObjectId} (a e n : ℕ) (v : GenThenTime) → b ≡ part_of s (BodyAt a e) → r.bytes ≡ parent_id_at w b k
+pub parent_of_body : {w : ℕ} {c : Option Layout} {g s : List ℕ} {k : ℕ} {b : List ℕ} {r : ObjectId} (a e n : ℕ) (v : GenThenTime) → b ≡ part_of s (BodyAt a e) → r.bytes ≡ parent_id_at w b k
     → GivesParent w c g s (Body a e n v) k r
 parent_of_body {w} {k = k} a e n v same give = record { is = give ∙ ap (λ (d : List ℕ). parent_id_at w d k) same }
 
-pub parent_of_failed : {w : ℕ} {c : Cache} {g s : List ℕ} {k : ℕ} {r : ObjectId} (n : Refusal) → r.bytes ≡ no_bytes → GivesParent w c g s (Failed n) k r
+pub parent_of_failed : {w : ℕ} {c : Option Layout} {g s : List ℕ} {k : ℕ} {r : ObjectId} (n : Refusal) → r.bytes ≡ no_bytes → GivesParent w c g s (Failed n) k r
 parent_of_failed n e = record { is = e }
 
 -- in good files: of a row, the id in its value is the part of the file, since that has an id's width
-row-parent_at : (w : ℕ) → w ≤ id_room → (c : Cache) (g s : List ℕ) (k : ℕ) (x : Id) {z : Id} (p a b : ℕ) → GoodCache w c g → found_in w c g s x ≡ CachedCommit p a b → z ≡ padded (row_parent w g (layout_under c) p k)
+row-parent_at : (w : ℕ) → w ≤ id_room → (c : Option Layout) (g s : List ℕ) (k : ℕ) (x : Id) {z : Id} (p a b : ℕ) → GoodCache w c g → found_in w c g s x ≡ CachedCommit p a b → z ≡ padded (row_parent w g (layout_under c) p k)
     → (ps : List Id) (q : Pair) → read (world_under w c g s) x ≡ good ps q → k < length ps → id_in w z ≡ get_or ps k []
 unfolding read
 row-parent_at w small c g s k x p a b t names e ps q f h =
@@ -221,7 +218,7 @@ row-parent_at w small c g s k x p a b t names e ps q f h =
     ap (id_in w) e ∙ id_in_lem w y (ap length here ∙ wide) small ∙ here ∙ sym (get_or-map (λ (a : Id × ℤ). a.0) parts.0 k ([], pos 0))
     ∙ ap (λ (l : List Id). get_or l k []) (sym parts.4)
 
-body-parent_at : (w : ℕ) → w ≤ id_room → (c : Cache) (g s : List ℕ) (k : ℕ) (x : Id) {z : Id} (a e : ℕ) → store_is_ok w s ≡ true → found_in w c g s x ≡ CommitRefIter a e → z ≡ parent_id_at w (part_of s (BodyAt a e)) k
+body-parent_at : (w : ℕ) → w ≤ id_room → (c : Option Layout) (g s : List ℕ) (k : ℕ) (x : Id) {z : Id} (a e : ℕ) → store_is_ok w s ≡ true → found_in w c g s x ≡ CommitRefIter a e → z ≡ parent_id_at w (part_of s (BodyAt a e)) k
     → (ps : List Id) (q : Pair) → read (world_under w c g s) x ≡ good ps q → k < length ps → id_in w z ≡ get_or ps k []
 unfolding read read_row
 body-parent_at w small c g s k x a e ok names give ps q f h =
@@ -229,7 +226,7 @@ body-parent_at w small c g s k x a e ok names give ps q f h =
     let parts = from-body (header w (part_of s (BodyAt a e))) ps q (rw (found.0, found.1) at f) in
     ap (id_in w) give ∙ parent-right w small (part_of s (BodyAt a e)) k parts.0 (omega (arith, ap length parts.1)) ∙ ap (λ (l : List Id). get_or l k []) parts.1
 
-pub commit_parent_right : {w : ℕ} → w ≤ id_room → {c : Cache} {g s : List ℕ} {m : Commit} {k : ℕ} {r : ObjectId} → GivesParent w c g s m k r → store_is_ok w s ≡ true → GoodCache w c g → (x : Id) → IsRead w c g s x m
+pub commit_parent_right : {w : ℕ} → w ≤ id_room → {c : Option Layout} {g s : List ℕ} {m : Commit} {k : ℕ} {r : ObjectId} → GivesParent w c g s m k r → store_is_ok w s ≡ true → GoodCache w c g → (x : Id) → IsRead w c g s x m
     → (ps : List Id) (q : Pair) → read (world_under w c g s) x ≡ good ps q → k < length ps → id_in w r.bytes ≡ get_or ps k []
 commit_parent_right {w} small {c} {g} {s} {m} {k} {r} v ok t x is ps q f h = go m v.is is
   where

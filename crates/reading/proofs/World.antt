@@ -1,9 +1,9 @@
 -- What the two files say of an id through the cache: a kept graph says what the walk's world says, and what `find` finds is the row or the
 -- body that the world has. Assumes nothing.
+use Rattle.std.specs.Prelude.{None, Option, Some}
 use mathlib.Core.Path.{◌≡◌, refl, sym, ◌∙◌, ap}
 use Prim.Native.Nat.{ℕ}
 use mathlib.Core.Bool.{Bool, true, false, ◌||◌}
-use mathlib.Core.Option.{Option, none, some}
 use mathlib.Core.List.{List, [], ◌∷◌}
 use native.Mathlib.Omega.{arith}
 use lib.ListN.{length}
@@ -19,8 +19,6 @@ use Rattle.odb.proofs.Lookup.{part_of-yes}
 use Rattle.commitgraph.specs.Graph.{graph_ok, layout_of, row_start, row_end}
 use Rattle.commitgraph.specs.declared.Layout.{Layout}
 use Rattle.commit.specs.Find.{GoodCache, row_of, in_graph, in_store, found_in}
-use Rattle.commit.specs.declared.Cache.{Cache}
-use Rattle.commit.specs.declared.Cache.TheVariants.{Graph, NoGraph}
 use Rattle.commit.specs.declared.Either.{Either}
 use Rattle.commit.specs.declared.Either.TheVariants.{CachedCommit, CommitRefIter, Absent}
 use Rattle.walk.specs.Lookup.{no_row, row_at, world_of}
@@ -30,16 +28,16 @@ use Rattle.reading.specs.Files.{cache_with, cache_of, layout_under, world_under}
 
 -- ---- the cache
 
-pub cache-dropped : (g : List ℕ) (l : Layout) (kept : Bool) → kept ≡ false → NoGraph ≡ cache_with g l kept
+pub cache-dropped : (g : List ℕ) (l : Layout) (kept : Bool) → kept ≡ false → None ≡ cache_with g l kept
 unfolding cache_with
 cache-dropped g l kept e = rw e
 
-pub cache-empty : (g : List ℕ) (l : Layout) (kept : Bool) → length g ≡ 0 → kept ≡ true → NoGraph ≡ cache_with g l kept
+pub cache-empty : (g : List ℕ) (l : Layout) (kept : Bool) → length g ≡ 0 → kept ≡ true → None ≡ cache_with g l kept
 unfolding cache_with is_empty
 cache-empty [] l kept h e = rw e
 cache-empty (x ∷ g) l kept h e = absurd (omega arith)
 
-pub cache_used : (g : List ℕ) (l : Layout) (kept : Bool) → (length g ≡ 0 → ⊥) → kept ≡ true → Graph l ≡ cache_with g l kept
+pub cache_used : (g : List ℕ) (l : Layout) (kept : Bool) → (length g ≡ 0 → ⊥) → kept ≡ true → Some l ≡ cache_with g l kept
 unfolding cache_with is_empty
 cache_used [] l kept h e = absurd (h refl)
 cache_used (x ∷ g) l kept h e = rw e
@@ -69,56 +67,56 @@ pub dropped-world : (w : ℕ) (g s : List ℕ) (x : Id) → (world_under w (cach
 unfolding cache_with world_under
 dropped-world w g s x = refl
 
-pub same_store : (w : ℕ) (c : Cache) (g s : List ℕ) (x : Id) → (world_under w c g s).store x ≡ (world_of w s g).store x
+pub same_store : (w : ℕ) (c : Option Layout) (g s : List ℕ) (x : Id) → (world_under w c g s).store x ≡ (world_of w s g).store x
 unfolding world_under
-same_store w (Graph l) g s x = refl
-same_store w NoGraph g s x = refl
+same_store w (Some l) g s x = refl
+same_store w None g s x = refl
 
-pub graph-under : (w : ℕ) (c : Cache) (g s : List ℕ) (x : Id) → (world_under w c g s).graph x ≡ if_some (row_of w c g x) no_row (λ p. row_at w g p)
+pub graph-under : (w : ℕ) (c : Option Layout) (g s : List ℕ) (x : Id) → (world_under w c g s).graph x ≡ if_some (row_of w c g x) no_row (λ p. row_at w g p)
 unfolding world_under world_of row_of
-graph-under w (Graph l) g s x = refl
-graph-under w NoGraph g s x = refl
+graph-under w (Some l) g s x = refl
+graph-under w None g s x = refl
 
 -- ---- the store
 
 -- a body that the store's lookup names is the body under the id
-pub body-stored : (w : ℕ) (s : List ℕ) → store_is_ok w s ≡ true → (g : List ℕ) (x : Id) (a e : ℕ) → Body a e ≡ located_of w s (find_entry w s x) → (world_of w s g).store x ≡ some (header w (part_of s (Body a e)))
+pub body-stored : (w : ℕ) (s : List ℕ) → store_is_ok w s ≡ true → (g : List ℕ) (x : Id) (a e : ℕ) → Body a e ≡ located_of w s (find_entry w s x) → (world_of w s g).store x ≡ Some (header w (part_of s (Body a e)))
 unfolding world_of store_find body at
 body-stored w s ok g x a e f = go (find_entry w s x) refl f
   where
-    go : (o : Option ℕ) → find_entry w s x ≡ o → Body a e ≡ located_of w s o → (world_of w s g).store x ≡ some (header w (part_of s (Body a e)))
-    go none k f' = let z : ◌≡◌ {A = ℕ} 0 1 = cc in absurd (omega arith)
-    go (some j) k f' =
+    go : (o : Option ℕ) → find_entry w s x ≡ o → Body a e ≡ located_of w s o → (world_of w s g).store x ≡ Some (header w (part_of s (Body a e)))
+    go None k f' = let z : ◌≡◌ {A = ℕ} 0 1 = cc in absurd (omega arith)
+    go (Some j) k f' =
         let h = (entry-hit w s x j k).0 in
         let u : a ≡ body_start w s j = cc in
         let v : e ≡ body_end w s j = cc in
-        rw (k, u, v) (ap (λ (b : List ℕ). some (header w b)) (part_of-yes s (body_start w s j) (body_end w s j) (start-end w s ok j h) (end-within w s ok j h)))
+        rw (k, u, v) (ap (λ (b : List ℕ). Some (header w b)) (part_of-yes s (body_start w s j) (body_end w s j) (start-end w s ok j h) (end-within w s ok j h)))
 
-pub not-stored : (w : ℕ) (s g : List ℕ) (x : Id) → Nowhere ≡ located_of w s (find_entry w s x) → (world_of w s g).store x ≡ none
+pub not-stored : (w : ℕ) (s g : List ℕ) (x : Id) → Nowhere ≡ located_of w s (find_entry w s x) → (world_of w s g).store x ≡ None
 unfolding world_of store_find
 not-stored w s g x f = go (find_entry w s x) refl f
   where
-    go : (o : Option ℕ) → find_entry w s x ≡ o → Nowhere ≡ located_of w s o → (world_of w s g).store x ≡ none
-    go none k f' = rw k
-    go (some j) k f' = let z : ◌≡◌ {A = ℕ} 0 1 = cc in absurd (omega arith)
+    go : (o : Option ℕ) → find_entry w s x ≡ o → Nowhere ≡ located_of w s o → (world_of w s g).store x ≡ None
+    go None k f' = rw k
+    go (Some j) k f' = let z : ◌≡◌ {A = ℕ} 0 1 = cc in absurd (omega arith)
 
 -- the same of what `locate` answers
 pub located_body : {w : ℕ} {s : List ℕ} {x : Id} {o : Located} {b : List ℕ} (g : List ℕ) (a e : ℕ) → Locates w s x o → o ≡ Body a e → b ≡ part_of s (Body a e) → store_is_ok w s ≡ true
-    → (world_of w s g).store x ≡ some (header w b)
-located_body {w} {s} {x} g a e l p f ok = body-stored w s ok g x a e (sym p ∙ l.good ok) ∙ ap (λ (c : List ℕ). some (header w c)) (sym f)
+    → (world_of w s g).store x ≡ Some (header w b)
+located_body {w} {s} {x} g a e l p f ok = body-stored w s ok g x a e (sym p ∙ l.good ok) ∙ ap (λ (c : List ℕ). Some (header w c)) (sym f)
 
-pub located_none : {w : ℕ} {s : List ℕ} {x : Id} {o : Located} (g : List ℕ) → Locates w s x o → o ≡ Nowhere → store_is_ok w s ≡ true → (world_of w s g).store x ≡ none
+pub located_none : {w : ℕ} {s : List ℕ} {x : Id} {o : Located} (g : List ℕ) → Locates w s x o → o ≡ Nowhere → store_is_ok w s ≡ true → (world_of w s g).store x ≡ None
 located_none {w} {s} {x} g l p ok = not-stored w s g x (sym p ∙ l.good ok)
 
 -- and of what `try_find` answers, the body itself
 module _ {w : ℕ} {s : List ℕ} {x : Id} {f : Bool} {b : List ℕ} (g : List ℕ) (l : TriesFind w s x f b) where
-  pub tried-body : f ≡ true → store_is_ok w s ≡ true → (world_of w s g).store x ≡ some (header w b)
+  pub tried-body : f ≡ true → store_is_ok w s ≡ true → (world_of w s g).store x ≡ Some (header w b)
   unfolding world_of
-  tried-body p ok = ap (λ (o : Option (List ℕ)). if_some o none (λ c. some (header w c))) (sym (l.good ok) ∙ ap (λ (t : Bool). option_of t b) p)
+  tried-body p ok = ap (λ (o : Option (List ℕ)). if_some o None (λ c. Some (header w c))) (sym (l.good ok) ∙ ap (λ (t : Bool). option_of t b) p)
 
-  pub tried-none : f ≡ false → store_is_ok w s ≡ true → (world_of w s g).store x ≡ none
+  pub tried-none : f ≡ false → store_is_ok w s ≡ true → (world_of w s g).store x ≡ None
   unfolding world_of
-  tried-none p ok = ap (λ (o : Option (List ℕ)). if_some o none (λ c. some (header w c))) (sym (l.good ok) ∙ ap (λ (t : Bool). option_of t b) p)
+  tried-none p ok = ap (λ (o : Option (List ℕ)). if_some o None (λ c. Some (header w c))) (sym (l.good ok) ∙ ap (λ (t : Bool). option_of t b) p)
 
 -- ---- what `find` finds
 
@@ -135,29 +133,29 @@ in_store-row (Body d e) p a b f = let z : ◌≡◌ {A = ℕ} 0 1 = cc in absurd
 in_store-row Nowhere p a b f = let z : ◌≡◌ {A = ℕ} 0 1 = cc in absurd (omega arith)
 
 -- a row that was found: the file is a good one, read by its own layout
-pub record RowFound (w : ℕ) (c : Cache) (g s : List ℕ) (x : Id) (p : ℕ) : Type 0 where
+pub record RowFound (w : ℕ) (c : Option Layout) (g s : List ℕ) (x : Id) (p : ℕ) : Type 0 where
   pub file : graph_ok w g ≡ true
   pub layout : layout_under c ≡ layout_of w g
   pub says : (world_under w c g s).graph x ≡ row_at w g p
 
-listed : (w : ℕ) (c : Cache) (g : List ℕ) (x : Id) (p : ℕ) → GoodCache w c g → row_of w c g x ≡ some p → (graph_ok w g ≡ true) × (layout_under c ≡ layout_of w g)
+listed : (w : ℕ) (c : Option Layout) (g : List ℕ) (x : Id) (p : ℕ) → GoodCache w c g → row_of w c g x ≡ Some p → (graph_ok w g ≡ true) × (layout_under c ≡ layout_of w g)
 unfolding GoodCache row_of
-listed w (Graph l) g x p t e = t
-listed w NoGraph g x p t e = let z : ◌≡◌ {A = ℕ} 0 1 = cc in absurd (omega arith)
+listed w (Some l) g x p t e = t
+listed w None g x p t e = let z : ◌≡◌ {A = ℕ} 0 1 = cc in absurd (omega arith)
 
-pub row-found : (w : ℕ) (c : Cache) (g s : List ℕ) (x : Id) (p : ℕ) → GoodCache w c g → row_of w c g x ≡ some p → RowFound w c g s x p
+pub row-found : (w : ℕ) (c : Option Layout) (g s : List ℕ) (x : Id) (p : ℕ) → GoodCache w c g → row_of w c g x ≡ Some p → RowFound w c g s x p
 row-found w c g s x p t e =
     let l = listed w c g x p t e in
     record { file = l.0; layout = l.1; says = graph-under w c g s x ∙ ap (λ (o : Option ℕ). if_some o no_row (λ q. row_at w g q)) e }
 
-module _ (w : ℕ) (c : Cache) (g s : List ℕ) (x : Id) where
+module _ (w : ℕ) (c : Option Layout) (g s : List ℕ) (x : Id) where
   pub found-row : (p a b : ℕ) → GoodCache w c g → found_in w c g s x ≡ CachedCommit p a b → RowFound w c g s x p
   unfolding found_in
   found-row p a b t f = row-found w c g s x p t (go (row_of w c g x) f)
     where
-      go : (o : Option ℕ) → if_some o (in_store (located_of w s (find_entry w s x))) (in_graph w g (layout_of w g)) ≡ CachedCommit p a b → o ≡ some p
-      go none f' = absurd (in_store-row (located_of w s (find_entry w s x)) p a b f')
-      go (some q) f' = let i : q ≡ p = cc in ap some i
+      go : (o : Option ℕ) → if_some o (in_store (located_of w s (find_entry w s x))) (in_graph w g (layout_of w g)) ≡ CachedCommit p a b → o ≡ Some p
+      go None f' = absurd (in_store-row (located_of w s (find_entry w s x)) p a b f')
+      go (Some q) f' = let i : q ≡ p = cc in ap Some i
 
   -- no row stands before what the store has
   past_row : (e : Either) → ((p a b : ℕ) → CachedCommit p a b ≡ e → ⊥) → found_in w c g s x ≡ e → ((world_under w c g s).graph x ≡ no_row) × (in_store (located_of w s (find_entry w s x)) ≡ e)
@@ -166,16 +164,16 @@ module _ (w : ℕ) (c : Cache) (g s : List ℕ) (x : Id) where
     where
       go : (o : Option ℕ) → row_of w c g x ≡ o → if_some o (in_store (located_of w s (find_entry w s x))) (in_graph w g (layout_of w g)) ≡ e
           → ((world_under w c g s).graph x ≡ no_row) × (in_store (located_of w s (find_entry w s x)) ≡ e)
-      go none k f' = (graph-under w c g s x ∙ ap (λ (o : Option ℕ). if_some o no_row (λ q. row_at w g q)) k, f')
-      go (some p) k f' = absurd (n p (row_start w g (layout_of w g) p) (row_end w g (layout_of w g) p) f')
+      go None k f' = (graph-under w c g s x ∙ ap (λ (o : Option ℕ). if_some o no_row (λ q. row_at w g q)) k, f')
+      go (Some p) k f' = absurd (n p (row_start w g (layout_of w g) p) (row_end w g (layout_of w g) p) f')
 
   pub found-body : (a e : ℕ) → store_is_ok w s ≡ true → found_in w c g s x ≡ CommitRefIter a e
-      → ((world_under w c g s).graph x ≡ no_row) × ((world_under w c g s).store x ≡ some (header w (part_of s (Body a e))))
+      → ((world_under w c g s).graph x ≡ no_row) × ((world_under w c g s).store x ≡ Some (header w (part_of s (Body a e))))
   found-body a e ok f =
       let r = past_row (CommitRefIter a e) (λ p d b k. let z : ◌≡◌ {A = ℕ} 0 1 = cc in absurd (omega arith)) f in
       (r.0, same_store w c g s x ∙ body-stored w s ok g x a e (in_store-body (located_of w s (find_entry w s x)) a e r.1))
 
-  pub found-absent : found_in w c g s x ≡ Absent → ((world_under w c g s).graph x ≡ no_row) × ((world_under w c g s).store x ≡ none)
+  pub found-absent : found_in w c g s x ≡ Absent → ((world_under w c g s).graph x ≡ no_row) × ((world_under w c g s).store x ≡ None)
   found-absent f =
       let r = past_row Absent (λ p d b k. let z : ◌≡◌ {A = ℕ} 0 1 = cc in absurd (omega arith)) f in
       (r.0, same_store w c g s x ∙ not-stored w s g x (in_store-absent (located_of w s (find_entry w s x)) r.1))

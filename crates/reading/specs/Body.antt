@@ -1,7 +1,6 @@
 -- What a next call reads of a commit's body, line by line. Assumes nothing.
-use Rattle.std.specs.Prelude.{◌≡◌, ℕ, ◌+◌, ◌*◌, ◌≤◌, Bool, true, List, length, take, get_or, replicate, ltb}
-use Rattle.std.proofs.Math.Option.{Option, none, some}
-use Rattle.hash.specs.Bytes.{Id, pick, set_down}
+use Rattle.std.specs.Prelude.{◌≡◌, ℕ, ◌+◌, ◌*◌, ◌≤◌, Bool, true, List, length, take, get_or, replicate, ltb, None, Option, Some}
+use Rattle.hash.specs.Bytes.{Id, if_some, pick, set_down}
 use Rattle.object.specs.Header.{Header, header, tree_size, parent_size, most}
 use Rattle.object.specs.Ids.{id_room}
 use Rattle.object.specs.Read.{parent_at}
@@ -22,9 +21,9 @@ end_of h = pick h.crowded Crowded (pick h.author Whole Unreadable)
 
 -- the refusal of an end
 abbrev pub refusal_of : BodyEnd → Option Refusal
-refusal_of Whole = none
-refusal_of Unreadable = some CommitUnreadable
-refusal_of Crowded = some TooManyParents
+refusal_of Whole = None
+refusal_of Unreadable = Some CommitUnreadable
+refusal_of Crowded = Some TooManyParents
 
 -- the place of parent line k, after the tree line and k parent lines
 abbrev pub parent_place : ℕ → ℕ → ℕ
@@ -36,7 +35,7 @@ no_bytes = replicate id_room 0
 
 -- the id of parent line k by value, on any bytes: zeros where no parent line stands, and past the 256th
 unfoldable pub parent_id_at : ℕ → List ℕ → ℕ → Id
-parent_id_at w b k = pick (ltb k most) (parent_at w b (parent_place w k)).id.bytes no_bytes
+parent_id_at w b k = pick (ltb k most) (if_some (parent_at w b (parent_place w k)) no_bytes (λ x. x.bytes)) no_bytes
 
 -- how many parents are read at most
 abbrev pub most_read : Bool → ℕ

@@ -5,7 +5,7 @@ ghost use Rattle.commititer.specs.Token.{token_at, parents_place};
 ghost use Rattle.reading.specs.Body.{most_read, parent_id_at, PutsParents, IsCrowded, EndsAfter, ReadsBody};
 ghost use Rattle.hash.specs.Bytes.{width_of};
 
-use commititer::TokenRead;
+use commititer::Token;
 use hash::Kind;
 use object::ObjectId;
 
@@ -28,21 +28,24 @@ pub struct BodyRead {
 const MOST_PARENTS: usize = 256;
 
 // What stands after a tree line and k parent lines.
-fn token_after(kind: Kind, body: &[u8], k: usize) -> TokenRead
+fn token_after(kind: Kind, body: &[u8], k: usize) -> Token
     ensures { result ≡ token_at (width_of kind) body.now (parents_place (width_of kind) k) }
 {
     commititer::read_token(kind, body, commititer::parents_place(kind, k))
 }
 
-// The id of parent k of a body, which a good tree line stands before; zeros where no parent line stands.
+// The id of parent k of a body, which a good tree line stands before. Whoever asks knows how many parents there are, so no Option is given: zeros
+// where no parent line stands.
 pub fn body_parent(kind: Kind, body: &[u8], k: usize) -> ObjectId
     ensures { result.bytes ≡ parent_id_at (width_of kind) body.now k }
 {
     if MOST_PARENTS <= k {
         return ObjectId { bytes: [0u8; 32] };
     }
-    let read = token_after(kind, body, k);
-    read.id
+    match token_after(kind, body, k) {
+        Token::Parent(id) => id,
+        _ => ObjectId { bytes: [0u8; 32] },
+    }
 }
 
 // How many parents of a body are read at most: where only the first is followed, that alone.
@@ -61,15 +64,13 @@ fn put_parents(kind: Kind, body: &[u8], first: bool, out: &mut [u8]) -> usize
     ensures { PutsParents (width_of kind) first body.now out.old out.new result }
 {
     let most = most_read(first);
-    let mut k = 0;
-    while k < most {
+    for k in 0..most {
         let place = commititer::parents_place(kind, k);
         if !commititer::put_parent(kind, body, place.at, out, k) {
             return k;
         }
-        k += 1;
     }
-    k
+    most
 }
 
 // Whether another parent line stands after k of them, which are all that may be.

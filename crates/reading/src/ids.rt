@@ -10,12 +10,10 @@ pub fn is_among(kind: Kind, list: &[u8], id: &[u8]) -> bool
     ensures { result ≡ among id.now (list_ids (width_of kind) list.now) }
 {
     let n = hash::ids_in(kind, list.len());
-    let mut k = 0;
-    while k < n {
+    for k in 0..n {
         if hash::same(id, hash::nth(kind, list, k)) {
             return true;
         }
-        k += 1;
     }
     false
 }

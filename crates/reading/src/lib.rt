@@ -17,16 +17,15 @@ ghost use Rattle.reading.specs.Whole.{pair_in, row_commit, body_commit, ReadsCom
 ghost use Rattle.hash.specs.Bytes.{width_of};
 
 pub use body::{BodyEnd, BodyRead, body_parent, read_body};
-use commit::{Cache, Either};
-use commitgraph::parents::ParentList;
+use commit::Either;
 use commitgraph::{Layout, Level, parents, rows};
 use hash::Kind;
 pub use ids::is_among;
-use object::{ObjectId, Reading};
+use object::{HeaderError, ObjectId, ReadableHeader};
 use odb::Located;
 pub use row::{RowRead, collect_parents, level_shown, row_parent};
 pub use stored::stored_body;
-pub use tip::{TipRead, read_tip, seconds_for, seconds_noting, zone_past};
+pub use tip::{TipError, read_tip, seconds_for, seconds_noting, zone_past};
 use walk::{GenThenTime, Refusal};
 
 // A commit that was read whole, as painting does: where it stands, how many parents it has, and its place in the painting's order; or why
@@ -51,25 +50,25 @@ pub enum Commit {
 pub const NOWHERE: usize = 4294967295;
 
 // The commit-graph file as it is used, by the layout that its opening found: not at all where it is empty or was dropped.
-pub fn cache_of(graph: &[u8], layout: Layout, kept: bool) -> Cache
+pub fn cache_of(graph: &[u8], layout: Layout, kept: bool) -> Option<Layout>
     ensures { result ≡ cache_with graph.now layout kept }
 {
     if kept {
         if graph.len() == 0 {
-            return Cache::NoGraph;
+            return None;
         }
-        return Cache::Graph(layout);
+        return Some(layout);
     }
-    Cache::NoGraph
+    None
 }
 
 // Where the chunks of the file stand; without a file all is 0.
-pub fn layout_of(cache: Cache) -> Layout
+pub fn layout_of(cache: Option<Layout>) -> Layout
     ensures { result ≡ layout_under cache }
 {
     match cache {
-        Cache::Graph(l) => l,
-        Cache::NoGraph => Layout {
+        Some(l) => l,
+        None => Layout {
             fan: 0,
             ids: 0,
             rows: 0,
@@ -86,7 +85,7 @@ fn row_commit(kind: Kind, graph: &[u8], l: Layout, position: usize) -> Commit
     ensures { result ≡ row_commit position (pair_in (width_of kind) graph.now l position) (parents_in (width_of kind) graph.now l position) }
 {
     match parents::parents(kind, graph, l, position) {
-        ParentList::Good(n) => Commit::Row {
+        Some(n) => Commit::Row {
             position,
             parents: n,
             pair: GenThenTime {
@@ -94,7 +93,7 @@ fn row_commit(kind: Kind, graph: &[u8], l: Layout, position: usize) -> Commit
                 time: rows::seconds(kind, graph, l, position),
             },
         },
-        ParentList::Corrupt => Commit::Failed(Refusal::CommitUnreadable),
+        None => Commit::Failed(Refusal::CommitUnreadable),
     }
 }
 
@@ -103,7 +102,7 @@ fn body_commit(kind: Kind, body: &[u8], start: usize, end: usize) -> Commit
     ensures { result ≡ body_commit start end (reading_of (header (width_of kind) body.now)) }
 {
     match object::readable(kind, body) {
-        Reading::Readable { parents, stamp } => {
+        Ok(ReadableHeader { parents, stamp }) => {
             let time = stamp.seconds;
             Commit::Body {
                 start,
@@ -115,8 +114,8 @@ fn body_commit(kind: Kind, body: &[u8], start: usize, end: usize) -> Commit
                 },
             }
         }
-        Reading::Bad => Commit::Failed(Refusal::CommitUnreadable),
-        Reading::Crowded => Commit::Failed(Refusal::TooManyParents),
+        Err(HeaderError::Bad) => Commit::Failed(Refusal::CommitUnreadable),
+        Err(HeaderError::Crowded) => Commit::Failed(Refusal::TooManyParents),
     }
 }
 
@@ -124,7 +123,7 @@ fn body_commit(kind: Kind, body: &[u8], start: usize, end: usize) -> Commit
 // number of an entry in the store, which is looked at first; on good files any other number gives the same answer.
 pub fn read_commit(
     kind: Kind,
-    cache: Cache,
+    cache: Option<Layout>,
     graph: &[u8],
     store: &[u8],
     id: &[u8],
@@ -152,7 +151,13 @@ pub fn read_commit(
 
 // Where parent k of a commit that `read_commit` gave may be looked at first: a row names its parents by their positions in the commit-graph
 // file; of a body's parents no place is known.
-pub fn parent_near(kind: Kind, commit: Commit, k: usize, cache: Cache, graph: &[u8]) -> usize
+pub fn parent_near(
+    kind: Kind,
+    commit: Commit,
+    k: usize,
+    cache: Option<Layout>,
+    graph: &[u8],
+) -> usize
     ensures { result ≡ place_of (width_of kind) cache graph.now commit k }
 {
     match commit {
@@ -167,7 +172,7 @@ pub fn parent_of(
     kind: Kind,
     commit: Commit,
     k: usize,
-    cache: Cache,
+    cache: Option<Layout>,
     graph: &[u8],
     store: &[u8],
 ) -> ObjectId

@@ -6,38 +6,37 @@ ghost use Rattle.walk.specs.Next.{level_shown};
 ghost use Rattle.walk.specs.Given.{level_given};
 ghost use Rattle.hash.specs.Bytes.{width_of};
 
-use commitgraph::parents::ParentList;
 use commitgraph::{Layout, Level, parents, rows};
 use hash::Kind;
-use walk::MaybeLevel;
 
-// What a row says of a commit: how many parents it has, and its level; or its parent list is corrupt.
+// What a row says of a commit: how many parents it has, and its level.
 #[derive(Clone, Copy)]
-pub enum RowRead {
-    Corrupt,
-    Row { parents: usize, level: Level },
+pub struct RowRead {
+    pub parents: usize,
+    pub level: Level,
 }
 
 // A row's level as an answer shows it: none, where it is that of a commit without one, since the file's levels are not used.
-pub fn level_shown(level: Level) -> MaybeLevel
+pub fn level_shown(level: Level) -> Option<Level>
     ensures { result ≡ level_given (level_shown level.0) }
 {
     if level.0 == rows::NO_GENERATION {
-        return MaybeLevel::NoGeneration;
+        return None;
     }
-    MaybeLevel::Generation(level)
+    Some(level)
 }
 
-// The parents of the row at a position (`collect_parents` in the Rust): the whole list is judged here, before any of them is set down.
-pub fn collect_parents(kind: Kind, graph: &[u8], l: Layout, position: usize) -> RowRead
+// The parents of the row at a position (`collect_parents` in the Rust), none where the list is corrupt: the whole list is judged here, before any of them
+// is set down.
+pub fn collect_parents(kind: Kind, graph: &[u8], l: Layout, position: usize) -> Option<RowRead>
     ensures { result ≡ row_read_of (level_of (width_of kind) graph.now l position) (parents_in (width_of kind) graph.now l position) }
 {
     match parents::parents(kind, graph, l, position) {
-        ParentList::Good(n) => RowRead::Row {
+        Some(n) => Some(RowRead {
             parents: n,
             level: rows::level(kind, graph, l, position),
-        },
-        ParentList::Corrupt => RowRead::Corrupt,
+        }),
+        None => None,
     }
 }
 

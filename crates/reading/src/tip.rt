@@ -2,37 +2,36 @@
 ghost use Rattle.std.specs.Prelude.{◌≡◌, true, ◌≤◌, length};
 ghost use Rattle.odb.specs.Lookup.{NotesEntry};
 ghost use Rattle.object.specs.Header.{header};
-ghost use Rattle.object.specs.Read.{zone_given};
-ghost use Rattle.reading.specs.Tip.{tip_stamp, ReadsTip, seconds_or0, GivesSeconds};
+ghost use Rattle.reading.specs.Tip.{tip_stamp, ReadsTip, GivesSeconds};
 ghost use Rattle.hash.specs.Bytes.{width_of};
 
-use actor::StampRead;
-use date::{Seconds, Zone};
+use date::{Seconds, Stamp};
 use hash::Kind;
 
-// A tip that was read at the opening: its seconds; or the store lacks it; or its header is not good through the committer line.
+// Why a tip has no seconds at the opening: the store lacks it, or its header is not good through the committer line.
 #[derive(Clone, Copy)]
-pub enum TipRead {
-    Good(Seconds),
+pub enum TipError {
     Missing,
     Unreadable,
 }
 
 // The seconds of a header as those of a tip.
-fn tip_seconds(read: StampRead) -> TipRead
+fn tip_seconds(read: Option<Stamp>) -> Result<Seconds, TipError>
     ensures { result ≡ tip_stamp read }
 {
     match read {
-        StampRead::Good(s) => {
-            let seconds = s.seconds;
-            TipRead::Good(seconds)
-        }
-        StampRead::Bad => TipRead::Unreadable,
+        Some(s) => Ok(s.seconds),
+        None => Err(TipError::Unreadable),
     }
 }
 
 // A tip, read from the store alone: its body is a part of the store itself, not a copy. The number of its entry is noted.
-fn read_tip_noting(kind: Kind, store: &[u8], id: &[u8], entry: &mut usize) -> TipRead
+fn read_tip_noting(
+    kind: Kind,
+    store: &[u8],
+    id: &[u8],
+    entry: &mut usize,
+) -> Result<Seconds, TipError>
     ensures { ReadsTip (width_of kind) store.now id.now result × NotesEntry (width_of kind) store.now id.now entry.old entry.new }
 {
     let mut found = false;
@@ -40,27 +39,16 @@ fn read_tip_noting(kind: Kind, store: &[u8], id: &[u8], entry: &mut usize) -> Ti
     if found {
         tip_seconds(object::stamp_only(kind, body))
     } else {
-        TipRead::Missing
+        Err(TipError::Missing)
     }
 }
 
 // The same without the entry.
-pub fn read_tip(kind: Kind, store: &[u8], id: &[u8]) -> TipRead
+pub fn read_tip(kind: Kind, store: &[u8], id: &[u8]) -> Result<Seconds, TipError>
     ensures { ReadsTip (width_of kind) store.now id.now result }
 {
     let mut entry = 0;
     read_tip_noting(kind, store, id, &mut entry)
-}
-
-// The seconds of a tip that was read, 0 where it has none.
-fn seconds_or_0(read: TipRead) -> Seconds
-    ensures { result ≡ seconds_or0 read }
-{
-    match read {
-        TipRead::Good(s) => s,
-        TipRead::Missing => Seconds(0),
-        TipRead::Unreadable => Seconds(0),
-    }
 }
 
 // The seconds of a commit in the store, 0 where the store has none. The number of its entry is noted, where it may be looked for first
@@ -68,26 +56,26 @@ fn seconds_or_0(read: TipRead) -> Seconds
 pub fn seconds_noting(kind: Kind, store: &[u8], id: &[u8], entry: &mut usize) -> Seconds
     ensures { GivesSeconds (width_of kind) store.now id.now result × NotesEntry (width_of kind) store.now id.now entry.old entry.new }
 {
-    seconds_or_0(read_tip_noting(kind, store, id, entry))
+    read_tip_noting(kind, store, id, entry).unwrap_or(Seconds(0))
 }
 
 // The same without the entry.
 pub fn seconds_for(kind: Kind, store: &[u8], id: &[u8]) -> Seconds
     ensures { GivesSeconds (width_of kind) store.now id.now result }
 {
-    seconds_or_0(read_tip(kind, store, id))
+    read_tip(kind, store, id).unwrap_or(Seconds(0))
 }
 
 // The zone of a body whose tree line and first `known` parent lines are good, past all its parent lines: none where a line up to the
 // committer's is bad.
-pub fn zone_past(kind: Kind, body: &[u8], known: usize) -> Zone
-    ensures { (header (width_of kind) body.now).tree ≡ true → known ≤ length (header (width_of kind) body.now).ids → result ≡ zone_given (header (width_of kind) body.now).zone }
+pub fn zone_past(kind: Kind, body: &[u8], known: usize) -> Option<i64>
+    ensures { (header (width_of kind) body.now).tree ≡ true → known ≤ length (header (width_of kind) body.now).ids → result ≡ (header (width_of kind) body.now).zone }
 {
     match object::stamp_past(kind, body, known) {
-        StampRead::Good(stamp) => {
+        Some(stamp) => {
             let zone = stamp.zone;
             zone
         }
-        StampRead::Bad => Zone::NoZone,
+        None => None,
     }
 }

@@ -4,8 +4,9 @@
 
 ghost use Rattle.std.specs.Prelude.{◌≤◌};
 
-use feed::{FeedOutcome, Reading};
+use feed::Feed;
 use std::io;
+use walk::Refusal;
 
 fn text(rt: &impl Print, s: &[u8]) -> io::Result<()> {
     host::write_all(rt, s)
@@ -15,23 +16,23 @@ fn number(rt: &impl Print, n: u64) -> io::Result<()> {
     host::print_decimal(rt, n)
 }
 
-fn reading(rt: &impl Print, r: Reading) -> io::Result<()> {
+fn reading(rt: &impl Print, r: Option<u64>) -> io::Result<()> {
     match r {
-        Reading::Given(n) => number(rt, n),
-        Reading::Absent => text(rt, b"-"),
+        Some(n) => number(rt, n),
+        None => text(rt, b"-"),
     }
 }
 
-fn print(rt: &impl Print, read: FeedOutcome) -> io::Result<()> {
+fn print(rt: &impl Print, read: Result<Feed, Refusal>) -> io::Result<()> {
     match read {
-        FeedOutcome::Read(f) => {
+        Ok(f) => {
             let cone = f.cone;
             let bed = f.bed;
             reading(rt, cone)?;
             text(rt, b" ")?;
             reading(rt, bed)?;
         }
-        FeedOutcome::Faulty(r) => {
+        Err(r) => {
             text(rt, b"! ")?;
             number(rt, walk::number(r) as u64)?;
         }
@@ -48,6 +49,7 @@ fn wide(x: u8) -> usize
 
 fn commits(rt: &impl Print, s: &[u8]) -> io::Result<()> {
     let mut at = 0;
+    // Each case says where the next one begins.
     while at < s.len() {
         let n = wide(s[at]);
         let body = hash::part(s, at, n);

@@ -2,20 +2,19 @@
 -- Each turn finds a slot, since fewer were taken out than waited. Assumes nothing.
 use mathlib.Core.Path.{◌≡◌, refl, sym, ap, ◌∙◌, subst}
 use mathlib.Core.List.{List, [], ◌∷◌, ◌++◌, append_assoc, append-nil}
-use mathlib.Core.Bool.{true}
 use Prim.Native.Nat.{ℕ, suc, ◌+◌, ◌<◌, ◌≤◌}
 use native.Mathlib.Omega.{arith}
 use native.Mathlib.Numerals.{add-one}
 use lib.ListN.{length, set, length-set, length-append}
 use lib.Seq.{get_or-set_same, get_or-set_other}
 use lib.IntN.{ℤ}
-use Rattle.hash.proofs.Tests.{by_cases}
+use Rattle.std.specs.Prelude.{Some, None}
 use Rattle.revwalk.specs.declared.queue.Queue.{Queue}
 use Rattle.revwalk.specs.declared.queue.Popped.{Popped}
 use Rattle.revwalk.specs.Order.{at, listed}
-use Rattle.revwalk.specs.Queue.{slots_of, GoodQueue, Pops}
-use Rattle.revwalk.proofs.QueueGood.{First, slots_length, good-room}
-use Rattle.revwalk.proofs.QueueSlots.{pop-found, pop-empty, line-good, line-list}
+use Rattle.revwalk.specs.Queue.{slots_of, GoodQueue, Took, Pops}
+use Rattle.revwalk.proofs.QueueGood.{slots_length, good-room}
+use Rattle.revwalk.proofs.QueueSlots.{line-good, line-list}
 use Rattle.refill.specs.Inner.{from, Drains}
 use Rattle.refill.proofs.Lists.{length_listed, listed_agree}
 
@@ -45,19 +44,16 @@ left-count {q₀} {times} {base} {line₀} {q} {line} {i} p =
     let d = length_listed (from line base) i in
     omega arith
 
-module _ {q₀ : Queue} {times : List ℤ} {base : ℕ} {line₀ : List ℕ} {q : Queue} {line out line' : List ℕ} {i : ℕ} {p : Popped} (w : Parts q₀ times base line₀ q line i) (o : Pops q times line out p)
+module _ {q₀ : Queue} {times : List ℤ} {base : ℕ} {line₀ : List ℕ} {q : Queue} {line out line' : List ℕ} {i : ℕ} {p : Popped} (w : Parts q₀ times base line₀ q line i) (o : Pops q times line out (Some p))
     (cap : q.cap ≡ q₀.cap) (place : base ≡ q₀.cap + q₀.cap) (low : i < q₀.count) (room : base + i < length line) (e : line' ≡ set out (base + i) p.slot) where
-  found : p.found ≡ true
-  found = by_cases p.found (λ h. h) (λ h. let z = ap length (pop-empty o w.good h) in absurd (omega (arith, left-count w)))
-
-  first : First q times line out p
-  first = pop-found o w.good found
+  first : Took q times line out p
+  first = o.told.took w.good
 
   long : length out ≡ length line
   long = o.long
 
   rest-cap : p.queue.cap ≡ q₀.cap
-  rest-cap = o.same.cap ∙ cap
+  rest-cap = o.told.same.cap ∙ cap
 
   below : (k : ℕ) → k < p.queue.cap + p.queue.cap → at out k ≡ at line' k
   below k h =
@@ -93,16 +89,24 @@ module _ {q₀ : Queue} {times : List ℤ} {base : ℕ} {line₀ : List ℕ} {q 
   }
 
 pub drain_more : {q₀ : Queue} {times : List ℤ} {base n : ℕ} {line₀ : List ℕ} {q : Queue} {line out line' : List ℕ} {i : ℕ} {p : Popped} → Draining q₀ times base n line₀ q line i → i < n
-    → Pops q times line out p → line' ≡ set out (base + i) p.slot → Draining q₀ times base n line₀ p.queue line' (i + 1)
+    → Pops q times line out (Some p) → line' ≡ set out (base + i) p.slot → Draining q₀ times base n line₀ p.queue line' (i + 1)
 drain_more {q₀} {times} {base} {n} {line₀} {q} {line} {out} {line'} {i} {p} d h o e = record {
   many = d.many;
   upto = omega arith;
   fits = d.fits;
   long = ap length e ∙ length-set out (base + i) p.slot ∙ o.long ∙ d.long;
-  cap = o.same.cap ∙ d.cap;
+  cap = o.told.same.cap ∙ d.cap;
   parts = λ g b.
       subst (Parts q₀ times base line₀ p.queue line') (sym (add-one i))
       (drained-one (d.parts g b) o d.cap b (omega (arith, d.many)) (omega (arith, d.fits, d.long)) e);
+}
+
+-- none is handed out only where fewer waited than are taken out
+pub drain_stop : {q₀ : Queue} {times : List ℤ} {base n : ℕ} {line₀ : List ℕ} {q : Queue} {line out : List ℕ} {i : ℕ} → Draining q₀ times base n line₀ q line i → i < n → Pops q times line out None
+    → Drains q₀ times base line₀ out
+drain_stop d h o = record {
+  long = o.long ∙ d.long;
+  drained = λ g b. let w = d.parts g b in absurd (omega (arith, left-count w, ap length (o.told.1 w.good), d.many));
 }
 
 empty-list : (l : List ℕ) → length l ≡ 0 → l ≡ []

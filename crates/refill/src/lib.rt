@@ -106,10 +106,8 @@ fn read_again(kind: Kind, q: Queue, store: &[u8], names: &[u8], times: &mut [i64
     ensures { Rereads (width_of kind) q store.now names.now line.now times.old times.new }
 {
     let n = timed_count(q);
-    let mut i = 0;
-    while i < n {
+    for i in 0..n {
         read_slot(kind, store, names, times, queue::slot_at(q, line, i));
-        i += 1;
     }
 }
 
@@ -136,12 +134,12 @@ fn drain(q: Queue, times: &[i64], line: &mut [u32], base: usize)
 {
     let n = q.count;
     let mut rest = q;
-    let mut i = 0;
-    while i < n {
-        let p = queue::pop(rest, line, times);
+    for i in 0..n {
+        let Some(p) = queue::pop(rest, line, times) else {
+            return;
+        };
         put_slot(line, base + i, p.slot);
         rest = p.queue;
-        i += 1;
     }
 }
 
@@ -169,11 +167,9 @@ fn refill(q: Queue, marks: &[u8], times: &[i64], line: &mut [u32], base: usize, 
     ensures { Refills q marks.now times.now base n line.old line.new result }
 {
     let mut longer = q;
-    let mut i = 0;
-    while i < n {
+    for i in 0..n {
         let slot = slot_in(line, base + i);
         longer = enter(longer, marks, times, line, slot);
-        i += 1;
     }
     longer
 }

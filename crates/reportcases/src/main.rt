@@ -5,9 +5,9 @@
 
 ghost use Rattle.std.specs.Prelude.{◌≤◌, ◌<◌};
 
-use reports::{FeedReport, Reader, Reported};
+use reports::{FeedReport, Reader};
 use std::io;
-use walk::Settings;
+use walk::{Refusal, Settings};
 
 fn text(rt: &impl Print, s: &[u8]) -> io::Result<()> {
     host::write_all(rt, s)
@@ -30,10 +30,10 @@ fn print_signed(rt: &impl Print, n: i64) -> io::Result<()> {
     host::print_decimal(rt, date::magnitude(s))
 }
 
-fn print_outcome(rt: &impl Print, o: Reported) -> io::Result<()> {
+fn print_outcome(rt: &impl Print, o: Result<(), Refusal>) -> io::Result<()> {
     match o {
-        Reported::Whole => text(rt, b"whole"),
-        Reported::Refused(r) => {
+        Ok(()) => text(rt, b"whole"),
+        Err(r) => {
             text(rt, b"refused")?;
             print_number(rt, walk::number(r) as u64)
         }

@@ -1,16 +1,13 @@
 -- The numbers of commits one more: adding is done in any order, a field at a time. Assumes nothing.
+use Rattle.std.specs.Prelude.{Err, None, Ok, Option, Result, Some}
+use Rattle.feed.specs.declared.Feed.{Feed}
 use mathlib.Core.Path.{◌≡◌, refl, sym, ◌∙◌, ap}
 use Prim.Native.Nat.{ℕ, suc, ◌+◌}
-use mathlib.Core.Option.{Option, none, some}
 use mathlib.Core.List.{List, [], ◌∷◌, ◌++◌}
 use native.Mathlib.Omega.{arith}
 use lib.ListN.{length}
 use Rattle.hash.specs.Bytes.{Id, if_some}
 use Rattle.hash.proofs.Tests.{no-some}
-use Rattle.feed.specs.declared.Reading.{Reading}
-use Rattle.feed.specs.declared.Reading.TheVariants.{Absent, Given}
-use Rattle.feed.specs.declared.FeedOutcome.{FeedOutcome}
-use Rattle.feed.specs.declared.FeedOutcome.TheVariants.{Read, Faulty}
 use Rattle.walk.specs.declared.Refusal.{Refusal}
 use Rattle.tally.specs.declared.feeds.Feeds.{Feeds}
 use Rattle.tally.specs.Feeds.{no_feeds, feeds_of, feeds_in, plus, feeds_over}
@@ -32,7 +29,7 @@ plus_assoc : (a b c : Feeds) → plus a (plus b c) ≡ plus (plus a b) c
 plus_assoc a b c = same-feeds (plus a (plus b c)) (plus (plus a b) c) (omega arith) (omega arith) (omega arith) (omega arith) (omega arith) (omega arith) (omega arith) (omega arith)
 
 -- one commit more
-pub over-more : (f : Id → FeedOutcome) (l : List Id) (x : Id) → feeds_over f (l ++ (x ∷ [])) ≡ plus (feeds_over f l) (feeds_in (f x))
+pub over-more : (f : Id → Result Feed Refusal) (l : List Id) (x : Id) → feeds_over f (l ++ (x ∷ [])) ≡ plus (feeds_over f l) (feeds_in (f x))
 unfolding feeds_over
 over-more f [] x = plus-last (feeds_in (f x)) no_feeds
 over-more f (y ∷ l) x = ap (plus (feeds_in (f y))) (over-more f l x) ∙ plus_assoc (feeds_in (f y)) (feeds_over f l) (feeds_in (f x))
@@ -42,22 +39,22 @@ over-more f (y ∷ l) x = ap (plus (feeds_in (f y))) (over-more f l x) ∙ plus_
 abbrev four : Feeds → ℕ
 four f = f.both + f.cone + f.bed + f.neither
 
-one_of : (c b : Reading) → four (feeds_of c b) ≡ 1
-one_of (Given c) (Given b) = refl
-one_of (Given c) Absent = refl
-one_of Absent (Given b) = refl
-one_of Absent Absent = refl
+one_of : (c b : Option ℕ) → four (feeds_of c b) ≡ 1
+one_of (Some c) (Some b) = refl
+one_of (Some c) None = refl
+one_of None (Some b) = refl
+one_of None None = refl
 
-one_in : (q : FeedOutcome) → fault_in q ≡ none → four (feeds_in q) ≡ 1
-one_in (Read f) e = one_of f.cone f.bed
-one_in (Faulty r) e = no-some (sym e)
+one_in : (q : Result Feed Refusal) → fault_in q ≡ None → four (feeds_in q) ≡ 1
+one_in (Ok f) e = one_of f.cone f.bed
+one_in (Err r) e = no-some (sym e)
 
-two_none : (p q : Option Refusal) → if_some p q (λ r. some r) ≡ none → (p ≡ none) × (q ≡ none)
-two_none none q e = (refl, e)
-two_none (some r) q e = no-some (sym e)
+two_none : (p q : Option Refusal) → if_some p q (λ r. Some r) ≡ None → (p ≡ None) × (q ≡ None)
+two_none None q e = (refl, e)
+two_none (Some r) q e = no-some (sym e)
 
 -- each commit that is not faulty is in one of them
-pub four_all : (f : Id → FeedOutcome) (l : List Id) → fault_over f l ≡ none → four (feeds_over f l) ≡ length l
+pub four_all : (f : Id → Result Feed Refusal) (l : List Id) → fault_over f l ≡ None → four (feeds_over f l) ≡ length l
 unfolding feeds_over fault_over
 four_all f [] e = refl
 four_all f (x ∷ l) e =

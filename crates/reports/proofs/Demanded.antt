@@ -1,9 +1,10 @@
 -- The four numbers add up, since each commit that is not faulty is in one of them; and under the premises the report is that of the third demand's
 -- list, which the whole walk hands out. The shop's reader has nothing withheld, an outside one the embargoed readings. Assumes nothing.
+use Rattle.std.specs.Prelude.{Err, None, Ok, Option, Result, Some}
+use Rattle.feed.specs.declared.Feed.{Feed}
 use mathlib.Core.Path.{◌≡◌, refl, sym, ◌∙◌, ap}
 use Prim.Native.Nat.{ℕ, ◌+◌, ◌≤◌}
 use mathlib.Core.Bool.{true}
-use mathlib.Core.Option.{Option, none, some}
 use mathlib.Core.List.{List, []}
 use native.Mathlib.Omega.{arith}
 use lib.ListN.{length}
@@ -11,7 +12,6 @@ use Rattle.hash.specs.Bytes.{Id, among, ids_of}
 use Rattle.hash.specs.Bytes.{width_of}
 use Rattle.hash.specs.declared.Kind.{Kind}
 use Rattle.hash.specs.declared.Kind.TheVariants.{Sha1, Sha256}
-use Rattle.feed.specs.declared.FeedOutcome.{FeedOutcome}
 use Rattle.walk.specs.declared.Refusal.{Refusal}
 use Rattle.walk.specs.Opening.{Input, width_in, walk_of, list_ids, refusal, P, room_for, Opening, closed, opened, open_walk}
 use Rattle.walk.specs.Next.{Answer}
@@ -26,8 +26,6 @@ use Rattle.driver.specs.Walked.{all_answers, whole_list}
 use Rattle.driver.proofs.Whole.{listed-whole}
 use Rattle.reports.specs.declared.Reader.{Reader}
 use Rattle.reports.specs.declared.Reader.TheVariants.{Shop, Outside}
-use Rattle.reports.specs.declared.Reported.{Reported}
-use Rattle.reports.specs.declared.Reported.TheVariants.{Whole, Refused}
 use Rattle.reports.specs.declared.FeedReport.{FeedReport}
 use Rattle.reports.specs.Report.{refused_report, fault_in, first_fault, report_from, report_by, readings_for, feed_report, good_list, open_embargoed, FeedSays}
 use Rattle.reports.specs.Demand.{fault_over, OfListed, ShopSays, FeedDemand, ReadersGiven}
@@ -38,21 +36,21 @@ use Rattle.reports.proofs.Embargoed.{good-opens}
 abbrev four : FeedReport → ℕ
 four r = r.both + r.cone + r.bed + r.neither
 
-not-whole {ℓ} : {X : Type ℓ} (q : Refusal) → Refused q ≡ Whole → X
+not-whole {ℓ} : {X : Type ℓ} (q : Refusal) → ◌≡◌ {A = Result (Unit {0}) Refusal} (Err q) (Ok tt) → X
 not-whole q e = let z : ◌≡◌ {A = ℕ} 0 1 = cc in absurd (omega arith)
 
 -- a whole report of a walk
-whole_four : (f : Id → FeedOutcome) (i : Input) → (report_by f i).outcome ≡ Whole → four (report_by f i) ≡ length (whole_list i)
+whole_four : (f : Id → Result Feed Refusal) (i : Input) → (report_by f i).outcome ≡ (Ok tt) → four (report_by f i) ≡ length (whole_list i)
 unfolding report_by whole_list
 whole_four f i o = go (first_fault f (all_answers i)) refl o
   where
-    go : (q : Option Refusal) → first_fault f (all_answers i) ≡ q → (report_from q (feeds_over f (whole_list i))).outcome ≡ Whole
+    go : (q : Option Refusal) → first_fault f (all_answers i) ≡ q → (report_from q (feeds_over f (whole_list i))).outcome ≡ (Ok tt)
         → four (report_from q (feeds_over f (whole_list i))) ≡ length (whole_list i)
-    go none h w = four_all f (whole_list i) (none_faulty f (all_answers i) h)
-    go (some q) h w = not-whole q w
+    go None h w = four_all f (whole_list i) (none_faulty f (all_answers i) h)
+    go (Some q) h w = not-whole q w
 
 module _ (reader : Reader) (e : List ℕ) (i : Input) (m : Lent) (r : FeedReport) (m' : Lent) (s : FeedSays reader e i m r m') where
-  adds : r.outcome ≡ Whole → four r ≡ length (whole_list i)
+  adds : r.outcome ≡ (Ok tt) → four r ≡ length (whole_list i)
   unfolding feed_report
   adds o = go (open_embargoed i e (room_for i (lengths_of m))) refl
     where
@@ -62,11 +60,11 @@ module _ (reader : Reader) (e : List ℕ) (i : Input) (m : Lent) (r : FeedReport
           let k = s.accepted_open st h in
           ap four k ∙ whole_four (readings_for (width_in i) reader e i.store) i (sym (ap (λ (x : FeedReport). x.outcome) k) ∙ o)
 
-  of-listed : good_list (width_in i) e ≡ true → refusal i ≡ none → room_for i (lengths_of m) ≡ true → Premises (walk_of i) (list_ids (width_in i) i.tips) → OfListed reader e i r
+  of-listed : good_list (width_in i) e ≡ true → refusal i ≡ None → room_for i (lengths_of m) ≡ true → Premises (walk_of i) (list_ids (width_in i) i.tips) → OfListed reader e i r
   unfolding feed_report report_by
   of-listed good none-refused room pre =
       let q = listed-whole i none-refused pre in
-      let f : Id → FeedOutcome = readings_for (width_in i) reader e i.store in
+      let f : Id → Result Feed Refusal = readings_for (width_in i) reader e i.store in
       let d = q.0 in
       let n : length (all_answers i) ≡ P i + 2 = ap (λ (x : List Answer). length x) (answers_at i (P i + 2)) ∙ length_up_to (answer_at_call i) (P i + 2) in
       record {
@@ -99,7 +97,7 @@ shop-says e i m r m' good s =
     let o = good-opens i e (room_for i (lengths_of m)) good in
     record {
       refused_open = λ q h. s.refused_open q (o ∙ h);
-      accepted_open = λ st h. s.accepted_open st (o ∙ h) ∙ ap (λ (f : Id → FeedOutcome). report_by f i) (shop_readings i.settings.kind e i.store);
+      accepted_open = λ st h. s.accepted_open st (o ∙ h) ∙ ap (λ (f : Id → Result Feed Refusal). report_by f i) (shop_readings i.settings.kind e i.store);
       same-lengths = s.same-lengths;
     }
 

@@ -1,9 +1,9 @@
 -- The embargoed list among the lists: it is tested for 2 before all else and for 3 after every 2, so the opening with it is its own fault, or else the
 -- opening without it. Assumes nothing.
+use Rattle.std.specs.Prelude.{Err, None, Ok, Option, Some}
 use mathlib.Core.Path.{◌≡◌, refl, sym, ◌∙◌, ap}
 use Prim.Native.Nat.{ℕ, ◌%◌}
 use mathlib.Core.Bool.{Bool, true, false, cond, ◌&&◌}
-use mathlib.Core.Option.{Option, none, some}
 use mathlib.Core.List.{List}
 use native.Mathlib.Omega.{arith}
 use lib.ListN.{length}
@@ -14,7 +14,6 @@ use Rattle.walk.specs.declared.Refusal.{Refusal}
 use Rattle.walk.specs.declared.Refusal.TheVariants.{InputTooLarge, PartialId}
 use Rattle.walk.specs.State.{State}
 use Rattle.walk.specs.Opening.{Input, width_in, list_limit, sizes_ok, whole_ids, refusal, Opening, closed, opened, open_or, open_walk}
-use Rattle.opening.specs.declared.Checked.TheVariants.{Fine, Refused}
 use Rattle.opening.specs.Checks.{input_of, checked_of}
 use Rattle.reports.specs.Report.{good_list, open_embargoed, embargo_fault}
 
@@ -27,8 +26,8 @@ pub not_opened {ℓ} : {X : Type ℓ} {q : Refusal} {st : State} → closed q �
 not_opened e = let z : ◌≡◌ {A = ℕ} 0 1 = cc in absurd (omega arith)
 
 abbrev after : Option Refusal → Opening → Opening
-after none o = o
-after (some q) o = closed q
+after None o = o
+after (Some q) o = closed q
 
 module _ (i : Input) (room : Bool) where
   too_large : sizes_ok i ≡ false → open_walk i room ≡ closed InputTooLarge
@@ -42,7 +41,7 @@ module _ (i : Input) (room : Bool) where
   -- by the four tests: the sizes and the lists of the opening, the size of the embargoed list and whether it is of whole ids
   by_tests : (a b f g : Bool) (o : Opening) → (a ≡ false → o ≡ closed InputTooLarge) → (a ≡ true → b ≡ false → o ≡ closed PartialId)
       → cond (a && f) (cond (b && g) o (closed PartialId)) (closed InputTooLarge)
-      ≡ after (cond f (cond g none (cond a (some PartialId) (some InputTooLarge))) (some InputTooLarge)) o
+      ≡ after (cond f (cond g None (cond a (Some PartialId) (Some InputTooLarge))) (Some InputTooLarge)) o
   by_tests false b false g o p q = refl
   by_tests false b true false o p q = refl
   by_tests false b true true o p q = sym (p refl)
@@ -56,13 +55,13 @@ module _ (i : Input) (room : Bool) where
   unfolding open_embargoed embargo_fault
   opens_as e = by_tests (sizes_ok i) (whole_ids i) (leb (length e) (list_limit (width_in i))) (eqb (length e % width_in i) 0) (open_walk i room) too_large partial
 
-pub fine_opens : (i : Input) (e : List ℕ) (room : Bool) → embargo_fault i e ≡ none → open_embargoed i e room ≡ open_walk i room
+pub fine_opens : (i : Input) (e : List ℕ) (room : Bool) → embargo_fault i e ≡ None → open_embargoed i e room ≡ open_walk i room
 fine_opens i e room h = opens_as i room e ∙ ap (λ (q : Option Refusal). after q (open_walk i room)) h
 
-pub fault_opens : (i : Input) (e : List ℕ) (room : Bool) (q : Refusal) → embargo_fault i e ≡ some q → open_embargoed i e room ≡ closed q
+pub fault_opens : (i : Input) (e : List ℕ) (room : Bool) (q : Refusal) → embargo_fault i e ≡ Some q → open_embargoed i e room ≡ closed q
 fault_opens i e room q h = opens_as i room e ∙ ap (λ (p : Option Refusal). after p (open_walk i room)) h
 
-both-good : (f g : Bool) (x : Option Refusal) → f && g ≡ true → cond f (cond g none x) (some InputTooLarge) ≡ none
+both-good : (f g : Bool) (x : Option Refusal) → f && g ≡ true → cond f (cond g None x) (Some InputTooLarge) ≡ None
 both-good true true x h = refl
 both-good true false x h = let z : ◌≡◌ {A = ℕ} 0 1 = cc in absurd (omega arith)
 both-good false g x h = let z : ◌≡◌ {A = ℕ} 0 1 = cc in absurd (omega arith)
@@ -71,18 +70,18 @@ both-good false g x h = let z : ◌≡◌ {A = ℕ} 0 1 = cc in absurd (omega ar
 pub good-opens : (i : Input) (e : List ℕ) (room : Bool) → good_list (width_in i) e ≡ true → open_embargoed i e room ≡ open_walk i room
 unfolding embargo_fault
 good-opens i e room h =
-    fine_opens i e room (both-good (leb (length e) (list_limit (width_in i))) (eqb (length e % width_in i) 0) (cond (sizes_ok i) (some PartialId) (some InputTooLarge)) h)
+    fine_opens i e room (both-good (leb (length e) (list_limit (width_in i))) (eqb (length e % width_in i) 0) (cond (sizes_ok i) (Some PartialId) (Some InputTooLarge)) h)
 
 -- ---- the tests one after another
 
 -- by what they answer
-pub fault_is : (o : Option Refusal) (q : Refusal) → checked_of o ≡ Refused q → o ≡ some q
-fault_is none q e = let z : ◌≡◌ {A = ℕ} 0 1 = cc in absurd (omega arith)
-fault_is (some p) q e = let z : p ≡ q = cc in ap some z
+pub fault_is : (o : Option Refusal) (q : Refusal) → checked_of o ≡ Err q → o ≡ Some q
+fault_is None q e = let z : ◌≡◌ {A = ℕ} 0 1 = cc in absurd (omega arith)
+fault_is (Some p) q e = let z : p ≡ q = cc in ap Some z
 
-pub none_is : (o : Option Refusal) → checked_of o ≡ Fine → o ≡ none
-none_is none e = refl
-none_is (some p) e = let z : ◌≡◌ {A = ℕ} 0 1 = cc in absurd (omega arith)
+pub none_is : (o : Option Refusal) → checked_of o ≡ (Ok tt) → o ≡ None
+none_is None e = refl
+none_is (Some p) e = let z : ◌≡◌ {A = ℕ} 0 1 = cc in absurd (omega arith)
 
 -- the tests of a list by a kind, where it is the opening's
 pub as_fits : {k q : Kind} {b : Bool} (l : List ℕ) → k ≡ q → leb (length l) (list_limit (width_of q)) ≡ b → leb (length l) (list_limit (width_of k)) ≡ b
@@ -96,22 +95,22 @@ and_false true = refl
 and_false false = refl
 
 module _ (i : Input) (e : List ℕ) where
-  pub by_length : leb (length e) (list_limit (width_in i)) ≡ false → some InputTooLarge ≡ embargo_fault i e
+  pub by_length : leb (length e) (list_limit (width_in i)) ≡ false → Some InputTooLarge ≡ embargo_fault i e
   unfolding embargo_fault
   by_length h = rw h
 
   module _ (l : leb (length e) (list_limit (width_in i)) ≡ true) where
-    pub by_whole : eqb (length e % width_in i) 0 ≡ true → none ≡ embargo_fault i e
+    pub by_whole : eqb (length e % width_in i) 0 ≡ true → None ≡ embargo_fault i e
     unfolding embargo_fault
     by_whole h = rw (l, h)
 
     module _ (r : eqb (length e % width_in i) 0 ≡ false) where
-      by-sizes : (b : Bool) → sizes_ok i ≡ b → cond b (some PartialId) (some InputTooLarge) ≡ embargo_fault i e
+      by-sizes : (b : Bool) → sizes_ok i ≡ b → cond b (Some PartialId) (Some InputTooLarge) ≡ embargo_fault i e
       unfolding embargo_fault
       by-sizes b h = rw (l, r, h)
 
       -- 2 of the excluded ids
-      pub by-excluded : leb (length i.excluded) (list_limit (width_in i)) ≡ false → some InputTooLarge ≡ embargo_fault i e
+      pub by-excluded : leb (length i.excluded) (list_limit (width_in i)) ≡ false → Some InputTooLarge ≡ embargo_fault i e
       unfolding sizes_ok
       by-excluded h =
           by-sizes false
@@ -119,7 +118,7 @@ module _ (i : Input) (e : List ℕ) where
           ∙ and_false (leb (length i.store) 16777216 && leb (length i.graph) 16777216 && leb (length i.tips) (list_limit (width_in i)) && leb (length i.hidden) (list_limit (width_in i))))
 
       -- 2 and 3 with the embargoed list in the place of the excluded ids, which are not too many
-      in_place : (a b : Bool) (x : Option Refusal) → cond (a && true) (cond (b && false) x (some PartialId)) (some InputTooLarge) ≡ cond (a && true) (some PartialId) (some InputTooLarge)
+      in_place : (a b : Bool) (x : Option Refusal) → cond (a && true) (cond (b && false) x (Some PartialId)) (Some InputTooLarge) ≡ cond (a && true) (Some PartialId) (Some InputTooLarge)
       in_place false b x = refl
       in_place true false x = refl
       in_place true true x = refl

@@ -1,13 +1,12 @@
 -- What `feed_report` comes to: where there is a fault the calls up to it decide; where there is none all P + 2 calls are tallied. Assumes nothing.
+use Rattle.std.specs.Prelude.{None, Option, Result, Some}
 use mathlib.Core.Path.{◌≡◌, refl, sym, ◌∙◌, ap, subst}
 use Prim.Native.Nat.{ℕ, ◌+◌, ◌≤◌}
-use mathlib.Core.Option.{Option, none, some}
 use mathlib.Core.List.{List}
 use native.Mathlib.Omega.{arith}
 use lib.ListN.{length}
 use Rattle.walk.specs.declared.Refusal.{Refusal}
 use Rattle.walk.specs.declared.Outcome.{Outcome}
-use Rattle.walk.specs.declared.OpenOutcome.{OpenOutcome}
 use Rattle.walk.specs.State.{State}
 use Rattle.walk.specs.Opening.{Input, width_in, P, room_for, closed, opened, open_walk}
 use Rattle.walk.specs.Calls.{answers}
@@ -45,22 +44,22 @@ module _ {i : Input} {m : Lent} {d : Driven} {m' : Lent} {embargoed terms ids co
 
       one : (f : Option Refusal) → first_fault (seen (width_in i) embargoed i.store) (answers i v.calls) ≡ f → report_of d ≡ report_after (as_reason f) d.tally.feeds
       one f h =
-          ap (λ (o : OpenOutcome). opened_by o d.tally.reason d.tally.feeds) v.made.accepted
+          ap (λ (o : Result (Unit {0}) Refusal). opened_by o d.tally.reason d.tally.feeds) v.made.accepted
           ∙ ap (λ (o : Outcome). report_after o d.tally.feeds) (t.reason ∙ ap as_reason h)
 
       go : (f : Option Refusal) → first_fault (seen (width_in i) embargoed i.store) (answers i v.calls) ≡ f
           → report_of d ≡ report_from (first_fault (seen (width_in i) embargoed i.store) (all_answers i)) (feeds_over (seen (width_in i) embargoed i.store) (handed_ids (all_answers i)))
-      go none h =
+      go None h =
           let n = v.whole (ap is_refusal (t.reason ∙ ap as_reason h)) in
-          one none h
+          one None h
           ∙ ap whole_report (t.feeds ∙ ap (λ (j : ℕ). feeds_over (seen (width_in i) embargoed i.store) (handed_ids (answers i j))) n)
-          ∙ ap (λ (f : Option Refusal). report_from f (feeds_over (seen (width_in i) embargoed i.store) (handed_ids (all_answers i)))) (sym (subst (λ (j : ℕ). first_fault (seen (width_in i) embargoed i.store) (answers i j) ≡ none) n h))
-      go (some r) h =
-          one (some r) h
+          ∙ ap (λ (f : Option Refusal). report_from f (feeds_over (seen (width_in i) embargoed i.store) (handed_ids (all_answers i)))) (sym (subst (λ (j : ℕ). first_fault (seen (width_in i) embargoed i.store) (answers i j) ≡ None) n h))
+      go (Some r) h =
+          one (Some r) h
           ∙ ap (λ (f : Option Refusal). report_from f (feeds_over (seen (width_in i) embargoed i.store) (handed_ids (all_answers i)))) (sym (fault_stays (seen (width_in i) embargoed i.store) i r v.calls (P i + 2) v.few h))
 
   -- the readings of the embargoed ids are those that this reader is not given, and the list refuses in no way
-  pub feed-says : {reader : Reader} {e : List ℕ} {r : FeedReport} → embargoed ≡ withheld reader e → embargo_fault i e ≡ none → r ≡ report_of d → FeedSays reader e i m r m'
+  pub feed-says : {reader : Reader} {e : List ℕ} {r : FeedReport} → embargoed ≡ withheld reader e → embargo_fault i e ≡ None → r ≡ report_of d → FeedSays reader e i m r m'
   unfolding feed_report
   feed-says {e = e} w g b =
       let o : open_embargoed i e (room_for i (lengths_of m)) ≡ open_walk i (room_for i (lengths_of m)) = fine_opens i e (room_for i (lengths_of m)) g in
@@ -71,7 +70,7 @@ module _ {i : Input} {m : Lent} {d : Driven} {m' : Lent} {embargoed terms ids co
       }
 
 -- the list itself refuses
-pub fault_says : (reader : Reader) {i : Input} {m : Lent} {e : List ℕ} {r : FeedReport} (q : Refusal) → embargo_fault i e ≡ some q → r ≡ refused_report q → FeedSays reader e i m r m
+pub fault_says : (reader : Reader) {i : Input} {m : Lent} {e : List ℕ} {r : FeedReport} (q : Refusal) → embargo_fault i e ≡ Some q → r ≡ refused_report q → FeedSays reader e i m r m
 fault_says reader {i} {m} {e} q g b =
     let o : open_embargoed i e (room_for i (lengths_of m)) ≡ closed q = fault_opens i e (room_for i (lengths_of m)) q g in
     record {

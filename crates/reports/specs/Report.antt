@@ -1,16 +1,12 @@
 -- The feed report (document 02, card 5, "Feed report") over a whole walk, for the shop's reader and for an outside one (card 10, "Embargoed
 -- readings"). Assumes nothing.
-use Rattle.std.specs.Prelude.{ℕ, ◌%◌, ◌≡◌, Bool, cond, ◌&&◌, List, [], ◌∷◌, length, eqb, leb, pos, ◌-ℤ◌}
-use Rattle.std.proofs.Math.Option.{Option, none, some}
+use Rattle.std.specs.Prelude.{ℕ, ◌%◌, ◌≡◌, Bool, cond, ◌&&◌, List, [], ◌∷◌, length, eqb, leb, pos, ◌-ℤ◌, Err, None, Ok, Option, Result, Some}
+use Rattle.feed.specs.declared.Feed.{Feed}
 use Rattle.hash.specs.Bytes.{Id, if_some}
-use Rattle.feed.specs.declared.FeedOutcome.{FeedOutcome}
-use Rattle.feed.specs.declared.FeedOutcome.TheVariants.{Read, Faulty}
 use Rattle.walk.specs.declared.Refusal.{Refusal}
 use Rattle.walk.specs.declared.Refusal.TheVariants.{InputTooLarge, PartialId}
 use Rattle.walk.specs.declared.Outcome.{Outcome}
 use Rattle.walk.specs.declared.Outcome.TheVariants.{Commit, End, Refused as Stopped}
-use Rattle.walk.specs.declared.OpenOutcome.{OpenOutcome}
-use Rattle.walk.specs.declared.OpenOutcome.TheVariants.{Accepted, NotOpened}
 use Rattle.walk.specs.State.{State}
 use Rattle.walk.specs.Opening.{Input, width_in, list_ids, list_limit, sizes_ok, whole_ids, room_for, Opening, open_walk, closed, opened}
 use Rattle.walk.specs.Next.{Kind, end, refused, handed, Answer}
@@ -21,20 +17,19 @@ use Rattle.tally.specs.Feeds.{feed_for, feeds_over}
 use Rattle.driver.specs.Walked.{all_answers, whole_list}
 use Rattle.reports.specs.declared.Reader.{Reader}
 use Rattle.reports.specs.declared.Reader.TheVariants.{Shop, Outside}
-use Rattle.reports.specs.declared.Reported.TheVariants.{Whole, Refused}
 use Rattle.reports.specs.declared.FeedReport.{FeedReport}
 
 -- ---- a report
 
 -- "the report is zeros"
 abbrev pub refused_report : Refusal → FeedReport
-refused_report r = record { outcome = Refused r; both = 0; cone = 0; bed = 0; neither = 0; cone_sum = 0; bed_sum = 0; difference = pos 0 }
+refused_report r = record { outcome = Err r; both = 0; cone = 0; bed = 0; neither = 0; cone_sum = 0; bed_sum = 0; difference = pos 0 }
 
 -- "the number of runs with both, cone alone, bed alone and neither, the two exact sums over all readings, and for paired runs the signed sum of
 -- cone less bed"
 abbrev pub whole_report : Feeds → FeedReport
 whole_report f = record {
-  outcome = Whole;
+  outcome = (Ok tt);
   both = f.both;
   cone = f.cone;
   bed = f.bed;
@@ -47,27 +42,27 @@ whole_report f = record {
 -- ---- what refuses it
 
 -- "21 reading given twice …, 22 reading unreadable"
-abbrev pub fault_in : FeedOutcome → Option Refusal
-fault_in (Read f) = none
-fault_in (Faulty r) = some r
+abbrev pub fault_in : Result Feed Refusal → Option Refusal
+fault_in (Ok f) = None
+fault_in (Err r) = Some r
 
 -- by an answer: "A walk's own refusal ends the report with that number", and a commit that is handed out may be faulty; f gives the readings
-abbrev pub fault_by : (Id → FeedOutcome) → Kind → Option Refusal
-fault_by f end = none
-fault_by f (refused r) = some r
+abbrev pub fault_by : (Id → Result Feed Refusal) → Kind → Option Refusal
+fault_by f end = None
+fault_by f (refused r) = Some r
 fault_by f (handed x g t) = fault_in (f x)
 
 -- "at the first such run in walk order", and "[o]f these and a walk's refusal the earlier call decides"
-unfoldable pub first_fault : (Id → FeedOutcome) → List Answer → Option Refusal
-first_fault f [] = none
-first_fault f (a ∷ rest) = let later = first_fault f rest in if_some (fault_by f a.kind) later (λ r. some r)
+unfoldable pub first_fault : (Id → Result Feed Refusal) → List Answer → Option Refusal
+first_fault f [] = None
+first_fault f (a ∷ rest) = let later = first_fault f rest in if_some (fault_by f a.kind) later (λ r. Some r)
 
 abbrev pub report_from : Option Refusal → Feeds → FeedReport
-report_from none f = whole_report f
-report_from (some r) f = refused_report r
+report_from None f = whole_report f
+report_from (Some r) f = refused_report r
 
 -- "Over a whole walk, report …", by readings that f gives
-unfoldable pub report_by : (Id → FeedOutcome) → Input → FeedReport
+unfoldable pub report_by : (Id → Result Feed Refusal) → Input → FeedReport
 report_by f i = report_from (first_fault f (all_answers i)) (feeds_over f (whole_list i))
 
 -- ---- the two readers
@@ -78,7 +73,7 @@ withheld Shop e = []
 withheld Outside e = e
 
 -- the readings of commits, their ids so wide, that a reader is given; e is the list of embargoed ids, as lent
-abbrev pub readings_for : ℕ → Reader → List ℕ → List ℕ → Id → FeedOutcome
+abbrev pub readings_for : ℕ → Reader → List ℕ → List ℕ → Id → Result Feed Refusal
 readings_for width reader e s = feed_for width (list_ids width (withheld reader e)) s
 
 unfoldable pub feed_report : Reader → List ℕ → Input → FeedReport
@@ -106,9 +101,9 @@ pub record FeedSays (reader : Reader) (e : List ℕ) (i : Input) (m : Lent) (r :
 -- 2 or 3 of the embargoed list, in their places among the opening's, if one of them refuses: 3 comes after every 2
 unfoldable pub embargo_fault : Input → List ℕ → Option Refusal
 embargo_fault i e =
-    let three : Option Refusal = cond (sizes_ok i) (some PartialId) (some InputTooLarge) in
-    let whole : Option Refusal = cond (eqb (length e % width_in i) 0) none three in
-    cond (leb (length e) (list_limit (width_in i))) whole (some InputTooLarge)
+    let three : Option Refusal = cond (sizes_ok i) (Some PartialId) (Some InputTooLarge) in
+    let whole : Option Refusal = cond (eqb (length e % width_in i) 0) None three in
+    cond (leb (length e) (list_limit (width_in i))) whole (Some InputTooLarge)
 
 -- by the first refusal, or End
 abbrev pub report_after : Outcome → Feeds → FeedReport
@@ -116,9 +111,9 @@ report_after Commit f = whole_report f
 report_after End f = whole_report f
 report_after (Stopped r) f = refused_report r
 
-abbrev pub opened_by : OpenOutcome → Outcome → Feeds → FeedReport
-opened_by Accepted o f = report_after o f
-opened_by (NotOpened r) o f = refused_report r
+abbrev pub opened_by : Result (Unit {0}) Refusal → Outcome → Feeds → FeedReport
+opened_by (Ok _) o f = report_after o f
+opened_by (Err r) o f = refused_report r
 
 abbrev pub report_of : Driven → FeedReport
 report_of d = opened_by d.outcome d.tally.reason d.tally.feeds

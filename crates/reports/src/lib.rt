@@ -12,10 +12,9 @@ ghost use Rattle.reports.specs.Report.{refused_report, whole_report, withheld, e
 
 use driver::Driven;
 use hash::Kind;
-use opening::Checked;
 use tally::Task;
 use tally::feeds::Feeds;
-use walk::{OpenOutcome, Outcome, Refusal, Settings};
+use walk::{Outcome, Refusal, Settings};
 
 // Who a report is for.
 #[derive(Clone, Copy)]
@@ -26,17 +25,10 @@ pub enum Reader {
     Outside,
 }
 
-// Whether a report is whole.
-#[derive(Clone, Copy)]
-pub enum Reported {
-    Whole,
-    Refused(Refusal),
-}
-
 // The feed report; zeros where it is refused.
 #[derive(Clone, Copy)]
 pub struct FeedReport {
-    pub outcome: Reported,
+    pub outcome: Result<(), Refusal>,
     // How many commits have both readings, the cone's alone, the bed's alone, and neither.
     pub both: u64,
     pub cone: u64,
@@ -54,7 +46,7 @@ fn refused_report(r: Refusal) -> FeedReport
     ensures { result ≡ refused_report r }
 {
     FeedReport {
-        outcome: Reported::Refused(r),
+        outcome: Err(r),
         both: 0,
         cone: 0,
         bed: 0,
@@ -79,7 +71,7 @@ fn whole_report(f: Feeds) -> FeedReport
     ensures { result ≡ whole_report f }
 {
     FeedReport {
-        outcome: Reported::Whole,
+        outcome: Ok(()),
         both: f.both,
         cone: f.cone,
         bed: f.bed,
@@ -112,8 +104,8 @@ fn report_of(d: Driven) -> FeedReport
     let reason = tally.reason;
     let feeds = tally.feeds;
     match outcome {
-        OpenOutcome::NotOpened(r) => refused_report(r),
-        OpenOutcome::Accepted => report_after(reason, feeds),
+        Err(r) => refused_report(r),
+        Ok(()) => report_after(reason, feeds),
     }
 }
 
@@ -137,17 +129,17 @@ fn check_embargoed(
     hidden: &[u8],
     excluded: &[u8],
     embargoed: &[u8],
-) -> Checked
+) -> Result<(), Refusal>
     ensures { (s : Settings) → s.kind ≡ kind → result ≡ checked_of (embargo_fault (input_of store.now graph.now tips.now hidden.now excluded.now s) embargoed.now) }
 {
     if !list_fits(kind, embargoed) {
-        return Checked::Refused(Refusal::InputTooLarge);
+        return Err(Refusal::InputTooLarge);
     }
     if hash::whole(kind, embargoed.len()) {
-        return Checked::Fine;
+        return Ok(());
     }
     if !list_fits(kind, excluded) {
-        return Checked::Refused(Refusal::InputTooLarge);
+        return Err(Refusal::InputTooLarge);
     }
     opening::check_input(kind, store, graph, tips, hidden, embargoed)
 }
@@ -188,8 +180,8 @@ pub fn feed_report(
     let terms = [0u32; 1];
     let mut counts = [0u64; 1];
     match check_embargoed(kind, store, graph, tips, hidden, excluded, embargoed) {
-        Checked::Refused(r) => refused_report(r),
-        Checked::Fine => report_of(driver::drive(
+        Err(r) => refused_report(r),
+        Ok(()) => report_of(driver::drive(
             Task::Feed,
             store,
             graph,

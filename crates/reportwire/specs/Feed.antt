@@ -1,13 +1,12 @@
 -- What the library says of a feed report (document 02, cards 5 and 10), set down in lent buffers. Assumes nothing.
-use Rattle.std.specs.Prelude.{ℕ, ◌≡◌, Bool, true, false, cond, ◌&&◌, List, [], ◌∷◌, length, set, eqb, leb, ℤ}
+use Rattle.std.specs.Prelude.{ℕ, ◌≡◌, Bool, true, false, cond, ◌&&◌, List, [], ◌∷◌, length, set, eqb, leb, ℤ, Err, Ok, Result}
+use Rattle.walk.specs.declared.Refusal.{Refusal}
 use Rattle.hash.specs.Bytes.{set_down}
 use Rattle.walk.specs.Refusals.{number_of}
 use Rattle.walk.specs.Opening.{Input}
 use Rattle.traverse.specs.Contract.{Lent}
 use Rattle.reports.specs.declared.Reader.{Reader}
 use Rattle.reports.specs.declared.Reader.TheVariants.{Shop, Outside}
-use Rattle.reports.specs.declared.Reported.{Reported}
-use Rattle.reports.specs.declared.Reported.TheVariants.{Whole, Refused}
 use Rattle.reports.specs.declared.FeedReport.{FeedReport}
 use Rattle.reports.specs.Report.{FeedSays}
 
@@ -16,9 +15,9 @@ abbrev pub no_room_number : ℕ
 no_room_number = 101
 
 -- a whole report is 0, a refusal has its number
-abbrev pub reported_number : Reported → ℕ
-reported_number Whole = 0
-reported_number (Refused r) = number_of r
+abbrev pub reported_number : Result (Unit {0}) Refusal → ℕ
+reported_number (Ok _) = 0
+reported_number (Err r) = number_of r
 
 -- "the number of runs with both, cone alone, bed alone and neither, the two exact sums over all readings"
 abbrev pub feed_words : FeedReport → List ℕ

@@ -10,7 +10,8 @@ ghost use Rattle.traverse.specs.Open.{lent_of};
 ghost use Rattle.wire.specs.Numbers.{settings_of};
 ghost use Rattle.reportwire.specs.Feed.{reported_number, feed_words, room_for_feed, reader_of, PutsFeed, LibraryFeed};
 
-use reports::{FeedReport, Reader, Reported};
+use reports::{FeedReport, Reader};
+use walk::Refusal;
 
 // The library's result where there is no room for a report: none of document 01's numbers.
 const NO_ROOM: u32 = 101;
@@ -25,12 +26,12 @@ fn wide(n: u8) -> u32
 }
 
 // The number of what is said: 0, or the refusal's.
-fn number(o: Reported) -> u32
+fn number(o: Result<(), Refusal>) -> u32
     ensures { result ≡ reported_number o }
 {
     match o {
-        Reported::Whole => 0,
-        Reported::Refused(r) => wide(walk::number(r)),
+        Ok(()) => 0,
+        Err(r) => wide(walk::number(r)),
     }
 }
 

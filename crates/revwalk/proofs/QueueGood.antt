@@ -2,7 +2,8 @@
 -- a slot that is handed out from the front of the list is.
 use mathlib.Core.Path.{◌≡◌, refl, sym, ap, ◌∙◌, subst}
 use mathlib.Core.Logic.{◌⊎◌, inl, inr, ⊎_elim}
-use mathlib.Core.List.{List, ◌∷◌}
+use mathlib.Core.List.{List, [], ◌∷◌}
+use Rattle.std.specs.Prelude.{Option, Some, None}
 use mathlib.Core.Bool.{Bool, true, false, not}
 use Prim.Native.Nat.{ℕ, suc, ◌+◌, ◌≤◌, ◌<◌}
 use native.Mathlib.Omega.{arith}
@@ -11,7 +12,7 @@ use lib.IntN.{ℤ}
 use Rattle.revwalk.specs.declared.queue.Queue.{Queue}
 use Rattle.revwalk.specs.declared.queue.Popped.{Popped}
 use Rattle.revwalk.specs.Order.{at, seq_of, ahead, never, sort_at, In}
-use Rattle.revwalk.specs.Queue.{Heap, Slots, Ring, GoodQueue, Alike, Joins, Pops, PopsOf, ReadsSlot, nothing, queued, ring_at, before, place_of, turn_of, slots_of}
+use Rattle.revwalk.specs.Queue.{Heap, Slots, Ring, GoodQueue, Alike, Joins, Took, Pops, PopsOf, ReadsSlot, queued, ring_at, before, place_of, turn_of, slots_of}
 use Rattle.revwalk.proofs.QueueSorts.{no_both, Place, in_sort, sort_in, length_sort}
 use Rattle.revwalk.proofs.QueueRoom.{room-left}
 
@@ -110,62 +111,32 @@ refused {q} nay =
       joined = λ g s f n. absurd (nay g s f n);
     }
 
-pub pops-none : {q : Queue} {times : List ℤ} {line : List ℕ} → (GoodQueue q times line → q.count ≡ 0) → Pops q times line line (record { found = false; slot = 0; queue = q })
+no_slots : (l : List ℕ) → length l ≡ 0 → l ≡ []
+no_slots [] e = refl
+no_slots (x ∷ l) e = absurd (omega arith)
+
+pub pops-none : {q : Queue} {times : List ℤ} {line : List ℕ} → (GoodQueue q times line → q.count ≡ 0) → Pops q times line line None
 pops-none {q} {times} {line} empty =
     record {
       long = refl;
       kept = λ k h. refl;
-      same = alike q;
-      next = refl;
-      still = λ e. (refl, refl);
-      first = λ e. no_both e refl;
-      none = λ g e. refl;
-      some = λ g s l e.
-          let a : length (slots_of q times line) ≡ suc (length l) = ap length e in
-          absurd (omega (arith, slots_length q times line, empty g));
+      told = (refl, λ g. no_slots (slots_of q times line) (slots_length q times line ∙ empty g));
     }
 
 -- ---- pop of a heap alone, or of a ring
-module _ {b : Bool} {q : Queue} {times : List ℤ} {line : List ℕ} {p : Popped} (e : p ≡ nothing q) where
-  pub other_none : q.timed ≡ not b → PopsOf b q times line line p
-  other_none n = record { own = λ o. absurd (no_own b (sym o ∙ n)); other = λ o. (e, refl) }
+module _ {b : Bool} {q : Queue} {times : List ℤ} {line : List ℕ} where
+  pub other_none : q.timed ≡ not b → PopsOf b q times line line None
+  other_none n = record { own = λ o. absurd (no_own b (sym o ∙ n)); other = λ o. (refl, refl) }
 
-  pub own-none : (q.timed ≡ b → GoodQueue q times line → q.count ≡ 0) → q.timed ≡ b → PopsOf b q times line line p
-  own-none empty n = record { own = λ o. subst (Pops q times line line) (sym e) (pops-none (empty o)); other = λ o. absurd (no_own b (sym n ∙ o)) }
+  pub own-none : (q.timed ≡ b → GoodQueue q times line → q.count ≡ 0) → q.timed ≡ b → PopsOf b q times line line None
+  own-none empty n = record { own = λ o. pops-none (empty o); other = λ o. absurd (no_own b (sym n ∙ o)) }
 
-pub own-pops : {b : Bool} {q : Queue} {times : List ℤ} {line out : List ℕ} {p : Popped} → q.timed ≡ b → Pops q times line out p → PopsOf b q times line out p
+pub own-pops : {b : Bool} {q : Queue} {times : List ℤ} {line out : List ℕ} {p : Option Popped} → q.timed ≡ b → Pops q times line out p → PopsOf b q times line out p
 own-pops {b} n o = record { own = λ k. o; other = λ k. absurd (no_own b (sym n ∙ k)) }
 
 -- ---- the first of the list is handed out
-pub record First (q : Queue) (times : List ℤ) (line out : List ℕ) (r : Popped) : Type 0 where
-  pub count : r.queue.count + 1 ≡ q.count
-  pub good : GoodQueue r.queue times out
-  pub list : slots_of q times line ≡ r.slot ∷ slots_of r.queue times out
-
-heads : {a b : ℕ} {l m : List ℕ} → a ∷ l ≡ b ∷ m → a ≡ b
-heads e = cc
-
-tails : {a b : ℕ} {l m : List ℕ} → a ∷ l ≡ b ∷ m → l ≡ m
-tails e = cc
-
-pub pops-first : {q : Queue} {times : List ℤ} {line out : List ℕ} {r : Popped} → length out ≡ length line → ((k : ℕ) → q.cap + q.cap ≤ k → at out k ≡ at line k) → Alike q r.queue → r.queue.next ≡ q.next → r.found ≡ true → r.slot ≡ place_of q line 0 → (GoodQueue q times line → First q times line out r) → Pops q times line out r
-pops-first {q} {times} {line} {out} {r} long kept same next found place first =
-    record {
-      long = long;
-      kept = kept;
-      same = same;
-      next = next;
-      still = λ e. no_both found e;
-      first = λ e. place;
-      none = λ g e.
-          let a : length (slots_of q times line) ≡ 0 = ap length e in
-          let b : length (slots_of q times line) ≡ suc (length (slots_of r.queue times out)) = ap length (first g).list in
-          absurd (omega arith);
-      some = λ g s l e.
-          let f = first g in
-          let w = sym f.list ∙ e in
-          record { found = found; slot = heads w; count = f.count; good = f.good; list = tails w };
-    }
+pub pops-first : {q : Queue} {times : List ℤ} {line out : List ℕ} {r : Popped} → length out ≡ length line → ((k : ℕ) → q.cap + q.cap ≤ k → at out k ≡ at line k) → Alike q r.queue → r.queue.next ≡ q.next → r.slot ≡ place_of q line 0 → (GoodQueue q times line → Took q times line out r) → Pops q times line out (Some r)
+pops-first long kept same next place took = record { long = long; kept = kept; told = record { same = same; next = next; first = place; took = took } }
 
 -- ---- the slot at a place
 pub reads-timed : {q : Queue} {line : List ℕ} {i r : ℕ} → q.timed ≡ true → r ≡ at line i → ReadsSlot q line i r

@@ -1,4 +1,5 @@
 -- push and pop of a queue that is a heap.
+use Rattle.std.specs.Prelude.{Some}
 use mathlib.Core.Path.{◌≡◌, refl, sym, ap, ◌∙◌, subst}
 use mathlib.Core.List.{List, ◌∷◌}
 use mathlib.Core.Bool.{true}
@@ -39,9 +40,9 @@ module _ {q : Queue} {times : List ℤ} {line out : List ℕ} (e : q.timed ≡ t
       r = record { timed = q.timed; newest = q.newest; cap = q.cap; head = q.head; count = q.count + 1; next = q.next + 1 }
 
   -- the root handed out, and the queue with one slot less
-  pub pops : q.count ≤ q.cap → (q.count ≡ 0 → ⊥) → length out ≡ length line → Unrooted q.newest times q.cap (q.count - 1) line out → Pops q times line out (record { found = true; slot = at line 0; queue = record { timed = q.timed; newest = q.newest; cap = q.cap; head = q.head; count = q.count - 1; next = q.next } })
+  pub pops : q.count ≤ q.cap → (q.count ≡ 0 → ⊥) → length out ≡ length line → Unrooted q.newest times q.cap (q.count - 1) line out → Pops q times line out (Some (record { slot = at line 0; queue = record { timed = q.timed; newest = q.newest; cap = q.cap; head = q.head; count = q.count - 1; next = q.next } }))
   pops hn some long u =
-      pops-first long (λ k h. u.kept k (omega arith)) (record { timed = refl; newest = refl; cap = refl }) refl refl (sym (ap (λ (p : ℕ → ℕ). p 0) (place-timed q line e)))
+      pops-first long (λ k h. u.kept k (omega arith)) (record { timed = refl; newest = refl; cap = refl }) refl (sym (ap (λ (p : ℕ → ℕ). p 0) (place-timed q line e)))
       (λ g.
       let h : Heap q.newest times line q.cap (q.count - 1 + 1) q.next = subst (λ (n : ℕ). Heap q.newest times line q.cap n q.next) (sym more) (g.heap e) in
       record {

@@ -1,4 +1,5 @@
 -- push, put_front and pop of a queue that is a ring: a place that is i places after head is told from the others, and head moves by one.
+use Rattle.std.specs.Prelude.{Some}
 use mathlib.Core.Path.{◌≡◌, refl, sym, ap, ◌∙◌, subst}
 use mathlib.Core.Logic.{◌⊎◌, inl, inr, ⊎_elim}
 use mathlib.Core.List.{List, ◌∷◌}
@@ -179,9 +180,9 @@ module _ (q : Queue) (times : List ℤ) (line : List ℕ) (e : q.timed ≡ false
         new : f' 0 ≡ slot
         new = ap (at (set line p slot)) (wrap-self q.cap p hp) ∙ set-in
 
-  pub pops : (p : ℕ) → (q.count ≡ 0 → ⊥) → q.head < q.cap → p ≡ wrap q.cap (q.head + 1) → p < q.cap → Pops q times line line (record { found = true; slot = at line q.head; queue = record { timed = q.timed; newest = q.newest; cap = q.cap; head = p; count = q.count - 1; next = q.next } })
+  pub pops : (p : ℕ) → (q.count ≡ 0 → ⊥) → q.head < q.cap → p ≡ wrap q.cap (q.head + 1) → p < q.cap → Pops q times line line (Some (record { slot = at line q.head; queue = record { timed = q.timed; newest = q.newest; cap = q.cap; head = p; count = q.count - 1; next = q.next } }))
   pops p some hh is hp =
-      pops-first refl (λ k h. refl) (record { timed = refl; newest = refl; cap = refl }) refl refl
+      pops-first refl (λ k h. refl) (record { timed = refl; newest = refl; cap = refl }) refl
       (sym (ap (λ (f : ℕ → ℕ). f 0) (place-ring q line e) ∙ ap (at line) (wrap-self q.cap q.head hh)))
       (λ g.
       let size = (g.ring e).size in

@@ -1,4 +1,5 @@
 -- For callers: the empty queue, the list's members, what changes elsewhere leave as it is, what a pop told, and the slots as they stand in memory.
+use Rattle.std.specs.Prelude.{Some}
 use mathlib.Core.Path.{◌≡◌, refl, sym, ap, ◌∙◌, subst}
 use mathlib.Core.Logic.{inl, ⊎_elim}
 use mathlib.Core.List.{List, [], ◌∷◌, Permᴰ}
@@ -16,7 +17,7 @@ use Rattle.hashtable.specs.Table.{wrap}
 use Rattle.revwalk.specs.Queue.{Heap, Ring, GoodQueue, Joins, Pushes, PutsBack, Pops, queued, ring_at, place_of, turn_of, slots_of}
 use Rattle.revwalk.proofs.QueueSorts.{no_both, sort_agree, once_sort, perm_sort}
 use Rattle.revwalk.proofs.QueueShares.{heap_as}
-use Rattle.revwalk.proofs.QueueGood.{First, either, place-timed, slots-timed, slots-ring, slots-in, in-slots, good-slots}
+use Rattle.revwalk.proofs.QueueGood.{either, place-timed, slots-timed, slots-ring, slots-in, in-slots, good-slots}
 use Rattle.revwalk.proofs.QueueRing.{wrap-in, pick_yes, pick_no}
 
 -- ---- the empty queue
@@ -186,43 +187,17 @@ same_rest line line' n long kept =
     ext_get_or 0 (drop n line') (drop n line) (simp length-drop (omega arith)) (λ i h. get_or-drop n line' i 0 ∙ kept (n + i) (omega arith) ∙ sym (get_or-drop n line i 0))
 
 -- ---- what a pop told
-module _ {q : Queue} {times : List ℤ} {line out : List ℕ} {r : Popped} (p : Pops q times line out r) (g : GoodQueue q times line) where
-  pub pop-found : r.found ≡ true → First q times line out r
-  pop-found found = go (slots_of q times line) refl
-    where
-      go : (l : List ℕ) → slots_of q times line ≡ l → First q times line out r
-      go [] e = no_both found (p.none g e)
-      go (s ∷ l) e =
-          let t = p.some g s l e in
-          record {
-            count = t.count;
-            good = t.good;
-            list = e ∙ ap (λ (x : ℕ). x ∷ l) (sym t.slot) ∙ ap (λ (m : List ℕ). r.slot ∷ m) (sym t.list);
-          }
-
-  pub pop-empty : r.found ≡ false → slots_of q times line ≡ []
-  pop-empty none = go (slots_of q times line) refl
-    where
-      go : (l : List ℕ) → slots_of q times line ≡ l → slots_of q times line ≡ []
-      go [] e = e
-      go (s ∷ l) e = no_both (p.some g s l e).found none
-
+module _ {q : Queue} {times : List ℤ} {line out : List ℕ} {r : Popped} (p : Pops q times line out (Some r)) (g : GoodQueue q times line) where
   -- the slot that was handed out does not wait any more, so it may be put back
-  pub pop-gone : r.found ≡ true → In r.slot (slots_of r.queue times out) → ⊥
+  pub pop-gone : In r.slot (slots_of r.queue times out) → ⊥
   unfolding Once
-  pop-gone found h = (subst Once (pop-found found).list (slots-once g)).0 h
+  pop-gone h = (subst Once (p.told.took g).list (slots-once g)).0 h
 
-  pub pop-low : r.found ≡ true → r.slot < r.queue.cap
+  pub pop-low : r.slot < r.queue.cap
   unfolding In
-  pop-low found =
-      let first : In r.slot (slots_of q times line) = subst (In r.slot) (sym (pop-found found).list) (inl refl) in
-      subst (λ (c : ℕ). r.slot < c) (sym p.same.cap) (slots-low g r.slot first)
-
--- where nothing was found nothing has changed
-pub pop_still : {q : Queue} {times : List ℤ} {line out : List ℕ} {r : Popped} (P : Queue → List ℕ → Type 0) → Pops q times line out r → r.found ≡ false → P q line → P r.queue out
-pop_still {line = line} {r = r} P p none h =
-    let s = p.still none in
-    subst (P r.queue) (sym s.1) (subst (λ (x : Queue). P x line) (sym s.0) h)
+  pop-low =
+      let first : In r.slot (slots_of q times line) = subst (In r.slot) (sym (p.told.took g).list) (inl refl) in
+      subst (λ (c : ℕ). r.slot < c) (sym p.told.same.cap) (slots-low g r.slot first)
 
 -- ---- what put_back did
 module _ {q : Queue} {times : List ℤ} {slot : ℕ} {line out : List ℕ} {r : Queue} (b : PutsBack q times slot line out r) where

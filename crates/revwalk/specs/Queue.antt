@@ -1,5 +1,5 @@
 -- The queue of slots: the list of those that wait, what is right of its memory, and what its functions do.
-use Rattle.std.specs.Prelude.{◌≡◌, List, [], ◌∷◌, Bool, true, false, cond, not, ℕ, ◌+◌, ◌-◌, ◌≤◌, ◌<◌, length, ltb, ℤ}
+use Rattle.std.specs.Prelude.{◌≡◌, List, [], ◌∷◌, Bool, true, false, cond, not, ℕ, ◌+◌, ◌-◌, ◌≤◌, ◌<◌, length, ltb, ℤ, Option, Some, None}
 use Rattle.revwalk.specs.declared.queue.Queue.{Queue}
 use Rattle.revwalk.specs.declared.queue.Popped.{Popped}
 use Rattle.hashtable.specs.Table.{wrap}
@@ -96,33 +96,34 @@ abbrev pub PutsBack : Queue → List ℤ → ℕ → List ℕ → List ℕ → Q
 PutsBack q times slot line out r =
     Joins q times slot (cond q.timed (insert_by (before q times) slot (slots_of q times line)) (slot ∷ slots_of q times line)) line out r
 
--- slot s was handed out, and the list l is left
-pub record Took (q : Queue) (times : List ℤ) (s : ℕ) (l out : List ℕ) (r : Popped) : Type 0 where
-  pub found : r.found ≡ true
-  pub slot : r.slot ≡ s
+-- slot r.slot, the first of the list, was handed out, and r.queue holds the others
+pub record Took (q : Queue) (times : List ℤ) (line out : List ℕ) (r : Popped) : Type 0 where
   pub count : r.queue.count + 1 ≡ q.count
   pub good : GoodQueue r.queue times out
-  pub list : slots_of r.queue times out ≡ l
+  pub list : slots_of q times line ≡ r.slot ∷ slots_of r.queue times out
 
--- pop, with its answer r
-pub record Pops (q : Queue) (times : List ℤ) (line out : List ℕ) (r : Popped) : Type 0 where
-  pub long : length out ≡ length line
-  pub kept : (k : ℕ) → q.cap + q.cap ≤ k → at out k ≡ at line k
+-- a slot was handed out, the one at the first place
+pub record HandsOut (q : Queue) (times : List ℤ) (line out : List ℕ) (r : Popped) : Type 0 where
   pub same : Alike q r.queue
   pub next : r.queue.next ≡ q.next
-  pub still : r.found ≡ false → (r.queue ≡ q) × (out ≡ line)
-  pub first : r.found ≡ true → r.slot ≡ place_of q line 0
-  pub none : GoodQueue q times line → slots_of q times line ≡ [] → r.found ≡ false
-  pub some : GoodQueue q times line → (s : ℕ) (l : List ℕ) → slots_of q times line ≡ s ∷ l → Took q times s l out r
+  pub first : r.slot ≡ place_of q line 0
+  pub took : GoodQueue q times line → Took q times line out r
 
--- nothing is handed out
-abbrev pub nothing : Queue → Popped
-nothing q = record { found = false; slot = 0; queue = q }
+-- by the answer: a slot was handed out; or none, of a queue that is empty or not right, and nothing has changed
+abbrev pub PopsTo : Queue → List ℤ → List ℕ → List ℕ → Option Popped → Type 0
+PopsTo q times line out (Some r) = HandsOut q times line out r
+PopsTo q times line out None = (out ≡ line) × (GoodQueue q times line → slots_of q times line ≡ [])
+
+-- pop, with its answer r
+pub record Pops (q : Queue) (times : List ℤ) (line out : List ℕ) (r : Option Popped) : Type 0 where
+  pub long : length out ≡ length line
+  pub kept : (k : ℕ) → q.cap + q.cap ≤ k → at out k ≡ at line k
+  pub told : PopsTo q times line out r
 
 -- pop of a heap alone or of a ring alone, with its answer r: of a queue by time, or of one that is not, as b says; of the other nothing is handed out
-pub record PopsOf (b : Bool) (q : Queue) (times : List ℤ) (line out : List ℕ) (r : Popped) : Type 0 where
+pub record PopsOf (b : Bool) (q : Queue) (times : List ℤ) (line out : List ℕ) (r : Option Popped) : Type 0 where
   pub own : q.timed ≡ b → Pops q times line out r
-  pub other : q.timed ≡ not b → (r ≡ nothing q) × (out ≡ line)
+  pub other : q.timed ≡ not b → (r ≡ None) × (out ≡ line)
 
 -- slot_at, with its answer r
 pub record ReadsSlot (q : Queue) (line : List ℕ) (i r : ℕ) : Type 0 where

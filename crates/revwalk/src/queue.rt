@@ -2,7 +2,7 @@
 // that each slot was queued under in line[cap..2 * cap); otherwise it is a ring in line[0..cap), first in, first out. A slot waits once.
 // The queue's numbers go in by value and come back; a call that refuses changes nothing.
 ghost use Rattle.std.specs.Prelude.{◌≡◌};
-ghost use Rattle.revwalk.specs.Queue.{nothing, place_of, Pushes, PutsBack, Pops, ReadsSlot};
+ghost use Rattle.revwalk.specs.Queue.{place_of, Pushes, PutsBack, Pops, ReadsSlot};
 
 pub mod heap;
 pub mod ring;
@@ -23,24 +23,11 @@ pub struct Queue {
     pub next: u32,
 }
 
+// The slot that is handed out, and the queue that is left.
 #[derive(Clone, Copy)]
 pub struct Popped {
-    pub found: bool,
-    // The slot handed out, 0 where none was found.
     pub slot: u32,
-    // The queue that is left.
     pub queue: Queue,
-}
-
-// The answer where nothing is handed out.
-fn none(q: Queue) -> Popped
-    ensures { result ≡ nothing q }
-{
-    Popped {
-        found: false,
-        slot: 0,
-        queue: q,
-    }
 }
 
 // Queues a slot that does not wait yet: after those that wait with the same seconds, or at the end.
@@ -65,8 +52,8 @@ pub fn put_back(q: Queue, line: &mut [u32], times: &[i64], slot: u32) -> Queue
     }
 }
 
-// Hands out the first slot.
-pub fn pop(q: Queue, line: &mut [u32], times: &[i64]) -> Popped
+// Hands out the first slot; where it hands out none, the queue stays as it is.
+pub fn pop(q: Queue, line: &mut [u32], times: &[i64]) -> Option<Popped>
     ensures { Pops q times.now line.old line.new result }
 {
     if q.timed {

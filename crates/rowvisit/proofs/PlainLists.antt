@@ -1,4 +1,5 @@
 -- A list of one or two parents is told by the row's first two numbers, and the level by its third. Assumes nothing.
+use Rattle.std.specs.Prelude.{Some}
 use mathlib.Core.Path.{◌≡◌, refl, sym, ap, ◌∙◌}
 use mathlib.Core.Logic.{◌⊎◌, inl, inr, ⊎_elim}
 use Prim.Native.Nat.{ℕ, zero, suc, ◌+◌, ◌/◌, ◌≤◌, ◌<◌}
@@ -8,7 +9,6 @@ use native.Mathlib.Omega.{arith}
 use Rattle.hash.specs.Bytes.{u32_at}
 use Rattle.commitgraph.specs.Graph.{level_in, no_generation, no_parent, parent_list_of, parents_in, row_in, stated_level, with_parent}
 use Rattle.commitgraph.specs.declared.Layout.{Layout}
-use Rattle.commitgraph.specs.declared.parents.ParentList.TheVariants.{Good}
 use Rattle.commitgraph.proofs.Edges.{after_none, after_one, parents-some}
 use Rattle.rowvisit.specs.Numbers.{Numbers, PlainList}
 
@@ -20,23 +20,23 @@ one_or_two (suc (suc (suc n))) f z = absurd (omega arith)
 
 module _ {width : ℕ} {g : List ℕ} {l : Layout} {p a b : ℕ} (h : Numbers width g l p a b) where
   -- "0 < n": the row's own list is good
-  pub plain-list : {n : ℕ} → PlainList l.count a b n → (n ≡ 0 → ⊥) → Good n ≡ parent_list_of (parents_in width g l p)
+  pub plain-list : {n : ℕ} → PlainList l.count a b n → (n ≡ 0 → ⊥) → Some n ≡ parent_list_of (parents_in width g l p)
   plain-list {n} t z =
       let x : ℕ = u32_at (row_in width g l p) width in
       let y : ℕ = u32_at (row_in width g l p) (width + 4) in
       let o : 0 < n = omega (arith, z) in
       let s = parents-some width g l p (λ e. t.some_first o (h.first ∙ e)) (omega (arith, h.first, t.first-low o)) in
       ⊎_elim
-      (λ e. ap Good e ∙ sym (ap parent_list_of (s ∙ ap (with_parent x) (after_none g l y (sym h.second ∙ t.one e)))))
-      (λ e. ap Good e ∙ sym (ap parent_list_of (s ∙ ap (with_parent x) (after_one g l y (λ q. t.some-second e (h.second ∙ q)) (omega (arith, h.second, t.no_edge e)) (omega (arith, h.second, t.second-low e))))))
+      (λ e. ap Some e ∙ sym (ap parent_list_of (s ∙ ap (with_parent x) (after_none g l y (sym h.second ∙ t.one e)))))
+      (λ e. ap Some e ∙ sym (ap parent_list_of (s ∙ ap (with_parent x) (after_one g l y (λ q. t.some-second e (h.second ∙ q)) (omega (arith, h.second, t.no_edge e)) (omega (arith, h.second, t.second-low e))))))
       (one_or_two n t.few z)
 
   -- or the row lists no parents
-  pub plain-or-none : {n : ℕ} → PlainList l.count a b n → (n ≡ 0 → (a ≡ no_parent) × (b ≡ no_parent)) → Good n ≡ parent_list_of (parents_in width g l p)
+  pub plain-or-none : {n : ℕ} → PlainList l.count a b n → (n ≡ 0 → (a ≡ no_parent) × (b ≡ no_parent)) → Some n ≡ parent_list_of (parents_in width g l p)
   unfolding parents_in
   plain-or-none {n} = go n
     where
-      go : (n : ℕ) → PlainList l.count a b n → (n ≡ 0 → (a ≡ no_parent) × (b ≡ no_parent)) → Good n ≡ parent_list_of (parents_in width g l p)
+      go : (n : ℕ) → PlainList l.count a b n → (n ≡ 0 → (a ≡ no_parent) × (b ≡ no_parent)) → Some n ≡ parent_list_of (parents_in width g l p)
       go zero t z = let e = z refl in rw (sym h.first ∙ e.0, sym h.second ∙ e.1)
       go (suc n) t z = plain-list t (λ e. absurd (omega (arith, e)))
 

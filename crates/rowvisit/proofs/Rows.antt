@@ -1,5 +1,6 @@
 -- The parents of a row, visited one after the other, are the walk's own visits of its list; the list is judged before the first of them.
 -- Assumes nothing.
+use Rattle.std.specs.Prelude.{None, Option, Some}
 use mathlib.Core.Path.{◌≡◌, refl, sym, ap, ◌∙◌, subst}
 use Prim.Native.Nat.{ℕ, suc, ◌+◌, ◌*◌, ◌≤◌, ◌<◌}
 use mathlib.Core.Bool.{true, false}
@@ -16,9 +17,8 @@ use Rattle.commitgraph.specs.declared.Level.{Level}
 use Rattle.walk.specs.declared.Settings.{Settings}
 use Rattle.walk.specs.Settings.{only_first}
 use Rattle.walk.specs.Lookup.{row, row_at}
-use Rattle.reading.specs.Row.{level_of, row_read_of}
+use Rattle.reading.specs.Row.{row_with, level_of, row_read_of}
 use Rattle.reading.specs.declared.row.RowRead.{RowRead}
-use Rattle.reading.specs.declared.row.RowRead.TheVariants.{Corrupt, Row as RowAt}
 use Rattle.reading.proofs.Bodies.{followed-one, followed-all}
 use Rattle.reading.proofs.Down.{set_down-past}
 use Rattle.reading.proofs.Rows.{parent-there, row-few, row-width}
@@ -29,8 +29,7 @@ use Rattle.state.specs.Reads.{Memory}
 use Rattle.links.specs.Link.{Visits}
 use Rattle.links.specs.Visits.{Past}
 use Rattle.links.proofs.Visits.{past-none, past_next, Run, run-start, run-next}
-use Rattle.rowvisit.specs.declared.row.RowVisited.TheVariants.{Visited, Corrupt as RowVisited-as-Corrupt}
-use Rattle.rowvisit.specs.Row.{Follows, SetsParent, VisitsRowParent, VisitsRow, VisitedBy, VisitsCached}
+use Rattle.rowvisit.specs.Row.{visited, Follows, SetsParent, VisitsRowParent, VisitsRow, VisitedBy, VisitsCached}
 
 -- ---- one id is set down
 
@@ -115,11 +114,11 @@ follows_all {settings} o = record { right = λ ps e. e ∙ ap length (sym (follo
 
 -- ---- the list is judged
 
-module _ {excluded : List ℕ} {settings : Settings} {g : List ℕ} {l : Layout} {p : ℕ} {r : Record} {w : Waiting} {m : Memory} {v b : List ℕ} {z : RowRead} (read : z ≡ row_read_of (level_of (width_of settings.kind) g l p) (parents_in (width_of settings.kind) g l p)) where
-  pub judged-good : {m' : Memory} {v' b' : List ℕ} {w' : Waiting} {n k : ℕ} {c : Level} → z ≡ RowAt n c → Follows settings n k → VisitsRow excluded settings g l p k (waiting_in r w) m m' b b' (waiting_in r w')
-      → VisitsCached excluded settings g l p r w m m' v v' b b' (Visited w' k c)
+module _ {excluded : List ℕ} {settings : Settings} {g : List ℕ} {l : Layout} {p : ℕ} {r : Record} {w : Waiting} {m : Memory} {v b : List ℕ} {z : Option RowRead} (read : z ≡ row_read_of (level_of (width_of settings.kind) g l p) (parents_in (width_of settings.kind) g l p)) where
+  pub judged-good : {m' : Memory} {v' b' : List ℕ} {w' : Waiting} {n k : ℕ} {c : Level} → z ≡ Some (row_with n c) → Follows settings n k → VisitsRow excluded settings g l p k (waiting_in r w) m m' b b' (waiting_in r w')
+      → VisitsCached excluded settings g l p r w m m' v v' b b' (Some (visited w' k c))
   judged-good {m'} {v'} {b'} {w'} {n} {k} {c} e f d =
-      record { judged = subst (λ (z : RowRead). VisitedBy z excluded settings g l p r w m m' v v' b b' (Visited w' k c)) (sym e ∙ read) (k, w', refl, f, d) }
+      record { judged = subst (λ (z : Option RowRead). VisitedBy z excluded settings g l p r w m m' v v' b b' (Some (visited w' k c))) (sym e ∙ read) (k, w', refl, f, d) }
 
-  pub judged-corrupt : z ≡ Corrupt → VisitsCached excluded settings g l p r w m m v v b b RowVisited-as-Corrupt
-  judged-corrupt e = record { judged = subst (λ (z : RowRead). VisitedBy z excluded settings g l p r w m m v v b b RowVisited-as-Corrupt) (sym e ∙ read) (refl, refl, refl, refl) }
+  pub judged-corrupt : z ≡ None → VisitsCached excluded settings g l p r w m m v v b b None
+  judged-corrupt e = record { judged = subst (λ (z : Option RowRead). VisitedBy z excluded settings g l p r w m m v v b b None) (sym e ∙ read) (refl, refl, refl, refl) }

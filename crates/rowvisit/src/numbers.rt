@@ -10,7 +10,7 @@ use commitgraph::{Layout, Level, rows};
 use hash::Kind;
 use reading::RowRead;
 
-// A parent that is none.
+// A parent that is none: the file's own number.
 const NONE: u32 = 0x70000000;
 
 // The bit that marks a pointer into EDGE, and in EDGE the last parent.
@@ -120,7 +120,7 @@ pub(crate) fn collect_parents(
     first: u32,
     second: u32,
     third: u32,
-) -> RowRead
+) -> Option<RowRead>
     requires { Numbers (width_of kind) graph.now l position first second × (third ≡ u32_at (row_in (width_of kind) graph.now l position) (width_of kind + 8)) }
     ensures { result ≡ row_read_of (level_of (width_of kind) graph.now l position) (parents_in (width_of kind) graph.now l position) }
 {
@@ -128,8 +128,8 @@ pub(crate) fn collect_parents(
     if n == 0 {
         return reading::collect_parents(kind, graph, l, position);
     }
-    RowRead::Row {
+    Some(RowRead {
         parents: n,
         level: level(l, third),
-    }
+    })
 }

@@ -17,24 +17,20 @@ use revwalk::queue::{Popped, Queue, heap, ring};
 use state::{Record, Waiting};
 use walk::Settings;
 
-// The first of the queue, with the seconds of its slot, was taken, and the parents of its row visited; or nothing waits, and nothing was changed.
+// The first of the queue, with the seconds of its slot, was taken, and the parents of its row visited.
 #[derive(Clone, Copy)]
 struct Left {
-    found: bool,
     seconds: Seconds,
     after: Waiting,
 }
 
-// The same with the number of its parents and its level; or its row is not plain, and nothing was changed.
+// The same with the number of its parents and its level.
 #[derive(Clone, Copy)]
-pub enum PlainTaken {
-    Taken {
-        after: Waiting,
-        parents: usize,
-        level: Level,
-        seconds: Seconds,
-    },
-    Elsewhere,
+pub struct PlainTaken {
+    pub after: Waiting,
+    pub parents: usize,
+    pub level: Level,
+    pub seconds: Seconds,
 }
 
 // Sets down and visits parent k of the row at a position.
@@ -91,19 +87,17 @@ fn visit_plain_parents(
     ensures { VisitsRow excluded.now settings graph.now l position n (waiting_in r w) (mem names.old marks.old times.old line.old) (mem names.new marks.new times.new line.new) parents.old parents.new (waiting_in r result) }
 {
     let mut at = w;
-    let mut k = 0;
-    while k < n {
+    for k in 0..n {
         at = visit_plain_parent(
             r, at, graph, l, position, first, second, k, names, marks, levels, times, line,
             parents, excluded, settings,
         );
-        k += 1;
     }
     at
 }
 
 // Hands out the first slot of a queue: what `queue::pop` does, with the heap and the ring apart.
-fn pop(q: Queue, line: &mut [u32], times: &[i64]) -> Popped
+fn pop(q: Queue, line: &mut [u32], times: &[i64]) -> Option<Popped>
     ensures { Pops q times.now line.old line.new result }
 {
     if q.timed {
@@ -112,7 +106,7 @@ fn pop(q: Queue, line: &mut [u32], times: &[i64]) -> Popped
     ring::pop(q, line)
 }
 
-// Takes the first of the queue, and visits the first n parents of the row at a position.
+// Takes the first of the queue, and visits the first n parents of the row at a position; where nothing waits, nothing is changed.
 fn take_first(
     r: Record,
     graph: &[u8],
@@ -129,37 +123,30 @@ fn take_first(
     parents: &mut [u8],
     excluded: &[u8],
     settings: Settings,
-) -> Left
+) -> Option<Left>
     requires { Numbers (width_of settings.kind) graph.now l position first second }
     ensures { TakesFirst excluded.now settings graph.now l position n r names.old marks.old times.old line.old (mem names.new marks.new times.new line.new) levels.old levels.new parents.old parents.new result }
 {
     let kind = settings.kind;
-    let p = pop(r.queue, line, times);
+    let p = pop(r.queue, line, times)?;
     let queue = p.queue;
     let rest = Waiting {
         queue,
         admitted: r.admitted,
     };
     let seconds = revwalk::seconds_of(times, p.slot);
-    if !p.found {
-        return Left {
-            found: false,
-            seconds,
-            after: rest,
-        };
-    }
     ahead::look_ahead(kind, graph, l, first, names, marks, queue.cap, levels);
-    Left {
-        found: true,
+    Some(Left {
         seconds,
         after: visit_plain_parents(
             r, rest, graph, l, position, first, second, n, names, marks, levels, times, line,
             parents, excluded, settings,
         ),
-    }
+    })
 }
 
-// Takes the first of the queue, and visits the parents of the row at a position, those that the mode follows, where that is a plain row.
+// Takes the first of the queue, and visits the parents of the row at a position, those that the mode follows, where that is a plain row; else nothing is
+// changed.
 pub fn take_plain(
     r: Record,
     graph: &[u8],
@@ -173,7 +160,7 @@ pub fn take_plain(
     parents: &mut [u8],
     excluded: &[u8],
     settings: Settings,
-) -> PlainTaken
+) -> Option<PlainTaken>
     ensures { TakesPlain excluded.now settings graph.now l position r names.old marks.old times.old line.old (mem names.new marks.new times.new line.new) levels.old levels.new parents.old parents.new result }
 {
     let kind = settings.kind;
@@ -184,22 +171,19 @@ pub fn take_plain(
     let third = hash::be32(row, width + 8);
     let count = numbers::plain_count(l.count, first, second);
     if !numbers::is_plain(count, first, second) {
-        return PlainTaken::Elsewhere;
+        return None;
     }
     let n = followed_count(settings, count);
-    let t = take_first(
+    let Some(left) = take_first(
         r, graph, l, position, first, second, n, names, marks, levels, times, line, parents,
         excluded, settings,
-    );
-    if !t.found {
-        return PlainTaken::Elsewhere;
-    }
-    let after = t.after;
-    let seconds = t.seconds;
-    PlainTaken::Taken {
-        after,
+    ) else {
+        return None;
+    };
+    Some(PlainTaken {
+        after: left.after,
         parents: n,
         level: numbers::level(l, third),
-        seconds,
-    }
+        seconds: left.seconds,
+    })
 }

@@ -9,19 +9,15 @@ use crate::{ahead, numbers};
 use commitgraph::{Layout, Level, rows};
 use hash::Kind;
 use links::{insert_into_seen_and_queue_cached, only_first};
-use reading::RowRead;
 use state::{Record, Waiting};
 use walk::Settings;
 
-// The parents of a row that were visited, how many they are, and the row's level; or its list is corrupt.
+// The parents of a row that were visited, how many they are, and the row's level.
 #[derive(Clone, Copy)]
-pub enum RowVisited {
-    Visited {
-        after: Waiting,
-        parents: usize,
-        level: Level,
-    },
-    Corrupt,
+pub struct RowVisited {
+    pub after: Waiting,
+    pub parents: usize,
+    pub level: Level,
 }
 
 // The most parents of a commit.
@@ -90,13 +86,11 @@ fn visit_row(
     ensures { VisitsRow excluded.now settings graph.now l position n (waiting_in r w) (mem names.old marks.old times.old line.old) (mem names.new marks.new times.new line.new) parents.old parents.new (waiting_in r result) }
 {
     let mut at = w;
-    let mut k = 0;
-    while k < n {
+    for k in 0..n {
         at = visit_row_parent(
             r, at, graph, l, position, first, second, k, names, marks, levels, times, line,
             parents, excluded, settings,
         );
-        k += 1;
     }
     at
 }
@@ -105,10 +99,8 @@ fn visit_row(
 pub(crate) fn followed_count(settings: Settings, n: usize) -> usize
     ensures { Follows settings n result }
 {
-    if only_first(settings) {
-        if 1 < n {
-            return 1;
-        }
+    if only_first(settings) && 1 < n {
+        return 1;
     }
     n
 }
@@ -129,7 +121,7 @@ pub fn visit_cached(
     parents: &mut [u8],
     excluded: &[u8],
     settings: Settings,
-) -> RowVisited
+) -> Option<RowVisited>
     ensures { VisitsCached excluded.now settings graph.now l position r w (mem names.old marks.old times.old line.old) (mem names.new marks.new times.new line.new) levels.old levels.new parents.old parents.new result }
 {
     let kind = settings.kind;
@@ -139,21 +131,18 @@ pub fn visit_cached(
     let second = hash::be32(row, width + 4);
     let third = hash::be32(row, width + 8);
     match numbers::collect_parents(kind, graph, l, position, first, second, third) {
-        RowRead::Row {
-            parents: count,
-            level,
-        } => {
-            let n = followed_count(settings, count);
+        Some(read) => {
+            let n = followed_count(settings, read.parents);
             ahead::look_ahead(kind, graph, l, first, names, marks, r.queue.cap, levels);
-            RowVisited::Visited {
+            Some(RowVisited {
                 after: visit_row(
                     r, w, graph, l, position, first, second, n, names, marks, levels, times, line,
                     parents, excluded, settings,
                 ),
                 parents: n,
-                level,
-            }
+                level: read.level,
+            })
         }
-        RowRead::Corrupt => RowVisited::Corrupt,
+        None => None,
     }
 }

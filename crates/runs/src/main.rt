@@ -7,7 +7,8 @@
 ghost use Rattle.std.specs.Prelude.{◌≤◌, ◌<◌};
 ghost use Rattle.std.specs.Io.{ReadsAtMost};
 
-use date::{Seconds, Zone};
+use commitgraph::Level;
+use date::Seconds;
 use hash::Kind;
 use opentested::open_tested;
 use state::Record;
@@ -15,10 +16,7 @@ use std::io;
 use traverse::next::step;
 use traverse::open::open;
 use traverse::{Opened, Out};
-use walk::{
-    Answer, CommitTimeOrder, MaybeLevel, MaybeSeconds, OpenAnswer, OpenOutcome, Outcome, Parents,
-    Refusal, Settings, Sorting,
-};
+use walk::{Answer, CommitTimeOrder, OpenAnswer, Outcome, Parents, Refusal, Settings, Sorting};
 
 // So many parents are printed one by one.
 const FEW: usize = 8;
@@ -49,9 +47,7 @@ fn count(rt: &impl Print, word: &[u8], n: usize) -> io::Result<()> {
 
 // An id in 40 hexadecimal digits.
 fn id(rt: &impl Print, s: &[u8]) -> io::Result<()> {
-    host::print_hex(rt, hash::be64(s, 0), 16)?;
-    host::print_hex(rt, hash::be64(s, 8), 16)?;
-    host::print_hex(rt, hash::be32(s, 16) as u64, 8)
+    host::print_bytes(rt, hash::part(s, 0, 20))
 }
 
 // A refusal by document 01's number.
@@ -70,11 +66,11 @@ fn outcome(rt: &impl Print, o: Outcome) -> io::Result<()> {
 }
 
 // The generation, `-` where there is none.
-fn generation(rt: &impl Print, g: MaybeLevel) -> io::Result<()> {
+fn generation(rt: &impl Print, g: Option<Level>) -> io::Result<()> {
     text(rt, b" generation ")?;
     match g {
-        MaybeLevel::Generation(level) => number(rt, level.0 as u64),
-        MaybeLevel::NoGeneration => text(rt, b"-"),
+        Some(level) => number(rt, level.0 as u64),
+        None => text(rt, b"-"),
     }
 }
 
@@ -87,20 +83,20 @@ fn signed(rt: &impl Print, s: Seconds) -> io::Result<()> {
 }
 
 // The seconds, `-` where there are none.
-fn seconds(rt: &impl Print, t: MaybeSeconds) -> io::Result<()> {
+fn seconds(rt: &impl Print, t: Option<Seconds>) -> io::Result<()> {
     text(rt, b" seconds ")?;
     match t {
-        MaybeSeconds::Time(s) => signed(rt, s),
-        MaybeSeconds::NoTime => text(rt, b"-"),
+        Some(s) => signed(rt, s),
+        None => text(rt, b"-"),
     }
 }
 
 // The zone in signed minutes, `-` where there is none.
-fn zone(rt: &impl Print, z: Zone) -> io::Result<()> {
+fn zone(rt: &impl Print, z: Option<i64>) -> io::Result<()> {
     text(rt, b" zone ")?;
     match z {
-        Zone::Minutes(m) => signed(rt, Seconds(m)),
-        Zone::NoZone => text(rt, b"-"),
+        Some(m) => signed(rt, Seconds(m)),
+        None => text(rt, b"-"),
     }
 }
 
@@ -192,8 +188,8 @@ fn accepted(rt: &impl Print, tested: bool) -> io::Result<()> {
 fn print_opening(rt: &impl Print, a: OpenAnswer, tested: bool) -> io::Result<()> {
     let o = a.outcome;
     match o {
-        OpenOutcome::Accepted => accepted(rt, tested)?,
-        OpenOutcome::NotOpened(r) => refusal(rt, r)?,
+        Ok(()) => accepted(rt, tested)?,
+        Err(r) => refusal(rt, r)?,
     }
     numbers(rt, a.admitted, a.struck, a.waiting)?;
     text(rt, b"\n")
@@ -254,6 +250,7 @@ fn calls(
 ) -> io::Result<()> {
     let mut r = first;
     let mut left = MOST_CALLS;
+    // No range counts these calls: the answer of each says whether a next one is due.
     while 0 < left {
         let out = call(
             rt, r, store, graph, hidden, excluded, settings, names, marks, levels, times, line,

@@ -1,5 +1,6 @@
 -- One id after another is stained: the slot that holds it becomes 1, and no slot of another id; so over the parents of a commit, and over the
 -- commits of the line. Assumes nothing.
+use Rattle.std.specs.Prelude.{◌≢◌, Ok, Err}
 use mathlib.Core.Path.{◌≡◌, refl, sym, ◌∙◌, ap, subst}
 use mathlib.Core.Logic.{◌⊎◌, inl, inr, ⊎_elim}
 use Prim.Native.Nat.{ℕ, ◌+◌, ◌≤◌, ◌<◌}
@@ -17,9 +18,9 @@ use Rattle.date.specs.declared.Stamp.{Stamp}
 use Rattle.odb.specs.Store.{store_is_ok}
 use Rattle.object.specs.Header.{Header, header}
 use Rattle.object.specs.Ids.{id_in, id_room}
-use Rattle.object.specs.Read.{reading_of}
+use Rattle.object.specs.Read.{Reading, reading_of, readable_as}
+use Rattle.object.specs.declared.ReadableHeader.{ReadableHeader}
 use Rattle.object.specs.declared.ObjectId.{ObjectId}
-use Rattle.object.specs.declared.Reading.TheVariants.{Readable as AsReadable, Bad, Crowded}
 use Rattle.hashtable.specs.Marks.{frontier}
 use Rattle.hashtable.specs.Table.{id_of, Holds, Table, Finds}
 use Rattle.hashtable.specs.declared.table.Slot.{Slot}
@@ -32,7 +33,7 @@ use Rattle.reading.specs.Body.{parent_id_at}
 use Rattle.reading.specs.Stored.{GivesBody}
 use Rattle.reading.proofs.IdLists.{one_more}
 use Rattle.reading.proofs.Lines.{parent-right}
-use Rattle.reading.proofs.StoredBodies.{stored-good, stored-links, stored-bad, stored-crowded}
+use Rattle.reading.proofs.StoredBodies.{stored-good, stored-links, stored-err}
 use Rattle.reach.specs.Memory.{Lent, Lists}
 use Rattle.reach.proofs.Growth.{last-place}
 use Rattle.stain.specs.Stain.{stained_at, is_stained, Stains, Beside, StainsId, StainsParents, StainsCommit, both_in, Below, StainsAt, BelowFirst, StainsAll}
@@ -172,13 +173,14 @@ module _ {width : ℕ} {s names : List ℕ} (marks levels : List ℕ) (cap : ℕ
         (λ z k h m. Memᴰ.not-nil (subst (λ (l : List Id). Mem z l) (no-links (world_of width s g) y (bars y (in_hand o) ok g)) m.one));
   }
 
-  pub commit-bad : reading_of (header width b) ≡ Bad → StainsCommit width s names marks levels levels cap own
-  commit-bad d = stains-none (λ y i ok g. stored-bad i ok g d)
+  pub commit-not : ((h : ReadableHeader) → reading_of (header width b) ≢ Ok h) → StainsCommit width s names marks levels levels cap own
+  commit-not d = stains-none (λ y i ok g. bars y i ok g (reading_of (header width b)) refl)
+    where
+      bars : (y : Id) → GivesBody width s y b → store_is_ok width s ≡ true → (g : List ℕ) → (r : Reading) → reading_of (header width b) ≡ r → Readable (world_of width s g) y → ⊥
+      bars y i ok g (Ok h) e = absurd (d h e)
+      bars y i ok g (Err r) e = stored-err i ok g r e
 
-  pub commit-crowded : reading_of (header width b) ≡ Crowded → StainsCommit width s names marks levels levels cap own
-  commit-crowded d = stains-none (λ y i ok g. stored-crowded i ok g d)
-
-  pub commit-good : {levels' : List ℕ} (n : ℕ) (u : Stamp) → reading_of (header width b) ≡ AsReadable n u → StainsParents width (header width b) names marks levels levels' cap own n
+  pub commit-good : {levels' : List ℕ} (n : ℕ) (u : Stamp) → reading_of (header width b) ≡ readable_as n u → StainsParents width (header width b) names marks levels levels' cap own n
       → StainsCommit width s names marks levels levels' cap own
   commit-good {levels'} n u d p = record {
     right = λ ok g t room y o.

@@ -14,7 +14,6 @@ use hash::Kind;
 use hashtable::marks::{has_hidden, has_visible};
 use hashtable::table;
 use hashtable::table::Slot;
-use object::Reading;
 
 // The slot at place k of the line; 0 past the end.
 pub fn slot_at(line: &[u32], k: usize) -> u32
@@ -44,13 +43,11 @@ pub fn is_stained(levels: &[u32], slot: usize) -> bool
 pub fn clear(levels: &mut [u32], cap: usize)
     ensures { levels.new ≡ cleared cap levels.old }
 {
-    let mut slot = 0;
-    while slot < levels.len() {
+    for slot in 0..levels.len() {
         if cap <= slot {
             return;
         }
         levels[slot] = 0;
-        slot += 1;
     }
 }
 
@@ -99,8 +96,7 @@ fn stain_parents(
 )
     ensures { StainsParents (width_of kind) (header (width_of kind) body.now) names.now marks.now levels.old levels.new cap own count }
 {
-    let mut i = 0;
-    while i < count {
+    for i in 0..count {
         let id = reading::body_parent(kind, body, i);
         stain_id(
             kind,
@@ -111,7 +107,6 @@ fn stain_parents(
             own,
             object::id_slice(kind, &id.bytes),
         );
-        i += 1;
     }
 }
 
@@ -128,12 +123,8 @@ fn stain_commit(
     ensures { StainsCommit (width_of kind) store.now names.now marks.now levels.old levels.new cap own }
 {
     let body = reading::stored_body(kind, store, table::id_of(kind, names, own));
-    match object::readable(kind, body) {
-        Reading::Readable { parents, .. } => stain_parents(
-            kind, names, marks, levels, cap, own, body, parents,
-        ),
-        Reading::Bad => {}
-        Reading::Crowded => {}
+    if let Ok(header) = object::readable(kind, body) {
+        stain_parents(kind, names, marks, levels, cap, own, body, header.parents);
     }
 }
 
@@ -168,10 +159,8 @@ pub fn stain_all(
 )
     ensures { StainsAll (width_of kind) store.now (lent names.now marks.now line.now) levels.old levels.new cap n }
 {
-    let mut i = 0;
-    while i < n {
+    for i in 0..n {
         let slot = slot_at(line, i);
         stain_at(kind, names, marks, levels, cap, slot as usize, store);
-        i += 1;
     }
 }

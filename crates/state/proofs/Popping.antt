@@ -8,6 +8,7 @@ use mathlib.Core.List.{List, [], ◌∷◌, map}
 use native.Mathlib.Omega.{arith}
 use lib.ListN.{get_or}
 use lib.IntN.{ℤ, pos}
+use Rattle.std.specs.Prelude.{Option, Some, None}
 use Rattle.hash.specs.Bytes.{Id, width_of}
 use Rattle.hash.proofs.Tests.{clash}
 use Rattle.hash.proofs.Widths.{width-most}
@@ -20,6 +21,7 @@ use Rattle.object.proofs.IdBytes.{id_in_lem}
 use Rattle.revwalk.specs.declared.queue.Popped.{Popped}
 use Rattle.revwalk.specs.Order.{In}
 use Rattle.revwalk.specs.Queue as queue
+use Rattle.revwalk.specs.Queue.{slots_of}
 use Rattle.revwalk.proofs.QueueSlots.{pop-gone, pop-low}
 use Rattle.walk.specs.State.{State, with_queue}
 use Rattle.state.specs.declared.Fixed.{Fixed}
@@ -32,37 +34,36 @@ use Rattle.state.proofs.Entries.{Split, split, none_left}
 use Rattle.state.proofs.States.{not-failed}
 use Rattle.state.proofs.Queueing.{requeue}
 
-not_found : (b : Bool) → not b ≡ true → b ≡ false
-not_found true e = sym e
-not_found false e = refl
-
 -- what waits in the record after the pop
 abbrev left_in : Record → Popped → Waiting
 left_in r p = record { queue = p.queue; admitted = r.admitted }
 
-pops-line : {r : Record} {times : List ℤ} {line line' : List ℕ} {p : Popped} → queue.Pops r.queue times line line' p → LineKept r line line'
+pops-line : {r : Record} {times : List ℤ} {line line' : List ℕ} {p : Option Popped} → queue.Pops r.queue times line line' p → LineKept r line line'
 pops-line o = record { long = o.long; kept = o.kept }
 
-module _ {r : Record} {names : List ℕ} {times : List ℤ} {line line' : List ℕ} {p : Popped} (o : queue.Pops r.queue times line line' p) where
+module _ {r : Record} {names : List ℕ} {times : List ℤ} {line line' : List ℕ} {p : Popped} (o : queue.Pops r.queue times line line' (Some p)) where
   module _ {marks : List ℕ} {sh : Shape} {st : State} (g : Reads r (mem names marks times line) sh st) where
     slots-split : (x : Id) (t : ℤ) (l : List (Id × ℤ)) → st.queue ≡ (x, t) ∷ l → Split (entry_of (memory_width sh) sh.timed names times) (waiting r (mem names marks times line)) (x, t) l
     slots-split x t l e = split (entry_of (memory_width sh) sh.timed names times) (waiting r (mem names marks times line)) (x, t) l (sym g.queue ∙ e)
 
-    found_some : (x : Id) (t : ℤ) (l : List (Id × ℤ)) → st.queue ≡ (x, t) ∷ l → p.found ≡ true
-    found_some x t l e = let s = slots-split x t l e in (o.some g.good s.slot s.others s.is).found
-
-    found_none : st.queue ≡ [] → p.found ≡ false
-    found_none e = o.none g.good (none_left (entry_of (memory_width sh) sh.timed names times) (waiting r (mem names marks times line)) (sym g.queue ∙ e))
+    found_none : st.queue ≡ [] → ⊥
+    found_none e = let n = sym (none_left (entry_of (memory_width sh) sh.timed names times) (waiting r (mem names marks times line)) (sym g.queue ∙ e)) ∙ (o.told.took g.good).list in cc
 
     module _ (x : Id) (t : ℤ) (l : List (Id × ℤ)) (e : st.queue ≡ (x, t) ∷ l) where
       parts : Split (entry_of (memory_width sh) sh.timed names times) (waiting r (mem names marks times line)) (x, t) l
       parts = slots-split x t l e
 
-      took : queue.Took r.queue times parts.slot parts.others line' p
-      took = o.some g.good parts.slot parts.others parts.is
+      took : queue.Took r.queue times line line' p
+      took = o.told.took g.good
+
+      slot-is : p.slot ≡ parts.slot
+      slot-is = let e = sym took.list ∙ parts.is in cc
+
+      rest-is : slots_of p.queue times line' ≡ parts.others
+      rest-is = let e = sym took.list ∙ parts.is in cc
 
       entry : entry_of (memory_width sh) sh.timed names times p.slot ≡ (x, t)
-      entry = ap (entry_of (memory_width sh) sh.timed names times) took.slot ∙ parts.first
+      entry = ap (entry_of (memory_width sh) sh.timed names times) slot-is ∙ parts.first
 
       others-in : (s : ℕ) → In s parts.others → In s (waiting r (mem names marks times line))
       unfolding In
@@ -70,7 +71,7 @@ module _ {r : Record} {names : List ℕ} {times : List ℤ} {line line' : List �
 
       first-in : In p.slot (waiting r (mem names marks times line))
       unfolding In
-      first-in = subst (In p.slot) (sym parts.is) (inl took.slot)
+      first-in = subst (In p.slot) (sym parts.is) (inl slot-is)
 
       failed : r.failed ≡ false
       failed = not-failed g (x, t) l e
@@ -78,23 +79,22 @@ module _ {r : Record} {names : List ℕ} {times : List ℤ} {line line' : List �
       left : Reads (waiting_in r (left_in r p)) (mem names marks times line') sh (with_queue l st)
       unfolding with_queue
       left =
-          requeue g p.queue line' r.kept st.kept r.admitted st.admitted l o.same o.long took.good g.kept g.admitted (omega (arith, o.next, g.numbers))
-          (sym parts.rest ∙ ap (map (entry_of (memory_width sh) sh.timed names times)) (sym took.list))
-          (λ s h. g.waits-seen s (others-in s (subst (In s) took.list h)))
+          requeue g p.queue line' r.kept st.kept r.admitted st.admitted l o.told.same o.long took.good g.kept g.admitted (omega (arith, o.told.next, g.numbers))
+          (sym parts.rest ∙ ap (map (entry_of (memory_width sh) sh.timed names times)) (sym rest-is))
+          (λ s h. g.waits-seen s (others-in s (subst (In s) rest-is h)))
           (λ f. clash f failed)
 
       slot : NotWaiting (waiting_in r (left_in r p)) (mem names marks times line') sh x p.slot
       slot = record {
-        low = subst (λ (k : ℕ). p.slot < k) (o.same.cap ∙ g.cap) (pop-low o g.good took.found);
+        low = subst (λ (k : ℕ). p.slot < k) (o.told.same.cap ∙ g.cap) (pop-low o g.good);
         holds = ap (λ (y : Id × ℤ). y.0) entry;
         marked = g.waits-seen p.slot first-in;
-        apart = pop-gone o g.good took.found;
+        apart = pop-gone o g.good;
       }
 
       pub taken : {b : ObjectId} {v : Seconds} → b.bytes ≡ padded (id_of (memory_width sh) names p.slot) → v.0 ≡ get_or times p.slot (pos 0)
-          → Taken r names marks times line' sh st x t l (record { found = true; slot = p.slot; id = b; seconds = v; rest = left_in r p })
+          → Taken r names marks times line' sh st x t l (record { slot = p.slot; id = b; seconds = v; rest = left_in r p })
       taken c v = record {
-        found = refl;
         id = ap (id_in (memory_width sh)) c ∙ id_in_lem (memory_width sh) (id_of (memory_width sh) names p.slot) (width_of_lem p.slot g.table.sized slot.low) (width-most sh.fixed.kind) ∙ slot.holds;
         seconds = λ h. v ∙ (ap (λ (b : Bool). cond b (get_or times p.slot (pos 0)) (pos 0)) (sym h) ∙ ap (λ (y : Id × ℤ). y.1) entry);
         failed = failed;
@@ -103,20 +103,18 @@ module _ {r : Record} {names : List ℕ} {times : List ℤ} {line line' : List �
         entry = entry;
       }
 
-  pub pops-some : {b : ObjectId} {v : Seconds} → not p.found ≡ false → b.bytes ≡ padded (id_of (width_of r.fixed.kind) names p.slot) → v.0 ≡ get_or times p.slot (pos 0)
-      → Pops r names times line line' (record { found = true; slot = p.slot; id = b; seconds = v; rest = left_in r p })
-  pops-some f c v = record {
+  pub pops-some : {b : ObjectId} {v : Seconds} → b.bytes ≡ padded (id_of (width_of r.fixed.kind) names p.slot) → v.0 ≡ get_or times p.slot (pos 0)
+      → Pops r names times line line' (Some (record { slot = p.slot; id = b; seconds = v; rest = left_in r p }))
+  pops-some c v = record {
     for_line = pops-line o;
-    still = λ e. clash refl e;
-    none = λ marks sh st g e. clash (ap not (found_none g e)) f;
-    some = λ marks sh st x t l g e. taken g x t l e (c ∙ ap (λ (f : Fixed). padded (id_of (width_of f.kind) names p.slot)) g.fixed) v;
+    told = record {
+      none = λ marks sh st g e. found_none g e;
+      some = λ marks sh st x t l g e. taken g x t l e (c ∙ ap (λ (f : Fixed). padded (id_of (width_of f.kind) names p.slot)) g.fixed) v;
+    };
   }
 
-  -- w is what waits in the record
-  pub pops-none : {s : ℕ} {b : ObjectId} {v : Seconds} {w : Waiting} → not p.found ≡ true → waiting_in r w ≡ r → Pops r names times line line' (record { found = false; slot = s; id = b; seconds = v; rest = w })
-  pops-none f same = record {
-    for_line = pops-line o;
-    still = λ e. (same, (o.still (not_found p.found f)).1);
-    none = λ marks sh st g e. refl;
-    some = λ marks sh st x t l g e. clash f (ap not (found_some g x t l e));
-  }
+pub pops-none : {r : Record} {names : List ℕ} {times : List ℤ} {line line' : List ℕ} → queue.Pops r.queue times line line' None → Pops r names times line line' None
+pops-none {names = names} {times = times} o = record {
+  for_line = pops-line o;
+  told = (o.told.0, λ marks sh st g. g.queue ∙ ap (map (entry_of (memory_width sh) sh.timed names times)) (o.told.1 g.good));
+}

@@ -9,6 +9,7 @@ use mathlib.Core.List.{List, Memᴰ}
 use native.Mathlib.Omega.{arith}
 use lib.ListN.{length, get_or}
 use lib.IntN.{ℤ, pos}
+use Rattle.std.specs.Prelude.{Some, None}
 use Rattle.hash.specs.Bytes.{Id, eq_id, width_of}
 use Rattle.hash.proofs.Tests.{by_cases, clash, or_left, or_right, or_cases, and_second, and_of}
 use Rattle.hash.proofs.Ids.{eq_id_eq, eq_id-same}
@@ -159,9 +160,8 @@ module _ {r : Record} {names marks names' marks' : List ℕ} {times : List ℤ} 
     struck = g.struck;
   }
 
-  pub entered : Entered r (mem names' marks' times line) sh st x (record { fresh = true; slot = k })
+  pub entered : Entered r (mem names' marks' times line) sh st x k
   entered = record {
-    fresh = refl;
     reads = enters;
     slot = record {
       low = (i.finds.free k e).low;
@@ -187,29 +187,26 @@ module _ {r : Record} {names marks names' marks' : List ℕ} {x : Id} {s : Slot}
   found-known : {times : List ℤ} {line : List ℕ} {sh : Shape} {st : State} → Reads r (mem names marks times line) sh st → r.failed ≡ false → (st.frontier x || st.seen x) ≡ false → (k : ℕ) → s ≡ Found k → ⊥
   found-known g f n k e = unknown g x n (live-known g f x k ((by_shape g).finds.hit k e))
 
-  pub sees-vacant : (k : ℕ) → s ≡ Vacant k → Sees r names marks names' marks' x (record { fresh = true; slot = k })
+  pub sees-vacant : (k : ℕ) → s ≡ Vacant k → Sees r names marks names' marks' x (Some k)
   sees-vacant k e = record {
     long-names = ln;
     long-marks = lm;
-    still = λ p. clash refl p;
-    old = λ times line sh st g p. let w = found_at g p in let q : s ≡ Found w.0 = w.1 in let z : ◌≡◌ {A = ℕ} 0 1 = cc in absurd (omega arith);
-    new = λ times line sh st g f w n u v m. entered g (by_shape g) k e;
+    told = record {
+      old = λ times line sh st g p. let q = sym e ∙ (found_at g p).1 in cc;
+      new = λ times line sh st g f w n u v m. entered g (by_shape g) k e;
+    };
   }
 
-  pub sees-found : (k : ℕ) → s ≡ Found k → Sees r names marks names' marks' x (record { fresh = false; slot = 0 })
+  pub sees-found : (k : ℕ) → s ≡ Found k → Sees r names marks names' marks' x None
   sees-found k e = record {
     long-names = ln;
     long-marks = lm;
-    still = λ p. ((i.found k e).0, (i.found k e).1, refl);
-    old = λ times line sh st g p. refl;
-    new = λ times line sh st g f w n u v m. absurd (found-known g f n k e);
+    told = record { still = i.found k e; new = λ times line sh st g f w n u v m. found-known g f n k e };
   }
 
-  pub sees-full : s ≡ Full → Sees r names marks names' marks' x (record { fresh = false; slot = 0 })
+  pub sees-full : s ≡ Full → Sees r names marks names' marks' x None
   sees-full e = record {
     long-names = ln;
     long-marks = lm;
-    still = λ p. ((i.full e).0, (i.full e).1, refl);
-    old = λ times line sh st g p. refl;
-    new = λ times line sh st g f w n u v m. absurd (room_for g f x (by_shape g).finds w v m e);
+    told = record { still = i.full e; new = λ times line sh st g f w n u v m. room_for g f x (by_shape g).finds w v m e };
   }

@@ -1,6 +1,6 @@
 -- What the steps on a state in lent memory promise: for every state that the memory reads as before, the state that it reads as after.
 -- On any other bytes and numbers the lengths stay, and the line from 2 · cap on. Assumes nothing.
-use Rattle.std.specs.Prelude.{ℕ, ◌+◌, ◌*◌, ◌≤◌, ◌<◌, ◌≡◌, Bool, true, false, cond, ◌||◌, length, get_or, ℤ, pos}
+use Rattle.std.specs.Prelude.{ℕ, ◌+◌, ◌*◌, ◌≤◌, ◌<◌, ◌≡◌, Bool, true, false, cond, ◌||◌, length, get_or, ℤ, pos, Option, Some, None}
 use mathlib.Core.List.{List, [], ◌∷◌, Memᴰ}
 use Rattle.hash.specs.Bytes.{Id, width_of}
 use Rattle.hashtable.specs.Marks.{seen}
@@ -11,7 +11,6 @@ use Rattle.walk.specs.State.{State, empty_state, sees, with_queue}
 use Rattle.walk.specs.Next.{dropped}
 use Rattle.state.specs.declared.Fixed.{Fixed}
 use Rattle.state.specs.declared.Record.{Record}
-use Rattle.state.specs.declared.Seen.{Seen}
 use Rattle.state.specs.declared.Waiting.{Waiting}
 use Rattle.state.specs.declared.Next.{Next}
 use Rattle.state.specs.Reads.{Memory, Shape, memory_width, entry_of, waiting, Reads, Universe}
@@ -34,20 +33,32 @@ pub record LineKept (r : Record) (line line' : List ℕ) : Type 0 where
 
 -- ---- see
 
--- x is new: it is seen now, in a slot of its own
-pub record Entered (r : Record) (m : Memory) (sh : Shape) (st : State) (x : Id) (a : Seen) : Type 0 where
-  pub fresh : a.fresh ≡ true
+-- x is new: it is seen now, in slot k of its own
+pub record Entered (r : Record) (m : Memory) (sh : Shape) (st : State) (x : Id) (k : ℕ) : Type 0 where
   pub reads : Reads r m sh (sees st x)
-  pub slot : NotWaiting r m sh x a.slot
+  pub slot : NotWaiting r m sh x k
 
--- see, with its answer a: an id in the frontier or seen is not fresh; another is, if there is room for it
-pub record Sees (r : Record) (names marks names' marks' : List ℕ) (x : Id) (a : Seen) : Type 0 where
+-- see with the answer k: x was neither in the frontier nor seen
+pub record SeesNew (r : Record) (names marks names' marks' : List ℕ) (x : Id) (k : ℕ) : Type 0 where
+  pub old : (times : List ℤ) (line : List ℕ) (sh : Shape) (st : State) → Reads r (mem names marks times line) sh st → (st.frontier x || st.seen x) ≡ true → ⊥
+  pub new : (times : List ℤ) (line : List ℕ) (sh : Shape) (st : State) → Reads r (mem names marks times line) sh st → r.failed ≡ false → length x ≡ memory_width sh
+      → (st.frontier x || st.seen x) ≡ false → (u : List Id) → Universe sh st u → Memᴰ x u → Entered r (mem names' marks' times line) sh st x k
+
+-- see with no slot for an answer: x was in the frontier or seen, or there is no room for it
+pub record SeesNone (r : Record) (names marks names' marks' : List ℕ) (x : Id) : Type 0 where
+  pub still : (names' ≡ names) × (marks' ≡ marks)
+  pub new : (times : List ℤ) (line : List ℕ) (sh : Shape) (st : State) → Reads r (mem names marks times line) sh st → r.failed ≡ false → length x ≡ memory_width sh
+      → (st.frontier x || st.seen x) ≡ false → (u : List Id) → Universe sh st u → Memᴰ x u → ⊥
+
+abbrev pub SeesTo : Record → List ℕ → List ℕ → List ℕ → List ℕ → Id → Option ℕ → Type 0
+SeesTo r names marks names' marks' x (Some k) = SeesNew r names marks names' marks' x k
+SeesTo r names marks names' marks' x None = SeesNone r names marks names' marks' x
+
+-- see, with its answer a
+pub record Sees (r : Record) (names marks names' marks' : List ℕ) (x : Id) (a : Option ℕ) : Type 0 where
   pub long-names : length names' ≡ length names
   pub long-marks : length marks' ≡ length marks
-  pub still : a.fresh ≡ false → (names' ≡ names) × (marks' ≡ marks) × (a.slot ≡ 0)
-  pub old : (times : List ℤ) (line : List ℕ) (sh : Shape) (st : State) → Reads r (mem names marks times line) sh st → (st.frontier x || st.seen x) ≡ true → a.fresh ≡ false
-  pub new : (times : List ℤ) (line : List ℕ) (sh : Shape) (st : State) → Reads r (mem names marks times line) sh st → r.failed ≡ false → length x ≡ memory_width sh
-      → (st.frontier x || st.seen x) ≡ false → (u : List Id) → Universe sh st u → Memᴰ x u → Entered r (mem names' marks' times line) sh st x a
+  pub told : SeesTo r names marks names' marks' x a
 
 -- ---- wait
 
@@ -73,7 +84,6 @@ pub record LengthensRing (w : Waiting) (times : List ℤ) (line line' : List ℕ
 
 -- x, queued with t seconds, has left the queue of the record r, which is l now
 pub record Taken (r : Record) (names marks : List ℕ) (times : List ℤ) (line : List ℕ) (sh : Shape) (st : State) (x : Id) (t : ℤ) (l : List (Id × ℤ)) (n : Next) : Type 0 where
-  pub found : n.found ≡ true
   pub id : id_in (memory_width sh) n.id.bytes ≡ x
   pub seconds : sh.timed ≡ true → n.seconds.0 ≡ t
   pub failed : r.failed ≡ false
@@ -81,13 +91,21 @@ pub record Taken (r : Record) (names marks : List ℕ) (times : List ℤ) (line 
   pub slot : NotWaiting (waiting_in r n.rest) (mem names marks times line) sh x n.slot
   pub entry : entry_of (memory_width sh) sh.timed names times n.slot ≡ (x, t)
 
--- pop, with its answer n: the first of the queue
-pub record Pops (r : Record) (names : List ℕ) (times : List ℤ) (line line' : List ℕ) (n : Next) : Type 0 where
-  pub for_line : LineKept r line line'
-  pub still : n.found ≡ false → (waiting_in r n.rest ≡ r) × (line' ≡ line)
-  pub none : (marks : List ℕ) (sh : Shape) (st : State) → Reads r (mem names marks times line) sh st → st.queue ≡ [] → n.found ≡ false
+-- pop with the answer n: the first of the queue
+pub record HandsOut (r : Record) (names : List ℕ) (times : List ℤ) (line line' : List ℕ) (n : Next) : Type 0 where
+  pub none : (marks : List ℕ) (sh : Shape) (st : State) → Reads r (mem names marks times line) sh st → st.queue ≡ [] → ⊥
   pub some : (marks : List ℕ) (sh : Shape) (st : State) (x : Id) (t : ℤ) (l : List (Id × ℤ)) → Reads r (mem names marks times line) sh st → st.queue ≡ (x, t) ∷ l
       → Taken r names marks times line' sh st x t l n
+
+-- with none for an answer nothing waits, and the line is as it was
+abbrev pub PopsTo : Record → List ℕ → List ℤ → List ℕ → List ℕ → Option Next → Type 0
+PopsTo r names times line line' (Some n) = HandsOut r names times line line' n
+PopsTo r names times line line' None = (line' ≡ line) × ((marks : List ℕ) (sh : Shape) (st : State) → Reads r (mem names marks times line) sh st → st.queue ≡ [])
+
+-- pop, with its answer a
+pub record Pops (r : Record) (names : List ℕ) (times : List ℤ) (line line' : List ℕ) (a : Option Next) : Type 0 where
+  pub for_line : LineKept r line line'
+  pub told : PopsTo r names times line line' a
 
 -- ---- drop_graph
 

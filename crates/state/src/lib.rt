@@ -45,17 +45,9 @@ pub struct Record {
     pub struck: usize,
 }
 
-// Whether an id is new, and the slot that it has then; 0 where it is not new.
-#[derive(Clone, Copy)]
-pub struct Seen {
-    pub fresh: bool,
-    pub slot: usize,
-}
-
 // The commit that leaves the queue: its slot, its id, the seconds of its slot, and what waits after it, of a record that is otherwise as it was.
 #[derive(Clone, Copy)]
 pub struct Next {
-    pub found: bool,
     pub slot: u32,
     pub id: ObjectId,
     pub seconds: Seconds,
@@ -74,11 +66,11 @@ pub fn fresh_record(timed: bool, newest: bool, cap: usize, fixed: Fixed) -> Reco
         painted: false,
         failed: false,
         kept: true,
-        fixed: fixed,
+        fixed,
         queue: Queue {
-            timed: timed,
-            newest: newest,
-            cap: cap,
+            timed,
+            newest,
+            cap,
             head: 0,
             count: 0,
             next: 0,
@@ -95,27 +87,13 @@ pub fn start(marks: &mut [u8], cap: usize)
     table::clear(marks, cap);
 }
 
-// An id that is neither in the frontier nor seen is seen now, in a slot of its own.
-pub fn see(r: Record, names: &mut [u8], marks: &mut [u8], id: &[u8]) -> Seen
+// An id that is neither in the frontier nor seen is seen now, in a slot of its own, which is the answer.
+pub fn see(r: Record, names: &mut [u8], marks: &mut [u8], id: &[u8]) -> Option<usize>
     ensures { Sees r names.old marks.old names.new marks.new id.now result }
 {
-    let q = r.queue;
-    let fixed = r.fixed;
-    let kind = fixed.kind;
-    let s = table::insert(kind, names, marks, q.cap, r.painted, id, SEEN);
-    match s {
-        Slot::Vacant(k) => Seen {
-            fresh: true,
-            slot: k,
-        },
-        Slot::Found(_) => Seen {
-            fresh: false,
-            slot: 0,
-        },
-        Slot::Full => Seen {
-            fresh: false,
-            slot: 0,
-        },
+    match table::insert(r.fixed.kind, names, marks, r.queue.cap, r.painted, id, SEEN) {
+        Slot::Vacant(slot) => Some(slot),
+        Slot::Found(_) | Slot::Full => None,
     }
 }
 
@@ -123,16 +101,11 @@ pub fn see(r: Record, names: &mut [u8], marks: &mut [u8], id: &[u8]) -> Seen
 fn with_queue(r: Record, queue: Queue, kept: bool, admitted: usize) -> Record
     ensures { result ≡ requeued r queue kept admitted }
 {
-    let fixed = r.fixed;
     Record {
-        live: r.live,
-        painted: r.painted,
-        failed: r.failed,
-        kept: kept,
-        fixed: fixed,
-        queue: queue,
-        admitted: admitted,
-        struck: r.struck,
+        queue,
+        kept,
+        admitted,
+        ..r
     }
 }
 
@@ -157,9 +130,8 @@ pub struct Waiting {
 pub fn waiting_of(r: Record) -> Waiting
     ensures { waiting_in r result ≡ r }
 {
-    let queue = r.queue;
     Waiting {
-        queue,
+        queue: r.queue,
         admitted: r.admitted,
     }
 }
@@ -250,43 +222,20 @@ pub fn wait(r: Record, times: &mut [i64], line: &mut [u32], slot: usize, s: Seco
     with_waiting(r, longer)
 }
 
-fn wide(x: u32) -> usize
-    ensures { result ≡ x }
-{
-    x as usize
-}
-
-// Takes the first commit out of the queue.
-pub fn pop(r: Record, names: &[u8], times: &[i64], line: &mut [u32]) -> Next
+// Takes the first commit out of the queue; where none waits, all stays as it is.
+pub fn pop(r: Record, names: &[u8], times: &[i64], line: &mut [u32]) -> Option<Next>
     ensures { Pops r names.now times.now line.old line.new result }
 {
-    let p = queue::pop(r.queue, line, times);
-    if !p.found {
-        return Next {
-            found: false,
-            slot: 0,
-            id: ObjectId { bytes: [0u8; 32] },
-            seconds: Seconds(0),
-            rest: waiting_of(r),
-        };
-    }
-    let slot = wide(p.slot);
-    let fixed = r.fixed;
-    let kind = fixed.kind;
-    let id = object::id_of(table::id_of(kind, names, slot));
-    let seconds = revwalk::seconds_of(times, p.slot);
-    let queue = p.queue;
-    let rest = Waiting {
-        queue,
-        admitted: r.admitted,
-    };
-    Next {
-        found: true,
+    let p = queue::pop(r.queue, line, times)?;
+    Some(Next {
         slot: p.slot,
-        id: id,
-        seconds: seconds,
-        rest: rest,
-    }
+        id: object::id_of(table::id_of(r.fixed.kind, names, p.slot as usize)),
+        seconds: revwalk::seconds_of(times, p.slot),
+        rest: Waiting {
+            queue: p.queue,
+            admitted: r.admitted,
+        },
+    })
 }
 
 // A corrupt parent list: the commit-graph file is not used any more, and the commit in a slot goes back to the queue.

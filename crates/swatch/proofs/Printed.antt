@@ -1,10 +1,10 @@
 -- Document 01's sentences on what is printed, as theorems: its example and its history of eight commits by computation, the inputs that are
 -- refused by the opening's tests in order, and that the text of an accepted opening ends in `end`, as call P + 2 at latest says end.
 -- Assumes nothing.
+use Rattle.std.specs.Prelude.{Option, Some}
 use Prim.Native.Nat.{ℕ, ◌+◌, ◌%◌, ◌≤◌, ◌<◌}
 use mathlib.Core.Path.{◌≡◌, refl, sym, ◌∙◌, ap}
 use mathlib.Core.Bool.{true, false, cond, true≢false}
-use mathlib.Core.Option.{Option, some}
 use mathlib.Core.List.{List, [], ◌∷◌, ◌++◌, append_assoc, append-nil}
 use native.Mathlib.Omega.{arith}
 use lib.ListN.{length, replicate, length-take, length-drop, drop_of_length-le}
@@ -83,7 +83,7 @@ text-ends b l st h e =
 
 -- ---- refused inputs
 
-text-refused : (b : List ℕ) (l : Lengths) (r : Refusal) → length b ≤ most_bytes → refusal (input_in b) ≡ some r → text b l ≡ refusal_line r
+text-refused : (b : List ℕ) (l : Lengths) (r : Refusal) → length b ≤ most_bytes → refusal (input_in b) ≡ Some r → text b l ≡ refusal_line r
 unfolding open_walk open_or text_of
 text-refused b l r h e = text-read b l h ∙ ap (λ (o : Option Refusal). text_of (input_in b) (open_or (input_in b) (room_for (input_in b) l) o)) e
 
@@ -104,7 +104,7 @@ not-whole : (b : List ℕ) → 0 < length b → length b < id_bytes → whole_id
 unfolding whole_ids input_in
 not-whole b h g = rw (ne_eqb (length (tips_in b) % id_bytes) 0 (λ e. absurd (omega (arith, e, tips-long b (omega arith)))))
 
-ragged_list : (b : List ℕ) → 0 < length b → length b < id_bytes → refusal (input_in b) ≡ some PartialId
+ragged_list : (b : List ℕ) → 0 < length b → length b < id_bytes → refusal (input_in b) ≡ Some PartialId
 unfolding refusal
 ragged_list b h g = rw (sizes_fine b (omega arith), not-whole b h g)
 
@@ -116,7 +116,7 @@ no_bytes : (b : List ℕ) → length b ≡ id_bytes → store_is_ok (width_in (i
 unfolding input_in store_in store_all
 no_bytes b h = rw (le-ltb (length b) id_bytes (omega arith), drop_of_length-le b {i = id_bytes} (omega arith))
 
-torn-store : (b : List ℕ) → length b ≡ id_bytes → refusal (input_in b) ≡ some CorruptStore
+torn-store : (b : List ℕ) → length b ≡ id_bytes → refusal (input_in b) ≡ Some CorruptStore
 unfolding refusal
 torn-store b h = rw (sizes_fine b (omega arith), whole b h, no_bytes b h)
 

@@ -1,4 +1,5 @@
 -- An opening and its calls put down the text: the line of the refusal, or the lines of the calls. Assumes nothing.
+use Rattle.std.specs.Prelude.{Err, Ok}
 use Prim.Native.Nat.{ℕ, ◌+◌, ◌/◌, ◌≤◌}
 use mathlib.Core.Path.{◌≡◌, refl, sym, ◌∙◌, ap, subst, subst₂}
 use mathlib.Core.List.{List, []}
@@ -7,7 +8,6 @@ use lib.ListN.{length}
 use Rattle.commitgraph.specs.Graph.{graph_count}
 use Rattle.walk.specs.declared.Settings.{Settings}
 use Rattle.walk.specs.declared.Refusal.{Refusal}
-use Rattle.walk.specs.declared.OpenOutcome.TheVariants.{Accepted, NotOpened}
 use Rattle.walk.specs.declared.OpenAnswer.{OpenAnswer}
 use Rattle.walk.specs.State.{State}
 use Rattle.walk.specs.Opening.{Input, Lengths, P, room_for, Opening, closed, opened, open_walk}
@@ -23,12 +23,12 @@ use Rattle.swatch.specs.Text.{refusal_line, lines_of, parents_after, breadth_all
 use Rattle.swatch.specs.Contract.{Puts, ListsCalls, ListsStore}
 use Rattle.swatch.proofs.Puts.{puts_as}
 
-is-closed : (w : Opening) {r : Refusal} → (open_given w).outcome ≡ NotOpened r → w ≡ closed r
+is-closed : (w : Opening) {r : Refusal} → (open_given w).outcome ≡ Err r → w ≡ closed r
 unfolding open_given
 is-closed (closed q) e = cc
 is-closed (opened st) e = let z : ◌≡◌ {A = ℕ} 0 1 = cc in absurd (omega arith)
 
-is-opened : (w : Opening) → (open_given w).outcome ≡ Accepted → (st : State) × (w ≡ opened st)
+is-opened : (w : Opening) → (open_given w).outcome ≡ (Ok tt) → (st : State) × (w ≡ opened st)
 unfolding open_given
 is-opened (closed q) e = let z : ◌≡◌ {A = ℕ} 0 1 = cc in absurd (omega arith)
 is-opened (opened st) e = (st, refl)
@@ -40,7 +40,7 @@ module _ {i : Input} {m : Lent} {o : Opened} {m₁ : Lent} (s : OpenSays i m o m
   outcome-is : o.answer.outcome ≡ (open_given (open_walk i (room_for i (lengths_of m)))).outcome
   outcome-is = ap (λ (a : OpenAnswer). a.outcome) s.answer
 
-  pub store-refused : {r : Refusal} {out out' : List ℕ} {a : ℕ} → o.answer.outcome ≡ NotOpened r → Puts out 0 (refusal_line r) out' a → ListsStore i m out m₁ out' a
+  pub store-refused : {r : Refusal} {out out' : List ℕ} {a : ℕ} → o.answer.outcome ≡ Err r → Puts out 0 (refusal_line r) out' a → ListsStore i m out m₁ out' a
   unfolding text_of parents_of
   store-refused {r} e p =
       let w : open_walk i (room_for i (lengths_of m)) ≡ closed r = is-closed _ (sym outcome-is ∙ e) in
@@ -51,7 +51,7 @@ module _ {i : Input} {m : Lent} {o : Opened} {m₁ : Lent} (s : OpenSays i m o m
         refused_open = λ q k. (s.refused_open q k).1;
       }
 
-  pub store-accepted : {out out' : List ℕ} {m' : Lent} {n a : ℕ} → o.answer.outcome ≡ Accepted → n ≡ P i + 2 → ListsCalls (files_of i) n o.record m₁ out m' out' a → ListsStore i m out m' out' a
+  pub store-accepted : {out out' : List ℕ} {m' : Lent} {n a : ℕ} → o.answer.outcome ≡ (Ok tt) → n ≡ P i + 2 → ListsCalls (files_of i) n o.record m₁ out m' out' a → ListsStore i m out m' out' a
   unfolding text_of parents_of
   store-accepted {out} {out'} {m'} {n} {a} e z c =
       let w = is-opened (open_walk i (room_for i (lengths_of m))) (sym outcome-is ∙ e) in

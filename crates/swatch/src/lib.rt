@@ -14,7 +14,7 @@ ghost use Rattle.swatch.specs.Contract.{ListsCall, ListsCalls, ListsStore, Lists
 use hash::Kind;
 use state::Record;
 use traverse::{next, open};
-use walk::{OpenOutcome, Outcome, Parents, Refusal, Settings, Sorting};
+use walk::{Outcome, Parents, Refusal, Settings, Sorting};
 
 // The most bytes of the input, and the fewest that `out` has.
 const MOST: usize = 65536;
@@ -101,6 +101,7 @@ fn list_calls(
     let mut r = first;
     let mut at = 0;
     let mut left = calls;
+    // No range counts these calls: after each, its answer says how many are left, 0 at the end.
     while 0 < left {
         let t = list_call(
             r, left, store, none, names, marks, levels, times, line, parents, out, at,
@@ -151,8 +152,8 @@ fn list_store(
     let a = o.answer;
     let outcome = a.outcome;
     match outcome {
-        OpenOutcome::NotOpened(r) => put::refusal(out, 0, r),
-        OpenOutcome::Accepted => {
+        Err(r) => put::refusal(out, 0, r),
+        Ok(()) => {
             let first = o.record;
             let calls = opening::capacity(Kind::Sha1, store, none, tips, none) + 2;
             list_calls(

@@ -39,10 +39,8 @@ fn hex_id(out: &mut [u8], at: usize, id: &[u8]) -> usize
     ensures { Puts out.old at (hex id.now) out.new result }
 {
     let mut next = at;
-    let mut i = 0;
-    while i < id.len() {
+    for i in 0..id.len() {
         next = hex_byte(out, next, id[i]);
-        i += 1;
     }
     next
 }

@@ -1,9 +1,9 @@
 -- Counts: one more in a place leaves their number and the other places, and no count passes the number of calls; and the term of a commit is that of
 -- its seconds as they were read. Assumes nothing.
+use Rattle.std.specs.Prelude.{None, Option, Result, Some}
 use mathlib.Core.Path.{◌≡◌, refl, sym, ◌∙◌, ap}
 use Prim.Native.Nat.{ℕ, zero, suc, ◌+◌, ◌/◌, ◌≤◌, ◌<◌}
 use mathlib.Core.Bool.{Bool, true, false, cond, not}
-use mathlib.Core.Option.{Option, none, some}
 use mathlib.Core.List.{List, [], ◌∷◌, ◌++◌}
 use native.Mathlib.Omega.{arith}
 use lib.ListN.{length, get_or, set, drop, length-set}
@@ -19,13 +19,12 @@ use Rattle.calendar.specs.Terms.{rise, good_terms, term_at}
 use Rattle.walk.specs.declared.Outcome.{Outcome}
 use Rattle.walk.specs.declared.Outcome.TheVariants.{Commit, End, Refused}
 use Rattle.walk.specs.Lookup.{world_of, store_seconds}
-use Rattle.reading.specs.declared.tip.TipRead.{TipRead}
+use Rattle.date.specs.declared.Seconds.{Seconds}
+use Rattle.reading.specs.declared.tip.TipError.{TipError}
 use Rattle.reading.specs.Tip.{tip_of, tip_seconds, ReadsTip}
 use Rattle.reading.proofs.Tips.{tip_right}
 use Rattle.tally.specs.declared.Task.{Task}
 use Rattle.tally.specs.declared.Task.TheVariants as tasks
-use Rattle.tally.specs.declared.terms.Spot.{Spot}
-use Rattle.tally.specs.declared.terms.Spot.TheVariants.{Term, Outside}
 use Rattle.tally.specs.Terms.{spot_at, spot_of, term_of, good_part, bumped, counts_at, zeros, FewCounts}
 use Rattle.tally.specs.Tally.{counts_after, counts_by}
 
@@ -57,9 +56,9 @@ few-bumped n (m ∷ c) zero h (suc j) = omega (arith, h (suc j))
 few-bumped n (m ∷ c) (suc k) h zero = omega (arith, h zero)
 few-bumped n (m ∷ c) (suc k) h (suc j) = few-bumped n c k (λ i. h (suc i)) j
 
-few-at : (n : ℕ) (c : List ℕ) (o : Outcome) (p : Spot) → FewCounts n c → FewCounts (suc n) (counts_after c o p)
-few-at n c Commit (Term k) h = few-bumped n c k h
-few-at n c Commit Outside h = λ j. omega (arith, h j)
+few-at : (n : ℕ) (c : List ℕ) (o : Outcome) (p : Option ℕ) → FewCounts n c → FewCounts (suc n) (counts_after c o p)
+few-at n c Commit (Some k) h = few-bumped n c k h
+few-at n c Commit None h = λ j. omega (arith, h j)
 few-at n c End p h = λ j. omega (arith, h j)
 few-at n c (Refused r) p h = λ j. omega (arith, h j)
 
@@ -70,9 +69,9 @@ few-counts w tasks.Ids terms s n c o x h = λ j. omega (arith, h j)
 few-counts w tasks.Feed terms s n c o x h = λ j. omega (arith, h j)
 few-counts w tasks.Terms terms s n c o x h = few-at n c o (term_of w terms s (id_in w x)) h
 
-long-at : (c : List ℕ) (o : Outcome) (p : Spot) → length (counts_after c o p) ≡ length c
-long-at c Commit (Term k) = length_bumped c k
-long-at c Commit Outside = refl
+long-at : (c : List ℕ) (o : Outcome) (p : Option ℕ) → length (counts_after c o p) ≡ length c
+long-at c Commit (Some k) = length_bumped c k
+long-at c Commit None = refl
 long-at c End p = refl
 long-at c (Refused r) p = refl
 
@@ -88,25 +87,25 @@ few-zeros (suc n) (suc k) = few-zeros n k
 
 -- ---- the term of a commit
 
-pub spot_yes : (terms : List ℕ) (t : ℤ) (k : ℕ) → k ≡ term_at terms t → k < length terms / 2 → Term k ≡ spot_at terms t
+pub spot_yes : (terms : List ℕ) (t : ℤ) (k : ℕ) → k ≡ term_at terms t → k < length terms / 2 → Some k ≡ spot_at terms t
 unfolding spot_at
 spot_yes terms t k e h =
-    ap Term e ∙ ap (λ (b : Bool). cond b (Term (term_at terms t)) Outside) (sym (lt-ltb (term_at terms t) (length terms / 2) (omega (arith, e, h))))
+    ap Some e ∙ ap (λ (b : Bool). cond b (Some (term_at terms t)) None) (sym (lt-ltb (term_at terms t) (length terms / 2) (omega (arith, e, h))))
 
-pub spot_no : (terms : List ℕ) (t : ℤ) (k : ℕ) → k ≡ term_at terms t → length terms / 2 ≤ k → Outside ≡ spot_at terms t
+pub spot_no : (terms : List ℕ) (t : ℤ) (k : ℕ) → k ≡ term_at terms t → length terms / 2 ≤ k → None ≡ spot_at terms t
 unfolding spot_at
 spot_no terms t k e h =
-    ap (λ (b : Bool). cond b (Term (term_at terms t)) Outside) (sym (le-ltb (term_at terms t) (length terms / 2) (omega (arith, e, h))))
+    ap (λ (b : Bool). cond b (Some (term_at terms t)) None) (sym (le-ltb (term_at terms t) (length terms / 2) (omega (arith, e, h))))
 
-spot_tip : (terms : List ℕ) (o : Option Header) → spot_of terms (tip_of o) ≡ if_some (if_some o none (λ h. h.seconds)) Outside (λ t. spot_at terms t)
-spot_tip terms none = refl
-spot_tip terms (some h) = go h.seconds
+spot_tip : (terms : List ℕ) (o : Option Header) → spot_of terms (tip_of o) ≡ if_some (if_some o None (λ h. h.seconds)) None (λ t. spot_at terms t)
+spot_tip terms None = refl
+spot_tip terms (Some h) = go h.seconds
   where
-    go : (u : Option ℤ) → spot_of terms (tip_seconds (seconds_read u)) ≡ if_some u Outside (λ t. spot_at terms t)
-    go none = refl
-    go (some v) = refl
+    go : (u : Option ℤ) → spot_of terms (tip_seconds (seconds_read u)) ≡ if_some u None (λ t. spot_at terms t)
+    go None = refl
+    go (Some v) = refl
 
-pub spot_read : {w : ℕ} (terms : List ℕ) {s : List ℕ} {x : Id} {r : TipRead} → ReadsTip w s x r → store_is_ok w s ≡ true → spot_of terms r ≡ term_of w terms s x
+pub spot_read : {w : ℕ} (terms : List ℕ) {s : List ℕ} {x : Id} {r : Result Seconds TipError} → ReadsTip w s x r → store_is_ok w s ≡ true → spot_of terms r ≡ term_of w terms s x
 unfolding term_of store_seconds
 spot_read {w} terms {s} {x} l ok = ap (spot_of terms) (tip_right l ok []) ∙ spot_tip terms ((world_of w s []).store x)
 

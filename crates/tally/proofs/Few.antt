@@ -1,18 +1,15 @@
 -- The numbers of n calls stay small: each call adds one to a count and a reading, of at most 1,000,000,000, to a sum. Assumes nothing.
+use Rattle.std.specs.Prelude.{Err, None, Ok, Option, Result, Some}
+use Rattle.walk.specs.declared.Refusal.{Refusal}
 use mathlib.Core.Path.{◌≡◌, refl, ◌∙◌}
 use Prim.Native.Nat.{ℕ, suc, ◌+◌, ◌*◌, ◌≤◌}
 use mathlib.Core.Bool.{Bool, true, false, cond}
-use mathlib.Core.Option.{Option, none, some}
 use mathlib.Core.List.{List, []}
 use native.Mathlib.Omega.{arith}
 use Rattle.hash.specs.Bytes.{Id, among, if_some}
 use Rattle.object.specs.Ids.{id_in}
 use Rattle.odb.specs.Store.{store_find}
-use Rattle.feed.specs.declared.Reading.{Reading}
-use Rattle.feed.specs.declared.Reading.TheVariants.{Absent, Given}
 use Rattle.feed.specs.declared.Feed.{Feed}
-use Rattle.feed.specs.declared.FeedOutcome.{FeedOutcome}
-use Rattle.feed.specs.declared.FeedOutcome.TheVariants.{Read, Faulty}
 use Rattle.feed.specs.Feed.{feed_of, most_millimetres}
 use Rattle.feed.proofs.Small.{cone-small, bed-small}
 use Rattle.walk.specs.Opening.{list_ids}
@@ -23,18 +20,16 @@ use Rattle.tally.specs.declared.Task.{Task}
 use Rattle.tally.specs.declared.Task.TheVariants as tasks
 use Rattle.tally.specs.declared.Tally.{Tally}
 use Rattle.tally.specs.Feeds.{no_reading, feed_at, feed_for, feeds_of, plus, FewFeeds, LowFeeds, Small, SmallIn}
-use Rattle.tally.specs.declared.terms.Spot.{Spot}
-use Rattle.tally.specs.declared.terms.Spot.TheVariants.{Term, Outside}
 use Rattle.tally.specs.Terms.{term_of}
 use Rattle.tally.specs.Tally.{read_in, counted, fed_by, placed, placed_by, step_of, Few}
 
 -- ---- readings
 
-absent-small : Small Absent
+absent-small : Small None
 absent-small n e = let z : ◌≡◌ {A = ℕ} 0 1 = cc in absurd (omega arith)
 
-few-read : (c b : Reading) → Small c → Small b → FewFeeds 1 (feeds_of c b)
-few-read (Given c) (Given b) h g = let x = h c refl in let y = g b refl in record {
+few-read : (c b : Option ℕ) → Small c → Small b → FewFeeds 1 (feeds_of c b)
+few-read (Some c) (Some b) h g = let x = h c refl in let y = g b refl in record {
   both = omega arith;
   cone = omega arith;
   bed = omega arith;
@@ -44,7 +39,7 @@ few-read (Given c) (Given b) h g = let x = h c refl in let y = g b refl in recor
   paired-cone = omega (arith, x);
   paired-bed = omega (arith, y);
 }
-few-read (Given c) Absent h g = let x = h c refl in record {
+few-read (Some c) None h g = let x = h c refl in record {
   both = omega arith;
   cone = omega arith;
   bed = omega arith;
@@ -54,7 +49,7 @@ few-read (Given c) Absent h g = let x = h c refl in record {
   paired-cone = omega arith;
   paired-bed = omega arith;
 }
-few-read Absent (Given b) h g = let y = g b refl in record {
+few-read None (Some b) h g = let y = g b refl in record {
   both = omega arith;
   cone = omega arith;
   bed = omega arith;
@@ -64,7 +59,7 @@ few-read Absent (Given b) h g = let y = g b refl in record {
   paired-cone = omega arith;
   paired-bed = omega arith;
 }
-few-read Absent Absent h g = record {
+few-read None None h g = record {
   both = omega arith;
   cone = omega arith;
   bed = omega arith;
@@ -79,8 +74,8 @@ few-read Absent Absent h g = record {
 pub in_small : (t : Bool) (b : List ℕ) → SmallIn (read_in t b)
 in_small true b f e = (λ n z. cone-small b f n e z, λ n z. bed-small b f n e z)
 in_small false b f e =
-    let c : Absent ≡ f.cone = cc in
-    let d : Absent ≡ f.bed = cc in
+    let c : None ≡ f.cone = cc in
+    let d : None ≡ f.bed = cc in
     (λ n z. absent-small n (c ∙ z), λ n z. absent-small n (d ∙ z))
 
 -- of a commit's
@@ -89,8 +84,8 @@ unfolding feed_at
 at_small w s x = go (store_find w s x)
   where
     go : (o : Option (List ℕ)) → SmallIn (if_some o no_reading (λ b. feed_of b))
-    go none f e = in_small false [] f e
-    go (some b) f e = in_small true b f e
+    go None f e = in_small false [] f e
+    go (Some b) f e = in_small true b f e
 
 -- and of one that may be withheld
 for_small : (w : ℕ) (l : List Id) (s : List ℕ) (x : Id) → SmallIn (feed_for w l s x)
@@ -136,7 +131,7 @@ few_up n k t l h = record {
 }
 
 -- the readings of one commit
-pub low_read : (f : Feed) (q : FeedOutcome) → SmallIn q → q ≡ Read f → LowFeeds (feeds_of f.cone f.bed)
+pub low_read : (f : Feed) (q : Result Feed Refusal) → SmallIn q → q ≡ Ok f → LowFeeds (feeds_of f.cone f.bed)
 low_read f q s e = few-feeds 1 4294967296 (feeds_of f.cone f.bed) (omega arith) (few-read f.cone f.bed (s f e).0 (s f e).1)
 
 few-count : (n : ℕ) (t : Tally) (o : Outcome) (f : Feeds) → Few n t → FewFeeds (suc n) f → Few (suc n) (counted t o f)
@@ -147,29 +142,29 @@ few-count n t (Refused r) f h g = record { commits = omega (arith, h.commits); r
 few-same : (n : ℕ) (t : Tally) (o : Outcome) → Few n t → Few (suc n) (counted t o t.feeds)
 few-same n t o h = few-count n t o t.feeds h (few-feeds n (suc n) t.feeds (omega arith) h.feeds)
 
-few-fed : (n : ℕ) (t : Tally) (o : Outcome) (q : FeedOutcome) → SmallIn q → Few n t → Few (suc n) (fed_by t o q)
-few-fed n t Commit (Read f) s h =
+few-fed : (n : ℕ) (t : Tally) (o : Outcome) (q : Result Feed Refusal) → SmallIn q → Few n t → Few (suc n) (fed_by t o q)
+few-fed n t Commit (Ok f) s h =
     let k = s f refl in
     few-count n t Commit (plus t.feeds (feeds_of f.cone f.bed)) h (few-plus n t.feeds (feeds_of f.cone f.bed) h.feeds (few-read f.cone f.bed k.0 k.1))
-few-fed n t Commit (Faulty r) s h = few-same n t (Refused r) h
+few-fed n t Commit (Err r) s h = few-same n t (Refused r) h
 few-fed n t End q s h = few_up n (suc n) t (omega arith) h
 few-fed n t (Refused r) q s h = few-same n t (Refused r) h
 
-few-placed : (n : ℕ) (t : Tally) (p : Spot) → Few n t → Few (suc n) (placed t p)
-few-placed n t (Term k) h = record {
+few-placed : (n : ℕ) (t : Tally) (p : Option ℕ) → Few n t → Few (suc n) (placed t p)
+few-placed n t (Some k) h = record {
   commits = omega (arith, h.commits);
   refused = omega (arith, h.refused);
   feeds = few-feeds n (suc n) t.feeds (omega arith) h.feeds;
   outside = omega (arith, h.outside);
 }
-few-placed n t Outside h = record {
+few-placed n t None h = record {
   commits = omega (arith, h.commits);
   refused = omega (arith, h.refused);
   feeds = few-feeds n (suc n) t.feeds (omega arith) h.feeds;
   outside = omega (arith, h.outside);
 }
 
-few-by : (n : ℕ) (t : Tally) (o : Outcome) (p : Spot) → Few n t → Few (suc n) (placed_by t o p)
+few-by : (n : ℕ) (t : Tally) (o : Outcome) (p : Option ℕ) → Few n t → Few (suc n) (placed_by t o p)
 few-by n t Commit p h = few-placed n t p h
 few-by n t End p h = few_up n (suc n) t (omega arith) h
 few-by n t (Refused r) p h = few-same n t (Refused r) h

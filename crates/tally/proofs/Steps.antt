@@ -1,13 +1,14 @@
 -- What a lookup found is what the commit's readings are read from, where they are not withheld; and how many calls are left. Assumes nothing.
+use Rattle.std.specs.Prelude.{Option, Result}
+use Rattle.feed.specs.declared.Feed.{Feed}
+use Rattle.walk.specs.declared.Refusal.{Refusal}
 use mathlib.Core.Path.{◌≡◌, refl, sym, ap, subst}
 use Prim.Native.Nat.{ℕ}
 use mathlib.Core.Bool.{Bool, true, false, cond}
-use mathlib.Core.Option.{Option}
 use mathlib.Core.List.{List, []}
 use Rattle.hash.specs.Bytes.{Id, among, if_some}
 use Rattle.odb.specs.Store.{store_is_ok, store_find}
 use Rattle.odb.specs.Lookup.{option_of, TriesFind}
-use Rattle.feed.specs.declared.FeedOutcome.{FeedOutcome}
 use Rattle.feed.specs.Feed.{feed_of}
 use Rattle.walk.specs.declared.Outcome.{Outcome}
 use Rattle.walk.specs.Given.{calls_after}
@@ -26,7 +27,7 @@ feed_found {w} {s} {x} {f} {b} l ok = go f (l.good ok)
     go false e = ap (λ (o : Option (List ℕ)). if_some o no_reading (λ c. feed_of c)) e
 
 -- and they are small, whatever the store is
-pub small-found : {w : ℕ} {s : List ℕ} {x : Id} {f : Bool} {b : List ℕ} {q : FeedOutcome} → TriesFind w s x f b → q ≡ read_in f b → SmallIn q
+pub small-found : {w : ℕ} {s : List ℕ} {x : Id} {f : Bool} {b : List ℕ} {q : Result Feed Refusal} → TriesFind w s x f b → q ≡ read_in f b → SmallIn q
 small-found {f = f} {b = b} l e = subst SmallIn (sym e) (in_small f b)
 
 -- ---- where some ids are withheld

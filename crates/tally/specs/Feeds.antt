@@ -1,44 +1,41 @@
 -- The numbers of a feed report (document 02, cards 5 and 10), over any list of commits. Assumes nothing.
-use Rattle.std.specs.Prelude.{ℕ, ◌+◌, ◌*◌, ◌≤◌, ◌≡◌, cond, List, [], ◌∷◌}
+use Rattle.std.specs.Prelude.{ℕ, ◌+◌, ◌*◌, ◌≤◌, ◌≡◌, cond, List, [], ◌∷◌, Err, None, Ok, Option, Result, Some}
+use Rattle.walk.specs.declared.Refusal.{Refusal}
 use Rattle.hash.specs.Bytes.{Id, among, if_some}
 use Rattle.odb.specs.Store.{store_find}
-use Rattle.feed.specs.declared.Reading.{Reading}
-use Rattle.feed.specs.declared.Reading.TheVariants.{Absent, Given}
 use Rattle.feed.specs.declared.Feed.{Feed}
-use Rattle.feed.specs.declared.FeedOutcome.{FeedOutcome}
-use Rattle.feed.specs.declared.FeedOutcome.TheVariants.{Read, Faulty}
 use Rattle.feed.specs.Feed.{feed_of, most_millimetres}
 use Rattle.tally.specs.declared.feeds.Feeds.{Feeds}
 
 -- ---- one commit
 
 -- neither reading, and no fault
-abbrev pub no_reading : FeedOutcome
-no_reading = Read (record { cone = Absent; bed = Absent })
+abbrev pub no_reading : Result Feed Refusal
+no_reading = Ok (record { cone = None; bed = None })
 
 -- "A commit found only in the graph has no message and counts as neither": the readings of a commit, by its body in the store
-unfoldable pub feed_at : ℕ → List ℕ → Id → FeedOutcome
+unfoldable pub feed_at : ℕ → List ℕ → Id → Result Feed Refusal
 feed_at w s x = if_some (store_find w s x) no_reading (λ b. feed_of b)
 
 -- the same for a reader from whom the readings of some ids are withheld (card 10): "its feed counts as neither reading", and they "never cause 21
 -- or 22"
-unfoldable pub feed_for : ℕ → List Id → List ℕ → Id → FeedOutcome
+unfoldable pub feed_for : ℕ → List Id → List ℕ → Id → Result Feed Refusal
 feed_for w withheld s x = cond (among x withheld) no_reading (feed_at w s x)
 
 abbrev pub no_feeds : Feeds
 no_feeds = record { both = 0; cone = 0; bed = 0; neither = 0; cone_sum = 0; bed_sum = 0; paired_cone = 0; paired_bed = 0 }
 
 -- "both, cone alone, bed alone and neither, the two exact sums over all readings, and for paired runs …"
-abbrev pub feeds_of : Reading → Reading → Feeds
-feeds_of (Given c) (Given b) = record { both = 1; cone = 0; bed = 0; neither = 0; cone_sum = c; bed_sum = b; paired_cone = c; paired_bed = b }
-feeds_of (Given c) Absent = record { both = 0; cone = 1; bed = 0; neither = 0; cone_sum = c; bed_sum = 0; paired_cone = 0; paired_bed = 0 }
-feeds_of Absent (Given b) = record { both = 0; cone = 0; bed = 1; neither = 0; cone_sum = 0; bed_sum = b; paired_cone = 0; paired_bed = 0 }
-feeds_of Absent Absent = record { both = 0; cone = 0; bed = 0; neither = 1; cone_sum = 0; bed_sum = 0; paired_cone = 0; paired_bed = 0 }
+abbrev pub feeds_of : Option ℕ → Option ℕ → Feeds
+feeds_of (Some c) (Some b) = record { both = 1; cone = 0; bed = 0; neither = 0; cone_sum = c; bed_sum = b; paired_cone = c; paired_bed = b }
+feeds_of (Some c) None = record { both = 0; cone = 1; bed = 0; neither = 0; cone_sum = c; bed_sum = 0; paired_cone = 0; paired_bed = 0 }
+feeds_of None (Some b) = record { both = 0; cone = 0; bed = 1; neither = 0; cone_sum = 0; bed_sum = b; paired_cone = 0; paired_bed = 0 }
+feeds_of None None = record { both = 0; cone = 0; bed = 0; neither = 1; cone_sum = 0; bed_sum = 0; paired_cone = 0; paired_bed = 0 }
 
 -- a faulty one adds nothing: where there is one the report is zeros
-abbrev pub feeds_in : FeedOutcome → Feeds
-feeds_in (Read f) = feeds_of f.cone f.bed
-feeds_in (Faulty r) = no_feeds
+abbrev pub feeds_in : Result Feed Refusal → Feeds
+feeds_in (Ok f) = feeds_of f.cone f.bed
+feeds_in (Err r) = no_feeds
 
 -- ---- some commits
 
@@ -55,7 +52,7 @@ plus a b = record {
 }
 
 -- the numbers of a list of commits whose readings f gives
-unfoldable pub feeds_over : (Id → FeedOutcome) → List Id → Feeds
+unfoldable pub feeds_over : (Id → Result Feed Refusal) → List Id → Feeds
 feeds_over f [] = no_feeds
 feeds_over f (x ∷ xs) = plus (feeds_in (f x)) (feeds_over f xs)
 
@@ -73,11 +70,11 @@ pub record FewFeeds (n : ℕ) (f : Feeds) : Type 0 where
   pub paired-bed : f.paired_bed ≤ n * most_millimetres
 
 -- "at most 1,000,000,000"
-abbrev pub Small : Reading → Type 0
-Small r = (n : ℕ) → r ≡ Given n → n ≤ most_millimetres
+abbrev pub Small : Option ℕ → Type 0
+Small r = (n : ℕ) → r ≡ Some n → n ≤ most_millimetres
 
-abbrev pub SmallIn : FeedOutcome → Type 0
-SmallIn q = (f : Feed) → q ≡ Read f → Small f.cone × Small f.bed
+abbrev pub SmallIn : Result Feed Refusal → Type 0
+SmallIn q = (f : Feed) → q ≡ Ok f → Small f.cone × Small f.bed
 
 -- two of these add up in 64 bits
 abbrev pub LowFeeds : Feeds → Type 0

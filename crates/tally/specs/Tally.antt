@@ -1,11 +1,10 @@
 -- What a whole walk is called for, and what its answers come to, one after another. Assumes nothing.
-use Rattle.std.specs.Prelude.{ℕ, ◌+◌, ◌*◌, ◌≤◌, ◌≡◌, Bool, true, false, cond, List, [], ◌∷◌}
+use Rattle.std.specs.Prelude.{ℕ, ◌+◌, ◌*◌, ◌≤◌, ◌≡◌, Bool, true, false, cond, List, [], ◌∷◌, Err, Ok, Option, Result}
+use Rattle.walk.specs.declared.Refusal.{Refusal}
 use Rattle.hash.specs.Bytes.{Id, set_down}
 use Rattle.object.specs.Ids.{id_in}
 use Rattle.odb.specs.Store.{store_is_ok}
 use Rattle.calendar.specs.Terms.{good_terms}
-use Rattle.feed.specs.declared.FeedOutcome.{FeedOutcome}
-use Rattle.feed.specs.declared.FeedOutcome.TheVariants.{Read, Faulty}
 use Rattle.feed.specs.Feed.{feed_of}
 use Rattle.walk.specs.declared.Outcome.{Outcome}
 use Rattle.walk.specs.declared.Outcome.TheVariants.{Commit, End, Refused}
@@ -14,9 +13,9 @@ use Rattle.walk.specs.Next.{Kind, Answer}
 use Rattle.walk.specs.Given.{outcome_of, id_of_kind, calls_after}
 use Rattle.tally.specs.declared.feeds.Feeds.{Feeds}
 use Rattle.tally.specs.declared.Task.{Task}
-use Rattle.tally.specs.declared.Task.TheVariants.{Ids, Feed, Terms}
+use Rattle.feed.specs.declared.Feed.{Feed}
+use Rattle.tally.specs.declared.Task.TheVariants.{Ids, Feed as Feeding, Terms}
 use Rattle.tally.specs.declared.Tally.{Tally}
-use Rattle.tally.specs.declared.terms.Spot.{Spot}
 use Rattle.tally.specs.Terms.{term_of, counts_at, outside_at, FewCounts}
 use Rattle.tally.specs.Feeds.{no_reading, feed_for, feeds_of, no_feeds, plus, FewFeeds}
 
@@ -72,27 +71,27 @@ counted t o f = record {
 -- ---- the steps
 
 -- the readings of a body, where one was found
-abbrev pub read_in : Bool → List ℕ → FeedOutcome
+abbrev pub read_in : Bool → List ℕ → Result Feed Refusal
 read_in true b = feed_of b
 read_in false b = no_reading
 
 -- a faulty commit counts as a refusal
-abbrev pub fed_by : Tally → Outcome → FeedOutcome → Tally
-fed_by t Commit (Read f) = counted t Commit (plus t.feeds (feeds_of f.cone f.bed))
-fed_by t Commit (Faulty r) = counted t (Refused r) t.feeds
+abbrev pub fed_by : Tally → Outcome → Result Feed Refusal → Tally
+fed_by t Commit (Ok f) = counted t Commit (plus t.feeds (feeds_of f.cone f.bed))
+fed_by t Commit (Err r) = counted t (Refused r) t.feeds
 fed_by t End q = t
 fed_by t (Refused r) q = counted t (Refused r) t.feeds
 
 -- a commit more, in its term or outside all
-abbrev pub placed : Tally → Spot → Tally
+abbrev pub placed : Tally → Option ℕ → Tally
 placed t p = record { commits = t.commits + 1; refused = t.refused; reason = t.reason; feeds = t.feeds; outside = outside_at t.outside p }
 
-abbrev pub placed_by : Tally → Outcome → Spot → Tally
+abbrev pub placed_by : Tally → Outcome → Option ℕ → Tally
 placed_by t Commit p = placed t p
 placed_by t End p = t
 placed_by t (Refused r) p = counted t (Refused r) t.feeds
 
-abbrev pub counts_after : List ℕ → Outcome → Spot → List ℕ
+abbrev pub counts_after : List ℕ → Outcome → Option ℕ → List ℕ
 counts_after c Commit p = counts_at c p
 counts_after c End p = c
 counts_after c (Refused r) p = c
@@ -101,19 +100,19 @@ counts_after c (Refused r) p = c
 -- withheld
 abbrev pub step_of : ℕ → Task → List ℕ → List ℕ → List ℕ → Tally → Outcome → Id → Tally
 step_of w Ids embargoed terms s t o x = counted t o t.feeds
-step_of w Feed embargoed terms s t o x = fed_by t o (feed_for w (list_ids w embargoed) s (id_in w x))
+step_of w Feeding embargoed terms s t o x = fed_by t o (feed_for w (list_ids w embargoed) s (id_in w x))
 step_of w Terms embargoed terms s t o x = placed_by t o (term_of w terms s (id_in w x))
 
 -- and the caller's buffer of ids
 abbrev pub ids_by : ℕ → Task → List ℕ → ℕ → Outcome → Id → List ℕ
 ids_by w Ids b n o x = ids_after w b n o x
-ids_by w Feed b n o x = b
+ids_by w Feeding b n o x = b
 ids_by w Terms b n o x = b
 
 -- and of counts
 abbrev pub counts_by : ℕ → Task → List ℕ → List ℕ → List ℕ → Outcome → Id → List ℕ
 counts_by w Ids terms s c o x = c
-counts_by w Feed terms s c o x = c
+counts_by w Feeding terms s c o x = c
 counts_by w Terms terms s c o x = counts_after c o (term_of w terms s (id_in w x))
 
 abbrev pub is_refusal : Outcome → Bool
@@ -124,7 +123,7 @@ is_refusal (Refused r) = true
 -- a report ends at its first refusal
 abbrev pub halted : Task → Tally → Bool
 halted Ids t = false
-halted Feed t = is_refusal t.reason
+halted Feeding t = is_refusal t.reason
 halted Terms t = is_refusal t.reason
 
 -- how many of some calls may follow

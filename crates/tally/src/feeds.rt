@@ -1,9 +1,8 @@
 // The numbers of a feed report, added up commit by commit.
-ghost use Rattle.std.specs.Prelude.{◌≡◌, true, ◌↔◌, ◌≤◌};
-ghost use Rattle.feed.specs.declared.Reading.TheVariants.{Absent, Given};
+ghost use Rattle.std.specs.Prelude.{◌≡◌, true, ◌↔◌, ◌≤◌, None, Some};
 ghost use Rattle.tally.specs.Feeds.{no_feeds, plus, feeds_of, LowFeeds};
 
-use feed::{Feed, Reading};
+use feed::Feed;
 
 // What the readings of some commits come to, in millimetres.
 #[derive(Clone, Copy)]
@@ -38,11 +37,11 @@ pub(crate) fn no_feeds() -> Feeds
 }
 
 // One commit with the cone's reading.
-fn with_cone(cone: u64, bed: Reading) -> Feeds
-    ensures { result ≡ feeds_of (Given cone) bed }
+fn with_cone(cone: u64, bed: Option<u64>) -> Feeds
+    ensures { result ≡ feeds_of (Some cone) bed }
 {
     match bed {
-        Reading::Given(b) => Feeds {
+        Some(b) => Feeds {
             both: 1,
             cone: 0,
             bed: 0,
@@ -52,7 +51,7 @@ fn with_cone(cone: u64, bed: Reading) -> Feeds
             paired_cone: cone,
             paired_bed: b,
         },
-        Reading::Absent => Feeds {
+        None => Feeds {
             both: 0,
             cone: 1,
             bed: 0,
@@ -66,11 +65,11 @@ fn with_cone(cone: u64, bed: Reading) -> Feeds
 }
 
 // One commit without the cone's reading.
-fn without_cone(bed: Reading) -> Feeds
-    ensures { result ≡ feeds_of Absent bed }
+fn without_cone(bed: Option<u64>) -> Feeds
+    ensures { result ≡ feeds_of None bed }
 {
     match bed {
-        Reading::Given(b) => Feeds {
+        Some(b) => Feeds {
             both: 0,
             cone: 0,
             bed: 1,
@@ -80,7 +79,7 @@ fn without_cone(bed: Reading) -> Feeds
             paired_cone: 0,
             paired_bed: 0,
         },
-        Reading::Absent => Feeds {
+        None => Feeds {
             both: 0,
             cone: 0,
             bed: 0,
@@ -100,8 +99,8 @@ pub(crate) fn feeds_of(f: Feed) -> Feeds
     let cone = f.cone;
     let bed = f.bed;
     match cone {
-        Reading::Given(c) => with_cone(c, bed),
-        Reading::Absent => without_cone(bed),
+        Some(c) => with_cone(c, bed),
+        None => without_cone(bed),
     }
 }
 

@@ -4,7 +4,7 @@
 pub mod feeds;
 pub mod terms;
 
-ghost use Rattle.std.specs.Prelude.{◌≡◌, true, ◌↔◌, ◌+◌, ◌≤◌, ◌<◌};
+ghost use Rattle.std.specs.Prelude.{◌≡◌, true, ◌↔◌, ◌+◌, ◌≤◌, ◌<◌, None};
 ghost use Rattle.hash.specs.Bytes.{width_of};
 ghost use Rattle.object.specs.Ids.{id_in};
 ghost use Rattle.odb.specs.Store.{store_is_ok};
@@ -14,11 +14,10 @@ ghost use Rattle.tally.specs.Feeds.{no_reading, feed_at, feed_for, SmallIn};
 ghost use Rattle.tally.specs.Terms.{term_of, counts_at, FewCounts};
 ghost use Rattle.tally.specs.Tally.{commits_after, refused_after, reason_or, reason_after, no_tally, counted, read_in, fed_by, ids_after, placed, placed_by, counts_after, step_of, ids_by, counts_by, Low, Ready, is_refusal, halted, calls_left};
 
-use feed::{Feed, FeedOutcome, Reading};
+use feed::Feed;
 use feeds::Feeds;
 use hash::Kind;
-use terms::Spot;
-use walk::{Answer, Outcome};
+use walk::{Answer, Outcome, Refusal};
 
 // What a whole walk is called for.
 #[derive(Clone, Copy)]
@@ -135,7 +134,7 @@ fn set_down_commit(kind: Kind, ids: &mut [u8], n: usize, answer: Answer)
 }
 
 // The readings of a body, where one was found.
-fn read_in(found: bool, body: &[u8]) -> FeedOutcome
+fn read_in(found: bool, body: &[u8]) -> Result<Feed, Refusal>
     ensures { result ≡ read_in found body.now }
 {
     if found {
@@ -146,17 +145,17 @@ fn read_in(found: bool, body: &[u8]) -> FeedOutcome
 }
 
 // Neither reading.
-fn no_reading() -> FeedOutcome
+fn no_reading() -> Result<Feed, Refusal>
     ensures { result ≡ no_reading }
 {
-    FeedOutcome::Read(Feed {
-        cone: Reading::Absent,
-        bed: Reading::Absent,
+    Ok(Feed {
+        cone: None,
+        bed: None,
     })
 }
 
 // The readings of a commit, by its body in the store.
-fn feed_at(kind: Kind, store: &[u8], id: &[u8]) -> FeedOutcome
+fn feed_at(kind: Kind, store: &[u8], id: &[u8]) -> Result<Feed, Refusal>
     ensures { (store_is_ok (width_of kind) store.now ≡ true → result ≡ feed_at (width_of kind) store.now id.now) × SmallIn result }
 {
     let mut found = false;
@@ -165,7 +164,7 @@ fn feed_at(kind: Kind, store: &[u8], id: &[u8]) -> FeedOutcome
 }
 
 // The readings of a commit; those of an embargoed one are withheld.
-fn feed_for(kind: Kind, embargoed: &[u8], store: &[u8], id: &[u8]) -> FeedOutcome
+fn feed_for(kind: Kind, embargoed: &[u8], store: &[u8], id: &[u8]) -> Result<Feed, Refusal>
     ensures { (store_is_ok (width_of kind) store.now ≡ true → result ≡ feed_for (width_of kind) (list_ids (width_of kind) embargoed.now) store.now id.now) × SmallIn result }
 {
     if reading::is_among(kind, embargoed, id) {
@@ -176,14 +175,14 @@ fn feed_for(kind: Kind, embargoed: &[u8], store: &[u8], id: &[u8]) -> FeedOutcom
 }
 
 // A tally with a commit more that has these readings.
-fn add_commit(t: Tally, read: FeedOutcome) -> Tally
+fn add_commit(t: Tally, read: Result<Feed, Refusal>) -> Tally
     requires { Low t × SmallIn read }
     ensures { result ≡ fed_by t Commit read }
 {
     let had = t.feeds;
     match read {
-        FeedOutcome::Read(f) => count(t, Outcome::Commit, feeds::plus(had, feeds::feeds_of(f))),
-        FeedOutcome::Faulty(r) => count(t, Outcome::Refused(r), had),
+        Ok(f) => count(t, Outcome::Commit, feeds::plus(had, feeds::feeds_of(f))),
+        Err(r) => count(t, Outcome::Refused(r), had),
     }
 }
 
@@ -219,7 +218,7 @@ fn ids_step(kind: Kind, t: Tally, answer: Answer, ids: &mut [u8]) -> Tally
 // A tally with a commit more that lies outside all terms.
 fn one_outside(t: Tally) -> Tally
     requires { Low t }
-    ensures { result ≡ placed t Spot.Outside }
+    ensures { result ≡ placed t None }
 {
     let reason = t.reason;
     let had = t.feeds;
@@ -233,17 +232,17 @@ fn one_outside(t: Tally) -> Tally
 }
 
 // A tally with a commit more of this term, which is counted there.
-fn place(t: Tally, spot: Spot, counts: &mut [u64]) -> Tally
+fn place(t: Tally, spot: Option<usize>, counts: &mut [u64]) -> Tally
     requires { Low t }
     ensures { (result ≡ placed t spot) × (FewCounts 4294967296 counts.old → counts.new ≡ counts_at counts.old spot) }
 {
     let had = t.feeds;
     match spot {
-        Spot::Term(k) => {
+        Some(k) => {
             terms::bump(counts, k);
             count(t, Outcome::Commit, had)
         }
-        Spot::Outside => one_outside(t),
+        None => one_outside(t),
     }
 }
 

@@ -7,40 +7,28 @@ ghost use Rattle.tally.specs.Terms.{spot_at, spot_of, term_of, good_part, bumped
 
 use date::Seconds;
 use hash::Kind;
-use reading::TipRead;
-
-// Where a commit's seconds in the store lie.
-#[derive(Clone, Copy)]
-pub enum Spot {
-    Term(usize),
-    Outside,
-}
+use reading::TipError;
 
 // The term that has these seconds.
-fn spot_at(terms: &[u32], s: Seconds) -> Spot
+fn spot_at(terms: &[u32], s: Seconds) -> Option<usize>
     ensures { good_terms terms.now ≡ true → result ≡ spot_at terms.now s.0 }
 {
     let k = calendar::term_at(terms, s.0);
-    if k < terms.len() / 2 {
-        Spot::Term(k)
-    } else {
-        Spot::Outside
-    }
+    if k < terms.len() / 2 { Some(k) } else { None }
 }
 
 // The term of a commit whose seconds were read so.
-fn spot_of(terms: &[u32], read: TipRead) -> Spot
+fn spot_of(terms: &[u32], read: Result<Seconds, TipError>) -> Option<usize>
     ensures { good_terms terms.now ≡ true → result ≡ spot_of terms.now read }
 {
     match read {
-        TipRead::Good(s) => spot_at(terms, s),
-        TipRead::Missing => Spot::Outside,
-        TipRead::Unreadable => Spot::Outside,
+        Ok(s) => spot_at(terms, s),
+        Err(_) => None,
     }
 }
 
 // The term of a commit, by its seconds in the store.
-pub(crate) fn term_of(kind: Kind, terms: &[u32], store: &[u8], id: &[u8]) -> Spot
+pub(crate) fn term_of(kind: Kind, terms: &[u32], store: &[u8], id: &[u8]) -> Option<usize>
     ensures { good_terms terms.now ≡ true → store_is_ok (width_of kind) store.now ≡ true → result ≡ term_of (width_of kind) terms.now store.now id.now }
 {
     spot_of(terms, reading::read_tip(kind, store, id))

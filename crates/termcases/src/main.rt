@@ -6,10 +6,9 @@
 
 ghost use Rattle.std.specs.Prelude.{◌<◌};
 
-use reports::Reported;
 use std::io;
 use termsreport::TermsReport;
-use walk::Settings;
+use walk::{Refusal, Settings};
 
 fn text(rt: &impl Print, s: &[u8]) -> io::Result<()> {
     host::write_all(rt, s)
@@ -32,10 +31,10 @@ fn print_days(rt: &impl Print) -> io::Result<()> {
     text(rt, b"\n")
 }
 
-fn print_outcome(rt: &impl Print, o: Reported) -> io::Result<()> {
+fn print_outcome(rt: &impl Print, o: Result<(), Refusal>) -> io::Result<()> {
     match o {
-        Reported::Whole => text(rt, b"whole"),
-        Reported::Refused(r) => {
+        Ok(()) => text(rt, b"whole"),
+        Err(r) => {
             text(rt, b"refused")?;
             print_number(rt, walk::number(r) as u64)
         }

@@ -1,4 +1,5 @@
 -- Counts one commit more: the count of its term goes up by one, and each other stays. Assumes nothing.
+use Rattle.std.specs.Prelude.{None, Option, Some}
 use mathlib.Core.Path.{◌≡◌, refl, sym, ◌∙◌, ap}
 use Prim.Native.Nat.{ℕ, zero, suc, ◌+◌}
 use mathlib.Core.Bool.{Bool, cond}
@@ -8,8 +9,6 @@ use lib.ListN.{length}
 use lib.Dec.{eqb, eqb-zero-suc, eqb-suc-zero, eqb-suc-suc}
 use Rattle.hash.specs.Bytes.{Id}
 use Rattle.walk.specs.Calls.{up_to}
-use Rattle.tally.specs.declared.terms.Spot.{Spot}
-use Rattle.tally.specs.declared.terms.Spot.TheVariants.{Term, Outside}
 use Rattle.tally.specs.Terms.{term_of, bumped, counts_at, outside_at, zeros}
 use Rattle.termsreport.specs.Counts.{one_in, one_outside, count_in, count_outside, counts_in}
 
@@ -31,12 +30,12 @@ zeros_up zero = refl
 zeros_up (suc n) = ap (λ (l : List ℕ). 0 ∷ l) (zeros_up n)
 
 -- one more in place j
-bump_up : (f : ℕ → ℕ) (n j : ℕ) → bumped (up_to f n) j ≡ up_to (λ k. f k + one_in k (Term j)) n
+bump_up : (f : ℕ → ℕ) (n j : ℕ) → bumped (up_to f n) j ≡ up_to (λ k. f k + one_in k (Some j)) n
 unfolding up_to bumped
 bump_up f zero j = refl
 bump_up f (suc n) zero =
     ap (λ (l : List ℕ). (f zero + 1) ∷ l)
-    (counts_same (λ k. f (suc k)) (λ k. f (suc k) + one_in (suc k) (Term zero))
+    (counts_same (λ k. f (suc k)) (λ k. f (suc k) + one_in (suc k) (Some zero))
     (λ k. let z : ◌≡◌ {A = ℕ} (cond (eqb zero (suc k)) 1 0) 0 = ap (λ (b : Bool). cond b 1 0) (eqb-zero-suc k) in omega (arith, z)) n)
 bump_up f (suc n) (suc j) =
     let z : ◌≡◌ {A = ℕ} (cond (eqb (suc j) zero) 1 0) 0 = ap (λ (b : Bool). cond b 1 0) (eqb-suc-zero j) in
@@ -44,16 +43,16 @@ bump_up f (suc n) (suc j) =
     ap (λ (a : ℕ). a ∷ bumped (up_to (λ k. f (suc k)) n) j) y
     ∙ ap (λ (l : List ℕ). (f zero + cond (eqb (suc j) zero) 1 0) ∷ l)
     (bump_up (λ k. f (suc k)) n j
-    ∙ counts_same (λ k. f (suc k) + one_in k (Term j)) (λ k. f (suc k) + one_in (suc k) (Term (suc j)))
+    ∙ counts_same (λ k. f (suc k) + one_in k (Some j)) (λ k. f (suc k) + one_in (suc k) (Some (suc j)))
     (λ k. ap (λ (b : Bool). f (suc k) + cond b 1 0) (sym (eqb-suc-suc j k))) n)
 
-at-counts : (f : ℕ → ℕ) (n : ℕ) (p : Spot) → counts_at (up_to f n) p ≡ up_to (λ k. f k + one_in k p) n
-at-counts f n (Term j) = bump_up f n j
-at-counts f n Outside = counts_same f (λ k. f k + 0) (λ k. omega arith) n
+at-counts : (f : ℕ → ℕ) (n : ℕ) (p : Option ℕ) → counts_at (up_to f n) p ≡ up_to (λ k. f k + one_in k p) n
+at-counts f n (Some j) = bump_up f n j
+at-counts f n None = counts_same f (λ k. f k + 0) (λ k. omega arith) n
 
-at-outside : (n : ℕ) (p : Spot) → outside_at n p ≡ n + one_outside p
-at-outside n (Term j) = omega arith
-at-outside n Outside = omega arith
+at-outside : (n : ℕ) (p : Option ℕ) → outside_at n p ≡ n + one_outside p
+at-outside n (Some j) = omega arith
+at-outside n None = omega arith
 
 -- ---- one commit more
 

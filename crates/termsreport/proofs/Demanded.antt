@@ -1,9 +1,9 @@
 -- The counts of a whole report add up to the commits handed out; and under the premises the report is that of the third demand's list, which the
 -- whole walk hands out. Assumes nothing.
+use Rattle.std.specs.Prelude.{Err, None, Ok, Result}
 use mathlib.Core.Path.{◌≡◌, refl, sym, ◌∙◌, ap, subst}
 use Prim.Native.Nat.{ℕ, ◌+◌, ◌/◌, ◌≤◌}
 use mathlib.Core.Bool.{Bool, true, false}
-use mathlib.Core.Option.{none}
 use mathlib.Core.List.{List}
 use native.Mathlib.Omega.{arith}
 use lib.ListN.{length}
@@ -20,30 +20,28 @@ use Rattle.driver.specs.Walked.{all_answers, whole_list}
 use Rattle.driver.proofs.Whole.{listed-whole}
 use Rattle.lister.specs.Walked.{first_refusal}
 use Rattle.lister.proofs.Refusals.{hands_none}
-use Rattle.reports.specs.declared.Reported.{Reported}
-use Rattle.reports.specs.declared.Reported.TheVariants.{Whole, Refused}
 use Rattle.termsreport.specs.declared.TermsReport.{TermsReport}
 use Rattle.termsreport.specs.Counts.{count_outside, counts_in, sum}
 use Rattle.termsreport.specs.Terms.{terms_by, kept_by, terms_report, terms_counts, TermsSays}
 use Rattle.termsreport.specs.Demand.{OfListed, TermsDemand}
 use Rattle.termsreport.proofs.Adding.{past-none, counts_all}
 
-not-whole {ℓ} : {X : Type ℓ} (q : Refusal) → Refused q ≡ Whole → X
+not-whole {ℓ} : {X : Type ℓ} (q : Refusal) → ◌≡◌ {A = Result (Unit {0}) Refusal} (Err q) (Ok tt) → X
 not-whole q e = let z : ◌≡◌ {A = ℕ} 0 1 = cc in absurd (omega arith)
 
 -- a whole report of a walk
-whole_adds : (i : Input) (terms : List ℕ) (n : ℕ) → length terms / 2 ≤ n → (terms_report i terms).outcome ≡ Whole → sum (terms_counts i terms n) + (terms_report i terms).outside ≡ length (whole_list i)
+whole_adds : (i : Input) (terms : List ℕ) (n : ℕ) → length terms / 2 ≤ n → (terms_report i terms).outcome ≡ (Ok tt) → sum (terms_counts i terms n) + (terms_report i terms).outside ≡ length (whole_list i)
 unfolding terms_report terms_counts
 whole_adds i terms n h o = go (first_refusal (all_answers i)) o
   where
-    go : (f : Outcome) → (terms_by f (count_outside (width_in i) terms i.store (whole_list i))).outcome ≡ Whole
+    go : (f : Outcome) → (terms_by f (count_outside (width_in i) terms i.store (whole_list i))).outcome ≡ (Ok tt)
         → sum (kept_by f (counts_in (width_in i) terms i.store (whole_list i) n)) + (terms_by f (count_outside (width_in i) terms i.store (whole_list i))).outside ≡ length (whole_list i)
     go Commit w = counts_all (width_in i) terms i.store (whole_list i) n h
     go End w = counts_all (width_in i) terms i.store (whole_list i) n h
     go (Stopped q) w = not-whole q w
 
 module _ (i : Input) (terms : List ℕ) (m : Lent) (counts : List ℕ) (r : TermsReport) (m' : Lent) (counts' : List ℕ) (s : TermsSays i terms m counts r m' counts') where
-  adds : length terms / 2 ≤ length counts → r.outcome ≡ Whole → sum counts' + r.outside ≡ length (whole_list i)
+  adds : length terms / 2 ≤ length counts → r.outcome ≡ (Ok tt) → sum counts' + r.outside ≡ length (whole_list i)
   adds h o = by-list (good_terms terms) refl
     where
       by-opening : good_terms terms ≡ true → (w : Opening) → open_walk i (room_for i (lengths_of m)) ≡ w → sum counts' + r.outside ≡ length (whole_list i)
@@ -58,7 +56,7 @@ module _ (i : Input) (terms : List ℕ) (m : Lent) (counts : List ℕ) (r : Term
       by-list true g = by-opening g (open_walk i (room_for i (lengths_of m))) refl
       by-list false g = not-whole BadTerms (sym (ap (λ (x : TermsReport). x.outcome) (s.bad-list g).0) ∙ o)
 
-  of-listed : good_terms terms ≡ true → refusal i ≡ none → room_for i (lengths_of m) ≡ true → Premises (walk_of i) (list_ids (width_in i) i.tips) → OfListed i terms counts r counts'
+  of-listed : good_terms terms ≡ true → refusal i ≡ None → room_for i (lengths_of m) ≡ true → Premises (walk_of i) (list_ids (width_in i) i.tips) → OfListed i terms counts r counts'
   unfolding terms_report terms_counts
   of-listed g e room pre =
       let q = listed-whole i e pre in

@@ -1,5 +1,6 @@
 -- What `terms_report` comes to: where a call is refused the calls up to it decide, and no count is kept; where none is all P + 2 calls are counted.
 -- Assumes nothing.
+use Rattle.std.specs.Prelude.{Result}
 use mathlib.Core.Path.{◌≡◌, refl, sym, ◌∙◌, ap, subst}
 use Prim.Native.Nat.{ℕ, ◌+◌}
 use mathlib.Core.Bool.{true, false}
@@ -11,7 +12,6 @@ use Rattle.walk.specs.declared.Refusal.{Refusal}
 use Rattle.walk.specs.declared.Refusal.TheVariants.{BadTerms}
 use Rattle.walk.specs.declared.Outcome.{Outcome}
 use Rattle.walk.specs.declared.Outcome.TheVariants.{Commit, End, Refused}
-use Rattle.walk.specs.declared.OpenOutcome.{OpenOutcome}
 use Rattle.walk.specs.State.{State}
 use Rattle.walk.specs.Opening.{Input, width_in, P, room_for, closed, opened, open_walk}
 use Rattle.walk.specs.Calls.{answers}
@@ -62,13 +62,13 @@ module _ {i : Input} {m : Lent} {d : Driven} {m' : Lent} {embargoed terms ids co
 
       one : report_of d ≡ said v.calls (first_refusal (answers i v.calls))
       one =
-          ap (λ (o : OpenOutcome). opened_by o d.tally.reason d.tally.outside) v.made.accepted
+          ap (λ (o : Result (Unit {0}) Refusal). opened_by o d.tally.reason d.tally.outside) v.made.accepted
           ∙ ap (λ (o : Outcome). terms_by o d.tally.outside) t.reason
           ∙ ap (terms_by (first_refusal (answers i v.calls))) t.outside
 
       two : settled d counts₁ ≡ left v.calls (first_refusal (answers i v.calls))
       two =
-          ap (λ (o : OpenOutcome). settled_by o d.tally.reason counts₁) v.made.accepted
+          ap (λ (o : Result (Unit {0}) Refusal). settled_by o d.tally.reason counts₁) v.made.accepted
           ∙ ap (λ (o : Outcome). kept_by o counts₁) t.reason
           ∙ ap (kept_by (first_refusal (answers i v.calls))) t.counts
 

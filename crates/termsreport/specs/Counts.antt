@@ -1,22 +1,20 @@
 -- The counts of a report by terms (document 02, card 9), over any list of commits. Assumes nothing.
-use Rattle.std.specs.Prelude.{ℕ, ◌+◌, cond, List, [], ◌∷◌, eqb}
+use Rattle.std.specs.Prelude.{ℕ, ◌+◌, cond, List, [], ◌∷◌, eqb, None, Option, Some}
 use Rattle.hash.specs.Bytes.{Id}
 use Rattle.walk.specs.Calls.{up_to}
-use Rattle.tally.specs.declared.terms.Spot.{Spot}
-use Rattle.tally.specs.declared.terms.Spot.TheVariants.{Term, Outside}
 use Rattle.tally.specs.Terms.{term_of}
 
 -- ---- one commit
 
 -- 1 for a commit of term k
-abbrev pub one_in : ℕ → Spot → ℕ
-one_in k (Term j) = cond (eqb j k) 1 0
-one_in k Outside = 0
+abbrev pub one_in : ℕ → Option ℕ → ℕ
+one_in k (Some j) = cond (eqb j k) 1 0
+one_in k None = 0
 
 -- 1 for a commit outside all
-abbrev pub one_outside : Spot → ℕ
-one_outside (Term j) = 0
-one_outside Outside = 1
+abbrev pub one_outside : Option ℕ → ℕ
+one_outside (Some j) = 0
+one_outside None = 1
 
 -- ---- some commits
 

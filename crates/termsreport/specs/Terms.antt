@@ -1,12 +1,10 @@
 -- The report by terms (document 02, card 9, "Terms and seasons") over a whole walk. Assumes nothing.
-use Rattle.std.specs.Prelude.{ℕ, ◌≡◌, true, false, List, length}
+use Rattle.std.specs.Prelude.{ℕ, ◌≡◌, true, false, List, length, Err, Ok, Result}
 use Rattle.calendar.specs.Terms.{good_terms}
 use Rattle.walk.specs.declared.Refusal.{Refusal}
 use Rattle.walk.specs.declared.Refusal.TheVariants.{BadTerms}
 use Rattle.walk.specs.declared.Outcome.{Outcome}
 use Rattle.walk.specs.declared.Outcome.TheVariants.{Commit, End, Refused as Stopped}
-use Rattle.walk.specs.declared.OpenOutcome.{OpenOutcome}
-use Rattle.walk.specs.declared.OpenOutcome.TheVariants.{Accepted, NotOpened}
 use Rattle.walk.specs.State.{State}
 use Rattle.walk.specs.Opening.{Input, width_in, room_for, open_walk, closed, opened}
 use Rattle.traverse.specs.Contract.{Lent, lengths_of}
@@ -14,7 +12,6 @@ use Rattle.driver.specs.declared.Driven.{Driven}
 use Rattle.tally.specs.Terms.{zeros}
 use Rattle.driver.specs.Walked.{all_answers, whole_list}
 use Rattle.lister.specs.Walked.{first_refusal}
-use Rattle.reports.specs.declared.Reported.TheVariants.{Whole, Refused}
 use Rattle.termsreport.specs.declared.TermsReport.{TermsReport}
 use Rattle.termsreport.specs.Counts.{count_outside, counts_in}
 
@@ -22,10 +19,10 @@ use Rattle.termsreport.specs.Counts.{count_outside, counts_in}
 
 -- "with that number and zeros"
 abbrev pub refused_terms : Refusal → TermsReport
-refused_terms r = record { outcome = Refused r; outside = 0 }
+refused_terms r = record { outcome = Err r; outside = 0 }
 
 abbrev pub whole_terms : ℕ → TermsReport
-whole_terms n = record { outcome = Whole; outside = n }
+whole_terms n = record { outcome = (Ok tt); outside = n }
 
 -- "A walk's own refusal ends this report with that number and zeros": by the first refusal, or End
 abbrev pub terms_by : Outcome → ℕ → TermsReport
@@ -61,13 +58,13 @@ pub record TermsSays (i : Input) (terms : List ℕ) (m : Lent) (counts : List �
 
 -- ---- its parts
 
-abbrev pub opened_by : OpenOutcome → Outcome → ℕ → TermsReport
-opened_by Accepted o n = terms_by o n
-opened_by (NotOpened r) o n = refused_terms r
+abbrev pub opened_by : Result (Unit {0}) Refusal → Outcome → ℕ → TermsReport
+opened_by (Ok _) o n = terms_by o n
+opened_by (Err r) o n = refused_terms r
 
-abbrev pub settled_by : OpenOutcome → Outcome → List ℕ → List ℕ
-settled_by Accepted o c = kept_by o c
-settled_by (NotOpened r) o c = c
+abbrev pub settled_by : Result (Unit {0}) Refusal → Outcome → List ℕ → List ℕ
+settled_by (Ok _) o c = kept_by o c
+settled_by (Err r) o c = c
 
 abbrev pub report_of : Driven → TermsReport
 report_of d = opened_by d.outcome d.tally.reason d.tally.outside

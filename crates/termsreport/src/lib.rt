@@ -7,14 +7,13 @@ ghost use Rattle.traverse.specs.Open.{lent_of};
 ghost use Rattle.termsreport.specs.Terms.{refused_terms, whole_terms, terms_by, kept_by, report_of, settled, TermsSays};
 
 use driver::Driven;
-use reports::Reported;
 use tally::Task;
-use walk::{OpenOutcome, Outcome, Refusal, Settings};
+use walk::{Outcome, Refusal, Settings};
 
 // The report by terms, beside its counts.
 #[derive(Clone, Copy)]
 pub struct TermsReport {
-    pub outcome: Reported,
+    pub outcome: Result<(), Refusal>,
     // How many commits lie outside all terms or have no readable seconds in the store; 0 where the report is refused.
     pub outside: u64,
 }
@@ -24,7 +23,7 @@ fn refused_terms(r: Refusal) -> TermsReport
     ensures { result ≡ refused_terms r }
 {
     TermsReport {
-        outcome: Reported::Refused(r),
+        outcome: Err(r),
         outside: 0,
     }
 }
@@ -34,7 +33,7 @@ fn whole_terms(outside: u64) -> TermsReport
     ensures { result ≡ whole_terms outside }
 {
     TermsReport {
-        outcome: Reported::Whole,
+        outcome: Ok(()),
         outside,
     }
 }
@@ -61,8 +60,8 @@ fn settle(d: Driven, counts: &mut [u64]) -> TermsReport
     let tally = d.tally;
     let reason = tally.reason;
     match outcome {
-        OpenOutcome::NotOpened(r) => refused_terms(r),
-        OpenOutcome::Accepted => settle_by(reason, tally.outside, counts),
+        Err(r) => refused_terms(r),
+        Ok(()) => settle_by(reason, tally.outside, counts),
     }
 }
 

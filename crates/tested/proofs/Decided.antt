@@ -1,4 +1,7 @@
 -- The end of the pass: all that is reached is readable and the file agrees on it, and each pair falls exactly where each lies below its cell. Assumes nothing.
+use Rattle.std.specs.Prelude.{Err, Ok, Option, Result}
+use Rattle.commitgraph.specs.declared.Layout.{Layout}
+use Rattle.walk.specs.declared.Refusal.{Refusal}
 use mathlib.Core.Path.{◌≡◌, refl, sym, ◌∙◌, ap, subst}
 use Prim.Native.Nat.{ℕ, ◌≤◌, ◌<◌}
 use mathlib.Core.Bool.{Bool, true, false}
@@ -7,26 +10,23 @@ use native.Mathlib.Omega.{arith}
 use lib.ListN.{length, get_or}
 use Rattle.hash.specs.Bytes.{Id}
 use Rattle.hash.proofs.Tests.{clash, not_yes}
-use Rattle.commit.specs.declared.Cache.{Cache}
 use Rattle.walk.specs.declared.Refusal.TheVariants.{UnreadableReach, GraphAtOdds, PairNotFalling}
 use Rattle.walk.specs.Lookup.{World, world_of, Pair, lt_pair}
 use Rattle.walk.specs.Reach.{links}
 use Rattle.walk.specs.Demand.{pair_at}
-use Rattle.opening.specs.declared.Checked.{Checked}
-use Rattle.opening.specs.declared.Checked.TheVariants.{Fine, Refused}
 use Rattle.opening.specs.Checks.{checked_of}
 use Rattle.reading.proofs.IdLists.{mem-at}
-use Rattle.reach.specs.declared.seek.Sought.{Sought}
-use Rattle.reach.specs.declared.seek.Sought.TheVariants.{Whole as Found, Unreadable as Stopped, NoRoom as Short}
+use Rattle.reach.specs.declared.seek.SeekError.{SeekError}
+use Rattle.reach.specs.declared.seek.SeekError.TheVariants.{Unreadable as Stopped, NoRoom as Short}
 use Rattle.reach.specs.Search.{Reached, AllReadable}
 use Rattle.reach.specs.Memory.{Lent, In}
-use Rattle.reach.specs.Seek.{ToldSought, Seeks}
+use Rattle.reach.specs.Seek.{refusal_of, ToldSought, Seeks}
 use Rattle.reach.specs.Tested.{each, agrees_in, falls_in, judged}
 use Rattle.reach.proofs.Growth.{place_of, grow-done, grow-readable}
 use Rattle.reach.proofs.Verdicts.{each-mem, each_all, each-places, each_broken}
 use Rattle.falling.specs.Cells.{AllLow}
-use Rattle.tested.specs.declared.along.Gone.{Gone}
-use Rattle.tested.specs.declared.along.Gone.TheVariants.{Whole, Unreadable, AtOdds, NoRoom}
+use Rattle.tested.specs.declared.step.StepError.{StepError}
+use Rattle.tested.specs.declared.step.StepError.TheVariants.{Unreadable, AtOdds, NoRoom}
 use Rattle.tested.specs.Passes.{Held, slot_at, pair_in, Going, ToldGone, Goes}
 use Rattle.tested.specs.Whole.{Answered, stuck, decided, Odds, TestsFrom}
 
@@ -76,18 +76,18 @@ module _ {width : ℕ} {w : World} {u roots : List Id} {cap from : ℕ} {m : Hel
       below : (i : ℕ) → i < k → i < length l
       below i b = omega (arith, v.seeking.growing.read)
 
-  pub whole-fine : AllLow m.lent.line m.levels m.times from n true → Answered w roots Fine
+  pub whole-fine : AllLow m.lent.line m.levels m.times from n true → Answered w roots (Ok tt)
   unfolding judged
   whole-fine o = decided l reached all-readable (ap (λ (z : Bool). checked_of (judged true true z)) (sym (all-fall o)) ∙ ap (λ (z : Bool). checked_of (judged true z (each (falls_in w) l))) (sym all-agree))
 
-  pub whole-not-falling : AllLow m.lent.line m.levels m.times from n false → Answered w roots (Refused PairNotFalling)
+  pub whole-not-falling : AllLow m.lent.line m.levels m.times from n false → Answered w roots (Err PairNotFalling)
   unfolding judged
   whole-not-falling o = decided l reached all-readable (ap (λ (z : Bool). checked_of (judged true true z)) (sym (not-all o)) ∙ ap (λ (z : Bool). checked_of (judged true z (each (falls_in w) l))) (sym all-agree))
 
 -- ---- what `at_odds` answers
 
-module _ {width : ℕ} {cap from : ℕ} {s : List ℕ} {m m' : Lent} {n : ℕ} {r : Sought} (o : Seeks width false cap from s m m' n r) where
-  pub odds-whole : (n' : ℕ) → r ≡ Found n' → Odds width cap from s m n (Refused GraphAtOdds)
+module _ {width : ℕ} {cap from : ℕ} {s : List ℕ} {m m' : Lent} {n : ℕ} {r : Result ℕ SeekError} (o : Seeks width false cap from s m m' n r) where
+  pub odds-whole : (n' : ℕ) → r ≡ Ok n' → Odds width cap from s m n (Err GraphAtOdds)
   unfolding judged
   odds-whole n' e = record {
     right = λ ok g u roots f.
@@ -97,34 +97,32 @@ module _ {width : ℕ} {cap from : ℕ} {s : List ℕ} {m m' : Lent} {n : ℕ} {
         decided t.list t.reached t.readable (ap (λ (z : Bool). checked_of (judged true z (each (falls_in (world_of width s g)) t.list))) (sym odd));
   }
 
-  pub odds-stuck : r ≡ Stopped → Odds width cap from s m n (Refused UnreadableReach)
-  odds-stuck e = record { right = λ ok g u roots f. stuck (subst (ToldSought width (world_of width s g) u roots false cap from m m') e (o.right ok g u roots f.list f.seeking)) refl }
-
-  pub odds-roomy : {c : Checked} → r ≡ Short → Odds width cap from s m n c
-  odds-roomy e = record { right = λ ok g u roots f. absurd (subst (ToldSought width (world_of width s g) u roots false cap from m m') e (o.right ok g u roots f.list f.seeking)) }
+  pub odds-short : (x : SeekError) → r ≡ Err x → Odds width cap from s m n (Err (refusal_of x))
+  odds-short Stopped e = record { right = λ ok g u roots f. stuck (subst (ToldSought width (world_of width s g) u roots false cap from m m') e (o.right ok g u roots f.list f.seeking)) refl }
+  odds-short Short e = record { right = λ ok g u roots f. absurd (subst (ToldSought width (world_of width s g) u roots false cap from m m') e (o.right ok g u roots f.list f.seeking)) }
 
 -- ---- what `test_from` answers
 
-module _ {width : ℕ} {ca : Cache} {g s : List ℕ} {cap from : ℕ} {m m' : Held} {n : ℕ} {r : Gone} (o : Goes width ca g s cap from m m' n r) where
-  pub from-fine : (n' : ℕ) {b : Bool} → r ≡ Whole n' → AllLow m'.lent.line m'.levels m'.times from n' b → b ≡ true → TestsFrom width ca g s cap from m n Fine
+module _ {width : ℕ} {ca : Option Layout} {g s : List ℕ} {cap from : ℕ} {m m' : Held} {n : ℕ} {r : Result ℕ StepError} (o : Goes width ca g s cap from m m' n r) where
+  pub from-fine : (n' : ℕ) {b : Bool} → r ≡ Ok n' → AllLow m'.lent.line m'.levels m'.times from n' b → b ≡ true → TestsFrom width ca g s cap from m n (Ok tt)
   from-fine n' e a q = record {
     right = λ f u roots z.
         let t = subst (ToldGone width (world_of width s g) u roots cap from m') e (o.right f u roots z) in
         whole-fine t.2.going t.1 (subst (AllLow m'.lent.line m'.levels m'.times from n') q a);
   }
 
-  pub from-not-falling : (n' : ℕ) {b : Bool} → r ≡ Whole n' → AllLow m'.lent.line m'.levels m'.times from n' b → b ≡ false → TestsFrom width ca g s cap from m n (Refused PairNotFalling)
+  pub from-not-falling : (n' : ℕ) {b : Bool} → r ≡ Ok n' → AllLow m'.lent.line m'.levels m'.times from n' b → b ≡ false → TestsFrom width ca g s cap from m n (Err PairNotFalling)
   from-not-falling n' e a q = record {
     right = λ f u roots z.
         let t = subst (ToldGone width (world_of width s g) u roots cap from m') e (o.right f u roots z) in
         whole-not-falling t.2.going t.1 (subst (AllLow m'.lent.line m'.levels m'.times from n') q a);
   }
 
-  pub from-stuck : r ≡ Unreadable → TestsFrom width ca g s cap from m n (Refused UnreadableReach)
+  pub from-stuck : r ≡ Err Unreadable → TestsFrom width ca g s cap from m n (Err UnreadableReach)
   from-stuck e = record { right = λ f u roots z. stuck (subst (ToldGone width (world_of width s g) u roots cap from m') e (o.right f u roots z)) refl }
 
-  pub from-odd : (n' : ℕ) {c : Checked} → r ≡ AtOdds n' → Odds width cap from s m'.lent n' c → TestsFrom width ca g s cap from m n c
+  pub from-odd : (n' : ℕ) {c : Result (Unit {0}) Refusal} → r ≡ Err (AtOdds n') → Odds width cap from s m'.lent n' c → TestsFrom width ca g s cap from m n c
   from-odd n' e d = record { right = λ f u roots z. d.right f.store g u roots (subst (ToldGone width (world_of width s g) u roots cap from m') e (o.right f u roots z)) }
 
-  pub from-roomy : {c : Checked} → r ≡ NoRoom → TestsFrom width ca g s cap from m n c
+  pub from-roomy : {c : Result (Unit {0}) Refusal} → r ≡ Err NoRoom → TestsFrom width ca g s cap from m n c
   from-roomy e = record { right = λ f u roots z. absurd (subst (ToldGone width (world_of width s g) u roots cap from m') e (o.right f u roots z)) }

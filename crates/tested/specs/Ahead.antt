@@ -1,13 +1,11 @@
 -- What a tested opening reads ahead of the commit in hand: words that decide nothing (document 02, card 1, "Speed"). Assumes nothing.
-use Rattle.std.specs.Prelude.{ℕ, ◌+◌, ◌*◌, cond, List, get_or, ltb, eqb}
+use Rattle.std.specs.Prelude.{ℕ, ◌+◌, ◌*◌, cond, List, get_or, ltb, eqb, None, Option, Some}
 use Rattle.std.specs.Int.Bits.{bit_xor}
 use Rattle.hash.specs.Bytes.{Id, u32_at}
 use Rattle.hashtable.specs.Table.{id_of, home_of}
 use Rattle.odb.specs.Lookup.{entry_id, entry_body}
 use Rattle.commitgraph.specs.Graph.{id_in, row_in, parent_in}
 use Rattle.commitgraph.specs.declared.Layout.{Layout}
-use Rattle.commit.specs.declared.Cache.{Cache}
-use Rattle.commit.specs.declared.Cache.TheVariants.{Graph, NoGraph}
 
 -- the hint of the slot at place k of the line, where it has n slots; past them another number
 abbrev pub near_at : List ℕ → ℕ → ℕ → ℕ → ℕ → ℕ
@@ -47,10 +45,10 @@ words_at width names marks line cap from n k g l s parent one =
     (u32_at (id_in width g l (parent_in width g l one 0)) 0)
 
 -- from the hint of the commit in hand; without a file nothing
-abbrev pub words_ahead : ℕ → Cache → List ℕ → List ℕ → List ℕ → ℕ → ℕ → ℕ → ℕ → List ℕ → List ℕ → ℕ → ℕ
-words_ahead width (Graph l) names marks line cap from n k g s near =
+abbrev pub words_ahead : ℕ → Option Layout → List ℕ → List ℕ → List ℕ → ℕ → ℕ → ℕ → ℕ → List ℕ → List ℕ → ℕ → ℕ
+words_ahead width (Some l) names marks line cap from n k g s near =
     words_at width names marks line cap from n k g l s (parent_in width g l near 0) (near_at line from n (k + 1) (parent_in width g l near 0))
-words_ahead width NoGraph names marks line cap from n k g s near = 0
+words_ahead width None names marks line cap from n k g s near = 0
 
 -- a position beside the words: any number is a hint, so where the words come to 1 it is 0
 abbrev pub kept_beside : ℕ → ℕ → ℕ

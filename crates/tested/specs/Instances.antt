@@ -1,6 +1,5 @@
 -- What a tested opening says of small histories, each a theorem by computation (document 02, card 1). Assumes nothing.
-use Rattle.std.specs.Prelude.{◌≡◌, refl, [], ◌∷◌}
-use Rattle.std.proofs.Math.Option.{none, some}
+use Rattle.std.specs.Prelude.{◌≡◌, refl, [], ◌∷◌, None, Some}
 use Rattle.hash.specs.Bytes.{bytes_all}
 use Rattle.idlist.specs.IdList.{id_list_all}
 use Rattle.object.specs.Header.{header_all}
@@ -20,16 +19,16 @@ use Rattle.reach.specs.Tested.{each, is_good, readable_in, same_ids, same_time, 
 
 pub record Instances : Type 0 where
   -- the fork with its whole graph file, a hidden tip, a cutoff
-  pub accepted : tested_refusal all_listed ≡ none
+  pub accepted : tested_refusal all_listed ≡ None
   -- a parent that the store lacks
-  pub unreadable : tested_refusal (input_with lost [] (1 ∷ []) [] (all BreadthFirst)) ≡ some UnreadableReach
+  pub unreadable : tested_refusal (input_with lost [] (1 ∷ []) [] (all BreadthFirst)) ≡ Some UnreadableReach
   -- only a hidden tip reaches it
-  pub hidden-unreadable : tested_refusal (input_with lost [] [] (1 ∷ []) (all BreadthFirst)) ≡ some UnreadableReach
+  pub hidden-unreadable : tested_refusal (input_with lost [] [] (1 ∷ []) (all BreadthFirst)) ≡ Some UnreadableReach
   -- other seconds in the graph file; a corrupt list there
-  pub other-seconds : tested_refusal (input_with fork stale (1 ∷ []) [] (all BreadthFirst)) ≡ some GraphAtOdds
-  pub corrupt-list : tested_refusal (input_with fork cut (1 ∷ []) [] (all BreadthFirst)) ≡ some GraphAtOdds
+  pub other-seconds : tested_refusal (input_with fork stale (1 ∷ []) [] (all BreadthFirst)) ≡ Some GraphAtOdds
+  pub corrupt-list : tested_refusal (input_with fork cut (1 ∷ []) [] (all BreadthFirst)) ≡ Some GraphAtOdds
   -- a parent that is younger than its child
-  pub not-falling : tested_refusal (input_with two_turns [] (1 ∷ []) [] (all BreadthFirst)) ≡ some PairNotFalling
+  pub not-falling : tested_refusal (input_with two_turns [] (1 ∷ []) [] (all BreadthFirst)) ≡ Some PairNotFalling
 
 pub instances : Instances
 unfolding input_with all_listed all fork listing stale cut two_turns lost bytes_all id_list_all header_all store_all graph_all walk_all links row_generation pair_at parents_up_to store_parents noted reached_from reach_list each is_good readable_in same_ids same_time same_seconds row_agrees agrees_in falls_in judged tested_over tested_refusal

@@ -1,12 +1,11 @@
 -- What the pass of a tested opening does along the line (document 02, card 1). Assumes nothing.
-use Rattle.std.specs.Prelude.{ℕ, suc, ◌+◌, ◌*◌, ◌≤◌, ◌<◌, ◌≡◌, ◌⊎◌, Bool, true, false, List, [], length, get_or, ℤ}
+use Rattle.std.specs.Prelude.{ℕ, suc, ◌+◌, ◌*◌, ◌≤◌, ◌<◌, ◌≡◌, ◌⊎◌, Bool, true, false, List, [], length, get_or, ℤ, Option, Result, Ok, Err}
+use Rattle.commitgraph.specs.declared.Layout.{Layout}
 use Rattle.hash.specs.Bytes.{Id}
 use Rattle.date.specs.declared.Stamp.{Stamp}
 use Rattle.object.specs.Header.{Header, header}
-use Rattle.object.specs.Read.{reading_of}
-use Rattle.object.specs.declared.Reading.TheVariants.{Readable as AsReadable}
+use Rattle.object.specs.Read.{reading_of, readable_as}
 use Rattle.hashtable.specs.Table.{id_of}
-use Rattle.commit.specs.declared.Cache.{Cache}
 use Rattle.walk.specs.Lookup.{World, world_of, Pair, lt_pair}
 use Rattle.walk.specs.Reach.{Mem, links}
 use Rattle.walk.specs.Demand.{Readable, pair_at}
@@ -17,10 +16,8 @@ use Rattle.reach.specs.Seek.{Seeking}
 use Rattle.reach.specs.Tested.{agrees_in}
 use Rattle.judging.specs.Judge.{Files}
 use Rattle.falling.specs.Cells.{most_child, slot_pair, low_at}
-use Rattle.tested.specs.declared.step.Step.{Step}
-use Rattle.tested.specs.declared.step.Step.TheVariants.{Count, Unreadable, AtOdds, NoRoom}
-use Rattle.tested.specs.declared.along.Gone.{Gone}
-use Rattle.tested.specs.declared.along.Gone.TheVariants.{Whole, Unreadable as NotReadable, AtOdds as IsAtOdds, NoRoom as TooSmall}
+use Rattle.tested.specs.declared.step.StepError.{StepError}
+use Rattle.tested.specs.declared.step.StepError.TheVariants.{Unreadable, AtOdds, NoRoom}
 
 -- the lent buffers: those that the search works in, and the pairs of the slots
 pub record Held : Type 0 where
@@ -79,11 +76,11 @@ pub record Off (width : ℕ) (w : World) (u roots : List Id) (cap from : ℕ) (m
 
 -- ---- one commit
 
-abbrev pub ToldStep : ℕ → World → List Id → List Id → ℕ → ℕ → Held → ℕ → ℕ → Step → Type 0
-ToldStep width w u roots cap from m' n k (Count n') = GoesOn width w u roots cap from m' n' (suc k)
-ToldStep width w u roots cap from m' n k Unreadable = Stuck w roots
-ToldStep width w u roots cap from m' n k AtOdds = Off width w u roots cap from m'.lent n
-ToldStep width w u roots cap from m' n k NoRoom = ⊥
+abbrev pub ToldStep : ℕ → World → List Id → List Id → ℕ → ℕ → Held → ℕ → Result ℕ StepError → Type 0
+ToldStep width w u roots cap from m' k (Ok n') = GoesOn width w u roots cap from m' n' (suc k)
+ToldStep width w u roots cap from m' k (Err Unreadable) = Stuck w roots
+ToldStep width w u roots cap from m' k (Err (AtOdds n')) = Off width w u roots cap from m'.lent n'
+ToldStep width w u roots cap from m' k (Err NoRoom) = ⊥
 
 -- the commit at place k in hand: its slot, its header with c parents, its pair q
 pub record InHand (w : World) (from : ℕ) (m : Held) (l : List Id) (k slot : ℕ) (q : Pair) (h : Header) (c : ℕ) : Type 0 where
@@ -96,30 +93,30 @@ pub record InHand (w : World) (from : ℕ) (m : Held) (l : List Id) (k slot : �
   pub pair : q ≡ pair_at w (get_or l k [])
 
 -- what `take` does
-pub record Takes (width : ℕ) (cap from : ℕ) (m m' : Held) (n slot : ℕ) (q : Pair) (h : Header) (c : ℕ) (r : Step) : Type 0 where
-  pub right : (w : World) (u roots l : List Id) (k : ℕ) → Going width w u roots cap from m n l k → k < n → InHand w from m l k slot q h c → ToldStep width w u roots cap from m' n k r
+pub record Takes (width : ℕ) (cap from : ℕ) (m m' : Held) (n slot : ℕ) (q : Pair) (h : Header) (c : ℕ) (r : Result ℕ StepError) : Type 0 where
+  pub right : (w : World) (u roots l : List Id) (k : ℕ) → Going width w u roots cap from m n l k → k < n → InHand w from m l k slot q h c → ToldStep width w u roots cap from m' k r
 
 -- what `read_at` does
-pub record Steps (width : ℕ) (c : Cache) (g s : List ℕ) (cap from : ℕ) (m m' : Held) (n k : ℕ) (r : Step) : Type 0 where
-  pub right : Files width c g s → (u roots l : List Id) → Going width (world_of width s g) u roots cap from m n l k → k < n → ToldStep width (world_of width s g) u roots cap from m' n k r
+pub record Steps (width : ℕ) (c : Option Layout) (g s : List ℕ) (cap from : ℕ) (m m' : Held) (n k : ℕ) (r : Result ℕ StepError) : Type 0 where
+  pub right : Files width c g s → (u roots l : List Id) → Going width (world_of width s g) u roots cap from m n l k → k < n → ToldStep width (world_of width s g) u roots cap from m' k r
 
 -- what `read_in` does: the same of each place whose slot this is
-pub record StepsIn (width : ℕ) (c : Cache) (g s : List ℕ) (cap from : ℕ) (m m' : Held) (n slot : ℕ) (r : Step) : Type 0 where
+pub record StepsIn (width : ℕ) (c : Option Layout) (g s : List ℕ) (cap from : ℕ) (m m' : Held) (n slot : ℕ) (r : Result ℕ StepError) : Type 0 where
   pub right : (k : ℕ) → slot ≡ slot_at from m k → Steps width c g s cap from m m' n k r
 
 -- what `judge_and_take` does: the same, where b is the body of the slot's commit, and readable with p parents and these seconds
-pub record StepsRead (width : ℕ) (c : Cache) (g s : List ℕ) (cap from : ℕ) (m m' : Held) (n slot : ℕ) (b : List ℕ) (p : ℕ) (seconds : ℤ) (r : Step) : Type 0 where
-  pub right : GivesBody width s (id_of width m.lent.names slot) b → (t : Stamp) → reading_of (header width b) ≡ AsReadable p t → seconds ≡ t.seconds.0 → StepsIn width c g s cap from m m' n slot r
+pub record StepsRead (width : ℕ) (c : Option Layout) (g s : List ℕ) (cap from : ℕ) (m m' : Held) (n slot : ℕ) (b : List ℕ) (p : ℕ) (seconds : ℤ) (r : Result ℕ StepError) : Type 0 where
+  pub right : GivesBody width s (id_of width m.lent.names slot) b → (t : Stamp) → reading_of (header width b) ≡ readable_as p t → seconds ≡ t.seconds.0 → StepsIn width c g s cap from m m' n slot r
 
 -- ---- the line
 
 -- all is reached and read; and where pairs fall is told by the cells
-abbrev pub ToldGone : ℕ → World → List Id → List Id → ℕ → ℕ → Held → Gone → Type 0
-ToldGone width w u roots cap from m' (Whole n) = (k : ℕ) × (n ≤ k) × GoesOn width w u roots cap from m' n k
-ToldGone width w u roots cap from m' NotReadable = Stuck w roots
-ToldGone width w u roots cap from m' (IsAtOdds n) = Off width w u roots cap from m'.lent n
-ToldGone width w u roots cap from m' TooSmall = ⊥
+abbrev pub ToldGone : ℕ → World → List Id → List Id → ℕ → ℕ → Held → Result ℕ StepError → Type 0
+ToldGone width w u roots cap from m' (Ok n) = (k : ℕ) × (n ≤ k) × GoesOn width w u roots cap from m' n k
+ToldGone width w u roots cap from m' (Err Unreadable) = Stuck w roots
+ToldGone width w u roots cap from m' (Err (AtOdds n)) = Off width w u roots cap from m'.lent n
+ToldGone width w u roots cap from m' (Err NoRoom) = ⊥
 
 -- what `go_along` does
-pub record Goes (width : ℕ) (c : Cache) (g s : List ℕ) (cap from : ℕ) (m m' : Held) (n : ℕ) (r : Gone) : Type 0 where
+pub record Goes (width : ℕ) (c : Option Layout) (g s : List ℕ) (cap from : ℕ) (m m' : Held) (n : ℕ) (r : Result ℕ StepError) : Type 0 where
   pub right : Files width c g s → (u roots : List Id) → GoesOn width (world_of width s g) u roots cap from m n 0 → ToldGone width (world_of width s g) u roots cap from m' r

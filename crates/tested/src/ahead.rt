@@ -7,7 +7,6 @@ ghost use Rattle.odb.specs.Lookup.{entry_body};
 ghost use Rattle.tested.specs.Ahead.{near_at, slot_words, place_words, start_of, home_words, body_words, row_words, words_at, words_ahead, kept_beside};
 ghost use Rattle.hash.specs.Bytes.{width_of};
 
-use commit::Cache;
 use commitgraph::{Layout, parents, rows};
 use hash::Kind;
 use hashtable::table;
@@ -140,7 +139,7 @@ pub fn words_ahead(
     from: usize,
     n: usize,
     k: usize,
-    cache: Cache,
+    cache: Option<Layout>,
     graph: &[u8],
     store: &[u8],
     near: usize,
@@ -148,14 +147,14 @@ pub fn words_ahead(
     ensures { result ≡ words_ahead (width_of kind) cache names.now marks.now line.now cap from n k graph.now store.now near }
 {
     match cache {
-        Cache::Graph(l) => {
+        Some(l) => {
             let parent = parents::parent(kind, graph, l, near, 0);
             let one = near_after(line, from, n, k, 1, parent);
             words_at(
                 kind, names, marks, line, cap, from, n, k, graph, l, store, parent, one,
             )
         }
-        Cache::NoGraph => 0,
+        None => 0,
     }
 }
 

@@ -1,26 +1,14 @@
 // The pass along the line, until its end is read, or a commit is not readable, or the commit-graph file is at odds with one.
-ghost use Rattle.std.specs.Prelude.{◌≡◌, false, ◌++◌};
+ghost use Rattle.std.specs.Prelude.{◌≡◌, false, ◌++◌, Some};
 ghost use Rattle.walk.specs.Opening.{list_ids};
 ghost use Rattle.reach.specs.Memory.{lent, NotesAll};
-ghost use Rattle.reach.specs.declared.notes.Grown.TheVariants.{Count as CountOf};
 ghost use Rattle.tested.specs.Passes.{held, Goes};
 ghost use Rattle.hash.specs.Bytes.{width_of};
 
 use crate::step;
-use crate::step::Step;
-use commit::Cache;
+use crate::step::StepError;
+use commitgraph::Layout;
 use hash::Kind;
-use reach::Grown;
-
-// How the pass ends: the line has the slots of all that is reached, so many; a commit is not readable; the file is at odds with one, and the line
-// has so many slots; or the lent memory is too small.
-#[derive(Clone, Copy)]
-pub enum Gone {
-    Whole(usize),
-    Unreadable,
-    AtOdds(usize),
-    NoRoom,
-}
 
 // Notes the ids of two lists, one after the other, in a line that has none.
 pub fn begin(
@@ -32,26 +20,16 @@ pub fn begin(
     from: usize,
     tips: &[u8],
     hidden: &[u8],
-) -> Grown
-    ensures { NotesAll (width_of kind) false cap from (lent names.old marks.old line.old) (lent names.new marks.new line.new) (CountOf 0) (list_ids (width_of kind) tips.now ++ list_ids (width_of kind) hidden.now) result }
+) -> Option<usize>
+    ensures { NotesAll (width_of kind) false cap from (lent names.old marks.old line.old) (lent names.new marks.new line.new) (Some 0) (list_ids (width_of kind) tips.now ++ list_ids (width_of kind) hidden.now) result }
 {
-    let from_tips = reach::note_list(
-        kind,
-        names,
-        marks,
-        line,
-        cap,
-        false,
-        from,
-        Grown::Count(0),
-        tips,
-    );
+    let from_tips = reach::note_list(kind, names, marks, line, cap, false, from, Some(0), tips);
     reach::note_list(
         kind, names, marks, line, cap, false, from, from_tips, hidden,
     )
 }
 
-// The pass, over the n slots that the line has to begin with.
+// The pass, over the n slots that the line has to begin with: how many it has with all that is reached.
 pub fn go_along(
     kind: Kind,
     names: &mut [u8],
@@ -61,36 +39,24 @@ pub fn go_along(
     line: &mut [u32],
     cap: usize,
     from: usize,
-    cache: Cache,
+    cache: Option<Layout>,
     graph: &[u8],
     store: &[u8],
     n: usize,
-) -> Gone
+) -> Result<usize, StepError>
     ensures { Goes (width_of kind) cache graph.now store.now cap from (held names.old marks.old levels.old times.old line.old) (held names.new marks.new levels.new times.new line.new) n result }
 {
     let mut count = n;
     let mut k = 0;
+    // A `while`: the line grows as it is read, so the bound is no range's.
     while k < count {
         if cap <= k {
-            return Gone::NoRoom;
+            return Err(StepError::NoRoom);
         }
-        match step::read_at(
+        count = step::read_at(
             kind, names, marks, levels, times, line, cap, from, cache, graph, store, count, k,
-        ) {
-            Step::Count(m) => {
-                count = m;
-            }
-            Step::Unreadable => {
-                return Gone::Unreadable;
-            }
-            Step::AtOdds => {
-                return Gone::AtOdds(count);
-            }
-            Step::NoRoom => {
-                return Gone::NoRoom;
-            }
-        }
+        )?;
         k += 1;
     }
-    Gone::Whole(count)
+    Ok(count)
 }

@@ -9,22 +9,20 @@ ghost use Rattle.tested.specs.Passes.{held, Takes, StepsRead, StepsIn, Steps};
 ghost use Rattle.hash.specs.Bytes.{width_of};
 
 use crate::ahead;
-use commit::Cache;
 use commitgraph::Layout;
 use date::Seconds;
 use hash::Kind;
 use hashtable::table;
 use judging::Judged;
-use object::Reading;
-use reach::Grown;
+use object::ReadableHeader;
 use walk::GenThenTime;
 
-// How many slots the line has then; the commit is not readable; the commit-graph file is at odds with it; or the lent memory is too small.
+// Why the pass stops short: a commit is not readable; the commit-graph file is at odds with one, where the line has so many slots; or the lent
+// memory is too small.
 #[derive(Clone, Copy)]
-pub enum Step {
-    Count(usize),
+pub enum StepError {
     Unreadable,
-    AtOdds,
+    AtOdds(usize),
     NoRoom,
 }
 
@@ -41,14 +39,14 @@ fn judge_in(
     kind: Kind,
     names: &[u8],
     slot: u32,
-    cache: Cache,
+    cache: Option<Layout>,
     graph: &[u8],
     store: &[u8],
     near: usize,
     body: &[u8],
     n: usize,
     seconds: Seconds,
-) -> Judged
+) -> Option<Judged>
     ensures { Judges (width_of kind) cache graph.now store.now (id_of (width_of kind) names.now slot) body.now n seconds.0 result }
 {
     let id = table::id_of(kind, names, slot as usize);
@@ -74,21 +72,19 @@ fn take(
     graph: &[u8],
     l: Layout,
     position: usize,
-) -> Step
+) -> Result<usize, StepError>
     ensures { Takes (width_of kind) cap from (held names.old marks.old levels.old times.old line.old) (held names.new marks.new levels.new times.new line.new) n slot (pair_of pair) (header (width_of kind) body.now) parents result }
 {
     let grown = reach::note_parents(kind, names, marks, line, cap, false, from, n, body, parents);
-    match grown {
-        Grown::Count(m) => {
-            falling::set_pair(levels, times, slot, pair);
-            falling::lower_parents(
-                kind, names, marks, levels, times, line, cap, from, n, m, slot, body, parents,
-                graph, l, position,
-            );
-            Step::Count(m)
-        }
-        Grown::NoRoom => Step::NoRoom,
-    }
+    let Some(m) = grown else {
+        return Err(StepError::NoRoom);
+    };
+    falling::set_pair(levels, times, slot, pair);
+    falling::lower_parents(
+        kind, names, marks, levels, times, line, cap, from, n, m, slot, body, parents, graph, l,
+        position,
+    );
+    Ok(m)
 }
 
 // The commit in a slot, whose body has so many parents and these seconds: its row beside it says whether it is taken.
@@ -101,7 +97,7 @@ fn judge_and_take(
     line: &mut [u32],
     cap: usize,
     from: usize,
-    cache: Cache,
+    cache: Option<Layout>,
     graph: &[u8],
     store: &[u8],
     n: usize,
@@ -111,14 +107,14 @@ fn judge_and_take(
     body: &[u8],
     parents: usize,
     seconds: Seconds,
-) -> Step
+) -> Result<usize, StepError>
     ensures { StepsRead (width_of kind) cache graph.now store.now cap from (held names.old marks.old levels.old times.old line.old) (held names.new marks.new levels.new times.new line.new) n slot body.now parents seconds.0 result }
 {
     let judged = judge_in(
         kind, names, slot, cache, graph, store, near, body, parents, seconds,
     );
     match judged {
-        Judged::Pair { position, pair } => take(
+        Some(found) => take(
             kind,
             names,
             marks,
@@ -129,14 +125,14 @@ fn judge_and_take(
             from,
             n,
             slot,
-            pair,
+            found.pair,
             body,
             parents,
             graph,
             reading::layout_of(cache),
-            ahead::kept_beside(words, position),
+            ahead::kept_beside(words, found.position),
         ),
-        Judged::AtOdds => Step::AtOdds,
+        None => Err(StepError::AtOdds(n)),
     }
 }
 
@@ -150,19 +146,19 @@ fn read_in(
     line: &mut [u32],
     cap: usize,
     from: usize,
-    cache: Cache,
+    cache: Option<Layout>,
     graph: &[u8],
     store: &[u8],
     n: usize,
     slot: u32,
     near: usize,
     words: u32,
-) -> Step
+) -> Result<usize, StepError>
     ensures { StepsIn (width_of kind) cache graph.now store.now cap from (held names.old marks.old levels.old times.old line.old) (held names.new marks.new levels.new times.new line.new) n slot result }
 {
     let body = body_in(kind, names, slot, store, near);
     match object::readable(kind, body) {
-        Reading::Readable { parents, stamp } => judge_and_take(
+        Ok(ReadableHeader { parents, stamp }) => judge_and_take(
             kind,
             names,
             marks,
@@ -182,12 +178,11 @@ fn read_in(
             parents,
             stamp.seconds,
         ),
-        Reading::Bad => Step::Unreadable,
-        Reading::Crowded => Step::Unreadable,
+        Err(_) => Err(StepError::Unreadable),
     }
 }
 
-// Reads the commit at place k of the n.
+// Reads the commit at place k of the n: how many slots the line has then.
 pub fn read_at(
     kind: Kind,
     names: &mut [u8],
@@ -197,12 +192,12 @@ pub fn read_at(
     line: &mut [u32],
     cap: usize,
     from: usize,
-    cache: Cache,
+    cache: Option<Layout>,
     graph: &[u8],
     store: &[u8],
     n: usize,
     k: usize,
-) -> Step
+) -> Result<usize, StepError>
     ensures { Steps (width_of kind) cache graph.now store.now cap from (held names.old marks.old levels.old times.old line.old) (held names.new marks.new levels.new times.new line.new) n k result }
 {
     let slot = falling::slot_after(line, from, k);

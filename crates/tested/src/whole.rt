@@ -7,12 +7,10 @@ ghost use Rattle.tested.specs.Whole.{Odds, TestsFrom, Tests};
 ghost use Rattle.hash.specs.Bytes.{width_of};
 
 use crate::along;
-use crate::along::Gone;
-use commit::Cache;
+use crate::step::StepError;
+use commitgraph::Layout;
 use hash::Kind;
 use hashtable::table;
-use opening::Checked;
-use reach::{Grown, Sought};
 use walk::{Refusal, Settings};
 
 // Where the line of slots begins: behind a cell and a hint for each slot.
@@ -35,14 +33,11 @@ fn at_odds(
     from: usize,
     store: &[u8],
     n: usize,
-) -> Checked
+) -> Result<(), Refusal>
     ensures { Odds (width_of kind) cap from store.now (lent names.old marks.old line.old) n result }
 {
-    match reach::search(kind, names, marks, line, cap, false, from, store, n) {
-        Sought::Whole(_) => Checked::Refused(Refusal::GraphAtOdds),
-        Sought::Unreadable => Checked::Refused(Refusal::UnreadableReach),
-        Sought::NoRoom => Checked::Refused(Refusal::BufferTooSmall),
-    }
+    reach::search(kind, names, marks, line, cap, false, from, store, n)?;
+    Err(Refusal::GraphAtOdds)
 }
 
 // The tests from the n slots that the line has to begin with.
@@ -55,25 +50,25 @@ fn test_from(
     line: &mut [u32],
     cap: usize,
     from: usize,
-    cache: Cache,
+    cache: Option<Layout>,
     graph: &[u8],
     store: &[u8],
     n: usize,
-) -> Checked
+) -> Result<(), Refusal>
     ensures { TestsFrom (width_of kind) cache graph.now store.now cap from (held names.old marks.old levels.old times.old line.old) n result }
 {
     match along::go_along(
         kind, names, marks, levels, times, line, cap, from, cache, graph, store, n,
     ) {
-        Gone::Whole(m) => {
+        Ok(m) => {
             if falling::all_low(levels, times, line, from, m) {
-                return Checked::Fine;
+                return Ok(());
             }
-            Checked::Refused(Refusal::PairNotFalling)
+            Err(Refusal::PairNotFalling)
         }
-        Gone::Unreadable => Checked::Refused(Refusal::UnreadableReach),
-        Gone::AtOdds(m) => at_odds(kind, names, marks, line, cap, from, store, m),
-        Gone::NoRoom => Checked::Refused(Refusal::BufferTooSmall),
+        Err(StepError::Unreadable) => Err(Refusal::UnreadableReach),
+        Err(StepError::AtOdds(m)) => at_odds(kind, names, marks, line, cap, from, store, m),
+        Err(StepError::NoRoom) => Err(Refusal::BufferTooSmall),
     }
 }
 
@@ -89,7 +84,7 @@ pub fn test(
     levels: &mut [u32],
     times: &mut [i64],
     line: &mut [u32],
-) -> Checked
+) -> Result<(), Refusal>
     ensures { (excluded : List ℕ) (s : Settings) (parents : ℕ) → s.kind ≡ kind → Tests (input_of store.now graph.now tips.now hidden.now excluded s) (lengths_of (length names.old) (length marks.old) (length levels.old) (length times.old) (length line.old) parents) result }
 {
     let cap = opening::capacity(kind, store, graph, tips, hidden);
@@ -97,10 +92,10 @@ pub fn test(
     let cache = reading::cache_of(graph, commitgraph::parse(kind, graph), true);
     table::clear(marks, cap);
     falling::clear_cells(line, from);
-    match along::begin(kind, names, marks, line, cap, from, tips, hidden) {
-        Grown::Count(n) => test_from(
-            kind, names, marks, levels, times, line, cap, from, cache, graph, store, n,
-        ),
-        Grown::NoRoom => Checked::Refused(Refusal::BufferTooSmall),
-    }
+    let Some(n) = along::begin(kind, names, marks, line, cap, from, tips, hidden) else {
+        return Err(Refusal::BufferTooSmall);
+    };
+    test_from(
+        kind, names, marks, levels, times, line, cap, from, cache, graph, store, n,
+    )
 }

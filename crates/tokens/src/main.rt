@@ -5,8 +5,8 @@
 
 ghost use Rattle.std.specs.Prelude.{◌≤◌, length};
 
-use commititer::{Place, State, Token, TokenRead};
-use date::{Seconds, Stamp, Zone};
+use commititer::{Place, State, Token};
+use date::{Seconds, Stamp};
 use hash::Kind;
 use std::io;
 
@@ -14,22 +14,8 @@ fn text(rt: &impl Print, s: &[u8]) -> io::Result<()> {
     host::write_all(rt, s)
 }
 
-fn byte(rt: &impl Print, b: u8) -> io::Result<()> {
-    host::print_hex(rt, b as u64, 2)
-}
-
-fn hex(rt: &impl Print, s: &[u8]) -> io::Result<()> {
-    for i in 0..s.len() {
-        byte(rt, s[i])?;
-    }
-    Ok(())
-}
-
 fn seconds(rt: &impl Print, s: Seconds) -> io::Result<()> {
-    if date::is_negative(s) {
-        text(rt, b"-")?;
-    }
-    host::print_decimal(rt, date::magnitude(s))
+    print!(rt; "{}", s.0)
 }
 
 // The committer's seconds, and its zone in signed minutes.
@@ -38,22 +24,20 @@ fn stamp(rt: &impl Print, s: Stamp) -> io::Result<()> {
     seconds(rt, time)?;
     let zone = s.zone;
     match zone {
-        Zone::Minutes(m) => {
+        Some(m) => {
             text(rt, b" zone ")?;
             seconds(rt, Seconds(m))
         }
-        Zone::NoZone => text(rt, b" zone none"),
+        None => text(rt, b" zone none"),
     }
 }
 
-fn print(rt: &impl Print, kind: Kind, read: TokenRead) -> io::Result<()> {
-    let token = read.token;
-    let id = read.id;
+fn print(rt: &impl Print, kind: Kind, token: Token) -> io::Result<()> {
     match token {
         Token::Tree => text(rt, b"tree")?,
-        Token::Parent => {
+        Token::Parent(id) => {
             text(rt, b"parent ")?;
-            hex(rt, hash::part(&id.bytes, 0, hash::width(kind)))?;
+            host::print_bytes(rt, hash::part(&id.bytes, 0, hash::width(kind)))?;
         }
         Token::Author => text(rt, b"author")?,
         Token::Committer(s) => {
@@ -66,24 +50,17 @@ fn print(rt: &impl Print, kind: Kind, read: TokenRead) -> io::Result<()> {
     text(rt, b"\n")
 }
 
-fn is_end(read: TokenRead) -> bool {
-    let token = read.token;
-    match token {
-        Token::End => true,
-        _ => false,
-    }
-}
-
 // Every token from the start on, the end included.
 fn tokens(rt: &impl Print, kind: Kind, body: &[u8]) -> io::Result<()> {
     let mut place = Place {
         at: 0,
         state: State::Tree,
     };
+    // Token by token, until the reader says that it is done.
     while !commititer::is_done(place) {
-        let read = commititer::read_token(kind, body, place);
-        print(rt, kind, read)?;
-        if is_end(read) {
+        let token = commititer::read_token(kind, body, place);
+        print(rt, kind, token)?;
+        if matches!(token, Token::End) {
             return Ok(());
         }
         place = commititer::place_after(kind, body, place);
@@ -110,6 +87,7 @@ fn zero_from(s: &[u8], at: usize) -> usize
 
 fn commits(rt: &impl Print, s: &[u8]) -> io::Result<()> {
     let mut at = 0;
+    // Each case says where the next one begins.
     while at < s.len() {
         let kind = kind_of(s[at]);
         let end = zero_from(s, at + 1);

@@ -7,30 +7,20 @@ ghost use Rattle.std.specs.Prelude.{◌≡◌};
 ghost use Rattle.object.specs.Ids.{id_in};
 ghost use Rattle.walk.specs.Opening.{list_ids};
 ghost use Rattle.opening.specs.Checks.{checked_of};
-ghost use Rattle.trace.specs.Call.{saying, early_refusal, TraceSays};
+ghost use Rattle.trace.specs.Call.{early_refusal, TraceSays};
 ghost use Rattle.trace.specs.Steps.{ForcedBy, Plays, Answers};
 ghost use Rattle.hash.specs.Bytes.{width_of};
 
 use hash::Kind;
 use object::ObjectId;
-use opening::Checked;
 use walk::Refusal;
 
-// What is said of a start: the bed can evade; the start is on the list; the cone forces it, by the parent of this number, counted from 0; or why nothing
-// is said.
+// What is said of a start: the bed can evade; the start is on the list; or the cone forces it, by the parent of this number, counted from 0.
 #[derive(Clone, Copy)]
 pub enum Prospect {
     NotForced,
     AtStart,
-    Forced(usize),
-    Refused(Refusal),
-}
-
-// The same, with the parent's id; zeros where there is none.
-#[derive(Clone, Copy)]
-pub struct Traced {
-    pub outcome: Prospect,
-    pub parent: ObjectId,
+    Forced { number: usize, parent: ObjectId },
 }
 
 // The most moves of a trace.
@@ -43,62 +33,56 @@ const MOST_FILE: usize = 16777216;
 const MOST_IDS: usize = 1024;
 
 // Refusals 25 and 2 to 4, in order.
-fn check(kind: Kind, store: &[u8], list: &[u8], d: usize) -> Checked
+fn check(kind: Kind, store: &[u8], list: &[u8], d: usize) -> Result<(), Refusal>
     ensures { result ≡ checked_of (early_refusal (width_of kind) store.now list.now d) }
 {
     if MOST_MOVES < d {
-        return Checked::Refused(Refusal::TooManyMoves);
+        return Err(Refusal::TooManyMoves);
     }
     if MOST_FILE < store.len() {
-        return Checked::Refused(Refusal::InputTooLarge);
+        return Err(Refusal::InputTooLarge);
     }
     if MOST_IDS * hash::width(kind) < list.len() {
-        return Checked::Refused(Refusal::InputTooLarge);
+        return Err(Refusal::InputTooLarge);
     }
     if !hash::whole(kind, list.len()) {
-        return Checked::Refused(Refusal::PartialId);
+        return Err(Refusal::PartialId);
     }
     if !odb::is_good(kind, store) {
-        return Checked::Refused(Refusal::CorruptStore);
+        return Err(Refusal::CorruptStore);
     }
-    Checked::Fine
-}
-
-// An answer without a parent.
-fn say(outcome: Prospect) -> Traced
-    ensures { result ≡ saying outcome }
-{
-    Traced {
-        outcome,
-        parent: ObjectId { bytes: [0u8; 32] },
-    }
+    Ok(())
 }
 
 // The answer where parent i is the first that forces; where there is no such parent, that none does.
-fn forced_by(kind: Kind, store: &[u8], start: ObjectId, i: usize) -> Traced
+fn forced_by(kind: Kind, store: &[u8], start: ObjectId, i: usize) -> Prospect
     ensures { ForcedBy (width_of kind) store.now (id_in (width_of kind) start.bytes) i result }
 {
     let body = reading::stored_body(kind, store, object::id_slice(kind, &start.bytes));
     if memo::parent_count(kind, body) <= i {
-        return say(Prospect::NotForced);
+        return Prospect::NotForced;
     }
     let id = reading::body_parent(kind, body, i);
     let parent = object::id_of(object::id_slice(kind, &id.bytes));
-    Traced {
-        outcome: Prospect::Forced(i),
-        parent,
-    }
+    Prospect::Forced { number: i, parent }
 }
 
 // The answer of the moves, with a memo that holds nothing false.
-fn play(kind: Kind, store: &[u8], list: &[u8], memo: &mut [u8], d: usize, start: ObjectId) -> Traced
+fn play(
+    kind: Kind,
+    store: &[u8],
+    list: &[u8],
+    memo: &mut [u8],
+    d: usize,
+    start: ObjectId,
+) -> Prospect
     ensures { Plays (width_of kind) store.now (list_ids (width_of kind) list.now) d (id_in (width_of kind) start.bytes) memo.old result }
 {
     if reading::is_among(kind, list, object::id_slice(kind, &start.bytes)) {
-        return say(Prospect::AtStart);
+        return Prospect::AtStart;
     }
     if d == 0 {
-        return say(Prospect::NotForced);
+        return Prospect::NotForced;
     }
     let i = moves::first_forcing(kind, store, list, memo, d - 1, start);
     forced_by(kind, store, start, i)
@@ -112,15 +96,15 @@ fn trace_checked(
     memo: &mut [u8],
     d: usize,
     start: ObjectId,
-) -> Traced
+) -> Result<Prospect, Refusal>
     ensures { Answers (width_of kind) store.now (list_ids (width_of kind) list.now) d (id_in (width_of kind) start.bytes) result }
 {
     memo::clear(memo);
     if !withinreach::all_readable(kind, store, memo, d, start) {
-        return say(Prospect::Refused(Refusal::UnreadableReach));
+        return Err(Refusal::UnreadableReach);
     }
     memo::clear(memo);
-    play(kind, store, list, memo, d, start)
+    Ok(play(kind, store, list, memo, d, start))
 }
 
 // The call: 25 and 2 to 4 are tested first and alter nothing; after that the memo is free.
@@ -131,12 +115,9 @@ pub fn trace(
     list: &[u8],
     d: usize,
     memo: &mut [u8],
-) -> Traced
+) -> Result<Prospect, Refusal>
     ensures { TraceSays (width_of kind) store.now list.now d (id_in (width_of kind) start.bytes) memo.old memo.new result }
 {
-    let checked = check(kind, store, list, d);
-    match checked {
-        Checked::Refused(r) => say(Prospect::Refused(r)),
-        Checked::Fine => trace_checked(kind, store, list, memo, d, start),
-    }
+    check(kind, store, list, d)?;
+    trace_checked(kind, store, list, memo, d, start)
 }

@@ -7,7 +7,7 @@ ghost use Rattle.std.specs.Prelude.{◌≤◌};
 
 use hash::Kind;
 use std::io;
-use trace::{Prospect, Traced};
+use trace::Prospect;
 use walk::Refusal;
 
 fn text(rt: &impl Print, s: &[u8]) -> io::Result<()> {
@@ -16,15 +16,7 @@ fn text(rt: &impl Print, s: &[u8]) -> io::Result<()> {
 
 // An id in hexadecimal digits, two for each byte of its width.
 fn id(rt: &impl Print, kind: Kind, s: &[u8]) -> io::Result<()> {
-    host::print_hex(rt, hash::be64(s, 0), 16)?;
-    host::print_hex(rt, hash::be64(s, 8), 16)?;
-    match kind {
-        Kind::Sha1 => { host::print_hex(rt, hash::be32(s, 16) as u64, 8) }
-        Kind::Sha256 => {
-            host::print_hex(rt, hash::be64(s, 16), 16)?;
-            host::print_hex(rt, hash::be64(s, 24), 16)
-        }
-    }
+    host::print_bytes(rt, hash::part(s, 0, hash::width(kind)))
 }
 
 // A refusal by its number.
@@ -34,18 +26,16 @@ fn refusal(rt: &impl Print, r: Refusal) -> io::Result<()> {
 }
 
 // An answer on a line.
-fn print_traced(rt: &impl Print, kind: Kind, r: Traced) -> io::Result<()> {
-    let o = r.outcome;
-    let p = r.parent;
-    match o {
-        Prospect::NotForced => text(rt, b"not forced")?,
-        Prospect::AtStart => text(rt, b"at the start")?,
-        Prospect::Forced(i) => {
-            host::print_decimal(rt, i as u64)?;
+fn print_traced(rt: &impl Print, kind: Kind, said: Result<Prospect, Refusal>) -> io::Result<()> {
+    match said {
+        Ok(Prospect::NotForced) => text(rt, b"not forced")?,
+        Ok(Prospect::AtStart) => text(rt, b"at the start")?,
+        Ok(Prospect::Forced { number, parent }) => {
+            host::print_decimal(rt, number as u64)?;
             text(rt, b" ")?;
-            id(rt, kind, &p.bytes)?;
+            id(rt, kind, &parent.bytes)?;
         }
-        Prospect::Refused(n) => refusal(rt, n)?,
+        Err(r) => refusal(rt, r)?,
     }
     text(rt, b"\n")
 }

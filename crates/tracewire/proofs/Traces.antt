@@ -11,8 +11,7 @@ use Rattle.hash.specs.declared.Kind.{Kind}
 use Rattle.hash.proofs.Tests.{clash, and_first}
 use Rattle.hash.proofs.Widths.{width-most}
 use Rattle.object.specs.Ids.{id_in, padded}
-use Rattle.trace.specs.declared.Traced.{Traced}
-use Rattle.trace.specs.Call.{TraceSays}
+use Rattle.trace.specs.Call.{Traced, TraceSays}
 use Rattle.wire.proofs.FirstBytes.{first-bytes}
 use Rattle.tracewire.specs.Wire.{no_room_number, room_to_trace, PutsTraced, LibraryTrace}
 

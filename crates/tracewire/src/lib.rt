@@ -5,10 +5,12 @@
 ghost use Rattle.std.specs.Prelude.{◌≡◌};
 ghost use Rattle.hash.specs.Bytes.{width_of};
 ghost use Rattle.wire.specs.Words.{kind_of};
-ghost use Rattle.tracewire.specs.Wire.{prospect_number, prospect_kind, parent_number, room_to_trace, PutsTraced, LibraryTrace};
+ghost use Rattle.tracewire.specs.Wire.{prospect_number, prospect_kind, parent_number, id_said, room_to_trace, PutsTraced, LibraryTrace};
 
 use hash::Kind;
-use trace::{Prospect, Traced};
+use object::ObjectId;
+use trace::Prospect;
+use walk::Refusal;
 
 // The library's result where the start or what an answer is set down in is too short: none of document 01's numbers.
 const NO_ROOM: u32 = 101;
@@ -34,51 +36,59 @@ fn wide(n: u8) -> u32
 }
 
 // The number of what is said: 0, or the refusal's.
-fn number(o: Prospect) -> u32
-    ensures { result ≡ prospect_number o }
+fn number(said: Result<Prospect, Refusal>) -> u32
+    ensures { result ≡ prospect_number said }
 {
-    match o {
-        Prospect::NotForced => 0,
-        Prospect::AtStart => 0,
-        Prospect::Forced(_) => 0,
-        Prospect::Refused(r) => wide(walk::number(r)),
+    match said {
+        Ok(_) => 0,
+        Err(r) => wide(walk::number(r)),
     }
 }
 
 // 0 not forced, 1 at the start, 2 by a parent.
-fn sort_of(o: Prospect) -> u64
-    ensures { result ≡ prospect_kind o }
+fn sort_of(said: Result<Prospect, Refusal>) -> u64
+    ensures { result ≡ prospect_kind said }
 {
-    match o {
-        Prospect::NotForced => 0,
-        Prospect::AtStart => 1,
-        Prospect::Forced(_) => 2,
-        Prospect::Refused(_) => 0,
+    match said {
+        Ok(Prospect::AtStart) => 1,
+        Ok(Prospect::Forced { .. }) => 2,
+        _ => 0,
     }
 }
 
 // The number of the parent that forces, 0 where there is none.
-fn parent_of(o: Prospect) -> u64
-    ensures { result ≡ parent_number o }
+fn parent_of(said: Result<Prospect, Refusal>) -> u64
+    ensures { result ≡ parent_number said }
 {
-    match o {
-        Prospect::NotForced => 0,
-        Prospect::AtStart => 0,
-        Prospect::Forced(i) => i as u64,
-        Prospect::Refused(_) => 0,
+    match said {
+        Ok(Prospect::Forced { number, .. }) => number as u64,
+        _ => 0,
+    }
+}
+
+// The id of the parent that forces; zeros where there is none, as a caller in C reads it.
+fn id_said(said: Result<Prospect, Refusal>) -> ObjectId
+    ensures { result.bytes ≡ id_said said }
+{
+    match said {
+        Ok(Prospect::Forced { parent, .. }) => parent,
+        _ => ObjectId { bytes: [0u8; 32] },
     }
 }
 
 // An answer set down, and its number.
-fn put_traced(kind: Kind, r: Traced, id: &mut [u8], numbers: &mut [u64]) -> u32
-    ensures { PutsTraced (width_of kind) r id.old id.new numbers.old numbers.new result }
+fn put_traced(
+    kind: Kind,
+    said: Result<Prospect, Refusal>,
+    id: &mut [u8],
+    numbers: &mut [u64],
+) -> u32
+    ensures { PutsTraced (width_of kind) said id.old id.new numbers.old numbers.new result }
 {
-    let o = r.outcome;
-    let w = [sort_of(o), parent_of(o)];
-    wire::put(numbers, &w);
-    let x = r.parent;
+    wire::put(numbers, &[sort_of(said), parent_of(said)]);
+    let x = id_said(said);
     hash::set_down(id, 0, object::id_slice(kind, &x.bytes));
-    number(o)
+    number(said)
 }
 
 // The moves as a number of this machine.
@@ -105,6 +115,6 @@ pub fn trace(
     if !can_trace(kind, start, id, numbers) {
         return NO_ROOM;
     }
-    let r = trace::trace(kind, store, object::id_of(start), list, moves_of(d), memo);
-    put_traced(kind, r, id, numbers)
+    let said = trace::trace(kind, store, object::id_of(start), list, moves_of(d), memo);
+    put_traced(kind, said, id, numbers)
 }

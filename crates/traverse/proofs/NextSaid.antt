@@ -1,5 +1,6 @@
 -- What a next call comes to: a closed record gives 12; a painted one takes the next commit of the state that the memory reads as; the first call takes it
 -- from the state that painting leaves, or gives painting's refusal. So each answer is the walk's, and on any bytes one of document 01's. Assumes nothing.
+use Rattle.std.specs.Prelude.{None, Ok, Err}
 use mathlib.Core.Path.{◌≡◌, refl, sym, ◌∙◌, ap, subst}
 use Prim.Native.Nat.{ℕ, ◌<◌}
 use mathlib.Core.Bool.{Bool, true, false}
@@ -11,9 +12,6 @@ use Rattle.hash.proofs.Widths.{width_least}
 use Rattle.hash.proofs.Tests.{clash}
 use Rattle.walk.specs.declared.Refusal.{Refusal}
 use Rattle.walk.specs.declared.Outcome.TheVariants.{End, Refused}
-use Rattle.walk.specs.declared.MaybeLevel.TheVariants.{NoGeneration}
-use Rattle.walk.specs.declared.MaybeSeconds.TheVariants.{NoTime}
-use Rattle.date.specs.declared.Zone.TheVariants.{NoZone}
 use Rattle.walk.specs.State.{State}
 use Rattle.walk.specs.Opening.{Input, walk_of}
 use Rattle.walk.specs.Next.{refused, step, take_next, next, first_call}
@@ -30,12 +28,12 @@ use Rattle.visit.specs.declared.next.Taken.{Taken}
 use Rattle.visit.specs.Taking.{gave, Rests, TakesNext}
 use Rattle.visit.specs.Plain.{Plain}
 use Rattle.reading.proofs.Down.{set_down-none}
-use Rattle.painting.specs.declared.Painted as painted
-use Rattle.painting.specs.declared.Painted.TheVariants as painting
-use Rattle.painting.specs.First.{AtFirst, GoesOn, Told, RefusesBy, Paints}
+use Rattle.painting.specs.declared.PaintError.{PaintError}
+use Rattle.painting.specs.declared.PaintError.TheVariants as painting
+use Rattle.painting.specs.First.{Painted, AtFirst, GoesOn, Told, RefusesBy, Paints}
 use Rattle.traverse.specs.declared.Out.{Out}
 use Rattle.traverse.specs.Contract.{Files, input_with, Lent, lengths_of, OfPaper, NextSays}
-use Rattle.traverse.specs.Next.{Whole, GivesBack, shut_with, Goes}
+use Rattle.traverse.specs.Next.{Whole, GivesBack, shut_with, stops, Goes}
 use Rattle.traverse.proofs.Standing.{goes_by, world_is, in_rows, in_store_lem, Stands, stands, good-store, good-graph, room-parents, room-levels, few-admitted, rests, stands-whole, says-step, next-painted, next-first, first-state, whole_room}
 use Rattle.traverse.proofs.Paper.{of_paper, of_paper-refused, plain_end, of_paper-shut, not-shut, call_not_shut}
 use Rattle.hash.specs.Bytes.{width_of}
@@ -92,11 +90,11 @@ none-down w st b = set_down-none b
 
 -- the numbers of painting's refusal are those of its state
 refused-given : {r : Record} {m : Memory} {sh : Shape} {st : State} (w : Refusal) → Reads r m sh st
-    → (gave (Refused w) no_id 0 NoGeneration NoTime NoZone r).answer ≡ given (step (refused w) [] st).answer
+    → (gave (Refused w) no_id 0 None None None r).answer ≡ given (step (refused w) [] st).answer
 unfolding step given
 refused-given w g = λ k. record {
   outcome = Refused w;
-  info = record { id = no_id; parents = 0; generation = NoGeneration; time = NoTime; zone = NoZone };
+  info = record { id = no_id; parents = 0; generation = None; time = None; zone = None };
   admitted = sym g.admitted k;
   struck = sym g.struck k;
   waiting = sym (queue-length g) k;
@@ -106,12 +104,12 @@ refused-reads : {r : Record} {m : Memory} {sh : Shape} {st : State} (w : Refusal
 unfolding step
 refused-reads w g = g
 
-module _ {f : Files} {r : Record} {m : Lent} {p : painted.Painted} {m₁ : Memory} (d : Paints f.store f.graph f.hidden r m.memory m.levels m₁ p) where
+module _ {f : Files} {r : Record} {m : Lent} {p : Painted} {m₁ : Memory} (d : Paints f.store f.graph f.hidden r m.memory m.levels m₁ p) where
   told : {k : ℕ} {st : State} (tips : List ℕ) → Stands (input_with f tips) m r k st → r.painted ≡ false → Told (input_with f tips) st m₁ p
   told {st = st} tips s h = d.right (input_with f tips) refl refl refl st (at_first s h)
 
   -- painting is over, and the next commit is taken
-  pub done-goes : {r₁ : Record} {t : Taken} {o : Out} (m' : Lent) → p ≡ painting.Done r₁
+  pub done-goes : {r₁ : Record} {t : Taken} {o : Out} (m' : Lent) → p ≡ Ok r₁
       → TakesNext f.excluded f.settings f.graph f.store r₁ m₁ m'.memory m.parents m'.parents t
       → Plain (width_of f.settings.kind) m.parents m'.parents t.answer → length m'.parents ≡ length m.parents → GivesBack t o → Goes false f r m o m'
   done-goes {o = o} m' y n q l b = record {
@@ -126,10 +124,9 @@ module _ {f : Files} {r : Record} {m : Lent} {p : painted.Painted} {m₁ : Memor
     of_paper = λ h. subst (λ (a : Given). OfPaper (width_of f.settings.kind) a m.parents m'.parents) (sym b.answer) (of_paper (width_of f.settings.kind) (some_bytes f.settings.kind) q l h);
   }
 
-  -- painting is refused
-  pub refused-goes : {r₁ : Record} {o : Out} (w : Refusal) (levels : List ℕ) → p ≡ painting.Refused w r₁ → GivesBack (gave (Refused w) no_id 0 NoGeneration NoTime NoZone r₁) o
-      → Goes false f r m o (record { memory = m₁; levels = levels; parents = m.parents })
-  refused-goes {r₁} {o} w levels y b =
+  -- painting does not go on: it was refused, or the memory was seen to be touched
+  pub stopped-goes : {o : Out} (levels : List ℕ) (e : PaintError) → p ≡ Err e → GivesBack (stops r e) o → Goes false f r m o (record { memory = m₁; levels = levels; parents = m.parents })
+  stopped-goes {o} levels (painting.Refused w r₁) y b =
       let c = subst RefusesBy y d.of_call in
       record {
         opened-call = λ h tips k st e g.
@@ -142,12 +139,8 @@ module _ {f : Files} {r : Record} {m : Lent} {p : painted.Painted} {m₁ : Memor
         not-twelve = λ e. call_not_shut w c (ap (λ (a : Given). a.outcome) (sym b.answer) ∙ e);
         of_paper = λ h. subst (λ (a : Given). OfPaper (width_of f.settings.kind) a m.parents m.parents) (sym b.answer) (of_paper-refused m.parents w r₁ c);
       }
-
-  -- the memory was seen to be touched
-  pub touched-goes : {o : Out} (r₁ : Record) (levels : List ℕ) → p ≡ painting.Touched → GivesBack (gave End no_id 0 NoGeneration NoTime NoZone r₁) o
-      → Goes false f r m o (record { memory = m₁; levels = levels; parents = m.parents })
-  touched-goes r₁ levels y b =
-      let q = plain_end m.parents r₁ in
+  stopped-goes {o} levels painting.Touched y b =
+      let q = plain_end m.parents r in
       record {
         opened-call = λ h tips k st e g. absurd (subst (Told (input_with f tips) st m₁) y (told tips (stands (input_with f tips) m r k st e g) h));
         not-twelve = λ e. not-shut q (ap (λ (a : Given). a.outcome) (sym b.answer) ∙ e);

@@ -1,9 +1,9 @@
 -- What an opening comes to: refused, it alters nothing; accepted, its memory reads as the walk's first state, for emptied memory reads as the state
 -- before any tip. Assumes nothing.
+use Rattle.std.specs.Prelude.{Err, None, Ok}
 use mathlib.Core.Path.{◌≡◌, refl, sym, ◌∙◌, ap, subst}
 use Prim.Native.Nat.{ℕ}
 use mathlib.Core.Bool.{Bool, true, false, ◌&&◌}
-use mathlib.Core.Option.{none}
 use mathlib.Core.List.{List, []}
 use native.Mathlib.Omega.{arith}
 use lib.ListN.{length}
@@ -12,7 +12,6 @@ use Rattle.hash.specs.Bytes.{among}
 use Rattle.hash.proofs.Tests.{clash}
 use Rattle.walk.specs.declared.Refusal.{Refusal}
 use Rattle.walk.specs.declared.CommitTimeOrder.TheVariants.{NewestFirst, OldestFirst}
-use Rattle.walk.specs.declared.OpenOutcome.TheVariants.{Accepted}
 use Rattle.walk.specs.Settings.{by_time, newest_first}
 use Rattle.walk.specs.State.{State, empty_state}
 use Rattle.walk.specs.Opening.{Input, list_ids, P, walk_of, refusal, room_for, closed, opened, open_tips, open_walk, width_in}
@@ -20,7 +19,6 @@ use Rattle.walk.specs.Given.{open_given}
 use Rattle.walk.specs.Calls.{state_of, state_after}
 use Rattle.walk.proofs.Whole.{length_list}
 use Rattle.opening.specs.Checks.{checked_by}
-use Rattle.opening.specs.declared.Checked.TheVariants.{Fine, Refused}
 use Rattle.opening.proofs.Input.{passes, places-few, room}
 use Rattle.opening.proofs.Opened.{opens, refused-closed, open_roomy}
 use Rattle.state.specs.declared.Record.{Record}
@@ -47,7 +45,7 @@ and_false false = refl
 
 module _ (i : Input) {names marks marks₁ : List ℕ} {times : List ℤ} {line : List ℕ} {r : Record} {cap : ℕ} (e : cap ≡ P i) (s : steps.Starts marks marks₁ cap) (a : length marks₁ ≡ length marks)
     (f : r ≡ fresh_record (by_time i.settings) (by_time i.settings && newest_first i.settings.sorting) cap (fixed_of i.settings.kind i.graph)) where
-  early : refusal i ≡ none → steps.Lent (width_in i) names marks times line (P i) → Early (shape_of i) (list_ids (width_in i) i.tips) 0 r (steps.mem names marks₁ times line) empty_state
+  early : refusal i ≡ None → steps.Lent (width_in i) names marks times line (P i) → Early (shape_of i) (list_ids (width_in i) i.tips) 0 r (steps.mem names marks₁ times line) empty_state
   unfolding P
   early z l = record {
     reads = rw (f ∙ ap (λ (n : ℕ). fresh_record (by_time i.settings) (by_time i.settings && newest_first i.settings.sorting) n (fixed_of i.settings.kind i.graph)) e)
@@ -68,17 +66,17 @@ module _ (i : Input) {names marks marks₁ : List ℕ} {times : List ℤ} {line 
 
 -- ---- the outcome
 
-pub accepts : (r : Record) (o : Opened) → o.record ≡ r → o.answer ≡ record { outcome = Accepted; admitted = r.admitted; struck = r.struck; waiting = r.queue.count } → Accepts r o
+pub accepts : (r : Record) (o : Opened) → o.record ≡ r → o.answer ≡ record { outcome = (Ok tt); admitted = r.admitted; struck = r.struck; waiting = r.queue.count } → Accepts r o
 unfolding open_given
 accepts r o e a = record {
   same = e;
-  answer = λ m sh st g. a ∙ (λ k. record { outcome = Accepted; admitted = sym g.admitted k; struck = sym g.struck k; waiting = sym (queue-length g) k });
+  answer = λ m sh st g. a ∙ (λ k. record { outcome = (Ok tt); admitted = sym g.admitted k; struck = sym g.struck k; waiting = sym (queue-length g) k });
 }
 
 never : {r : Refusal} {st : State} {A : Type 0} → closed r ≡ opened st → A
 never e = let y : ◌≡◌ {A = ℕ} 0 1 = cc in absurd (omega arith)
 
-pub refused_says : (i : Input) (m : Lent) (o : Opened) {r : Refusal} → Refused r ≡ checked_by (open_walk i (room_for i (lengths_of m))) → Refuses r o → OpenSays i m o m
+pub refused_says : (i : Input) (m : Lent) (o : Opened) {r : Refusal} → Err r ≡ checked_by (open_walk i (room_for i (lengths_of m))) → Refuses r o → OpenSays i m o m
 refused_says i m o e a =
     let k = refused-closed (open_walk i (room_for i (lengths_of m))) e in
     record {
@@ -89,7 +87,7 @@ refused_says i m o e a =
       same-parents = refl;
     }
 
-module _ (i : Input) (m m' : Lent) (o : Opened) {r : Record} (e : Fine ≡ checked_by (open_walk i (room_for i (lengths_of m)))) (f : Fills i m.memory m'.memory r) (a : Accepts r o)
+module _ (i : Input) (m m' : Lent) (o : Opened) {r : Record} (e : (Ok tt) ≡ checked_by (open_walk i (room_for i (lengths_of m)))) (f : Fills i m.memory m'.memory r) (a : Accepts r o)
     (l : length m'.levels ≡ length m.levels) (p : m'.parents ≡ m.parents) where
   same : lengths_of m' ≡ lengths_of m
   unfolding lengths_of

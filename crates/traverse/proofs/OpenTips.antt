@@ -1,11 +1,11 @@
 -- The tips of an opening: where an opening is accepted, its state is that of letting in each lent tip in turn. For a repeat is seen already, an
 -- excluded tip is passed over, and a tip that cannot be read would have refused the opening. And one tip let in, in lent memory.
 -- Assumes nothing.
+use Rattle.std.specs.Prelude.{None, Option, Some}
 use mathlib.Core.Path.{◌≡◌, refl, sym, ◌∙◌, ap, subst}
 use mathlib.Core.Logic.{⊎_elim}
 use Prim.Native.Nat.{ℕ, suc, ◌≤◌, ◌<◌}
 use mathlib.Core.Bool.{Bool, true, false, cond, ◌||◌}
-use mathlib.Core.Option.{Option, none, some}
 use mathlib.Core.List.{List, [], ◌∷◌, Memᴰ}
 use native.Mathlib.Omega.{arith}
 use lib.ListN.{length}
@@ -26,14 +26,11 @@ use Rattle.walk.specs.Opening.{list_ids, distinct, closed, opened, tips_in}
 use Rattle.walk.proofs.Laws.{add-cases}
 use Rattle.reading.specs.Tip.{tip_of, tip_seconds}
 use Rattle.state.specs.declared.Record.{Record}
-use Rattle.state.specs.declared.Seen.{Seen}
 use Rattle.state.specs.Reads.{Memory, Shape, Reads}
 use Rattle.state.specs.declared.Fixed.{Fixed}
 use Rattle.state.specs.Shapes.{joins, shape_for}
-use Rattle.state.specs.Steps.{mem, Sees, Waits, Entered}
+use Rattle.state.specs.Steps.{mem, SeesTo, Sees, Waits, Entered}
 use Rattle.state.proofs.Shapes.{waits-shape}
-use Rattle.traverse.specs.declared.open.Admission.{Admission}
-use Rattle.traverse.specs.declared.open.Admission.TheVariants.{Admitted, OnlySeen}
 use Rattle.traverse.specs.Open.{read_as, admission_of, in_as, tip_in, tips_all, Early, SameLengths, Admits, TakesTip}
 
 -- ---- the walk's own opening, tip by tip
@@ -62,26 +59,26 @@ module _ (w : Walk) (st : State) (x : Id) where
       none-opens e = let y : ◌≡◌ {A = ℕ} 0 1 = cc in absurd (omega arith)
 
       cut : (t : ℤ) (b : Bool) → cond b (tips_in w xs (waits w st x t)) (tips_in w xs (sees st x)) ≡ opened z
-          → tips_in w xs (in_as w st x (cond b (Admitted (record { 0 = t })) OnlySeen)) ≡ opened z
+          → tips_in w xs (in_as w st x (cond b (Some (record { 0 = t })) None)) ≡ opened z
       cut t true e = e
       cut t false e = e
 
       seconds : (o : Option ℤ)
           → if_some o (closed TipUnreadable) (λ t. cond (not_before (cutoff_of w.settings.sorting) t) (tips_in w xs (waits w st x t)) (tips_in w xs (sees st x))) ≡ opened z
           → tips_in w xs (in_as w st x (read_as w.settings.sorting (tip_seconds (seconds_read o)))) ≡ opened z
-      seconds none e = none-opens e
-      seconds (some t) e = cut t (not_before (cutoff_of w.settings.sorting) t) e
+      seconds None e = none-opens e
+      seconds (Some t) e = cut t (not_before (cutoff_of w.settings.sorting) t) e
 
       store : (o : Option Header)
           → if_some o (closed TipNotFound) (λ h. if_some h.seconds (closed TipUnreadable) (λ t. cond (not_before (cutoff_of w.settings.sorting) t) (tips_in w xs (waits w st x t)) (tips_in w xs (sees st x)))) ≡ opened z
           → tips_in w xs (in_as w st x (read_as w.settings.sorting (tip_of o))) ≡ opened z
-      store none e = none-opens e
-      store (some h) e = seconds h.seconds e
+      store None e = none-opens e
+      store (Some h) e = seconds h.seconds e
 
-  seen_as : (a : Admission) → (in_as w st x a).seen ≡ add st.seen x
+  seen_as : (a : Option Seconds) → (in_as w st x a).seen ≡ add st.seen x
   unfolding sees waits
-  seen_as (Admitted t) = refl
-  seen_as OnlySeen = refl
+  seen_as (Some t) = refl
+  seen_as None = refl
 
 among-add : (x y : Id) (had : List Id) (f : Id → Bool) → among y had ≡ f y → among y (x ∷ had) ≡ add f x y
 unfolding among add
@@ -160,35 +157,41 @@ tip_skipped {width} {excluded = excluded} m x r e = record {
 }
 
 -- another tip, with what see told and how it comes in
-module _ (width : ℕ) (store excluded : List ℕ) (o : Sorting) {names marks names' marks' : List ℕ} {times times' : List ℤ} {line line' : List ℕ} {x : Id} {r r' : Record} {a : Seen} {how : Admission}
+module _ (width : ℕ) (store excluded : List ℕ) (o : Sorting) {names marks names' marks' : List ℕ} {times times' : List ℤ} {line line' : List ℕ} {x : Id} {r r' : Record} {a : Option ℕ} {how : Option Seconds}
     (e : among x (list_ids width excluded) ≡ false) (s : Sees r names marks names' marks' x a)
     (d : store_is_ok width store ≡ true → (graph : List ℕ) → how ≡ admission_of (world_of width store graph) o x) (j : Admits r times times' line line' a how r') where
   -- a repeat
   again : (w : Walk) (sh : Shape) (k : ℕ) (u : List Id) (st : State) → Early sh u k r (mem names marks times line) st → st.seen x ≡ true
       → Early sh u (suc k) r' (mem names' marks' times' line') st
-  again w sh k u st g h =
-      let f : a.fresh ≡ false = s.old times line sh st g.reads (rw (g.unpainted x, h)) in
-      let p = s.still f in
-      let q = j.repeat f in
-      rw (p.0, p.1, q.same_record, q.same-times, q.same_line) (early-on g)
+  again w sh k u st g h = go a refl s.told
+    where
+      go : (b : Option ℕ) → a ≡ b → SeesTo r names marks names' marks' x b → Early sh u (suc k) r' (mem names' marks' times' line') st
+      go None i o =
+          let p = o.still in
+          let q = j.repeat i in
+          rw (p.0, p.1, q.same_record, q.same-times, q.same_line) (early-on g)
+      go (Some slot) i o = absurd (o.old times line sh st g.reads (rw (g.unpainted x, h)))
 
   -- a new one
   comes : (w : Walk) (n : ℕ) (f : Fixed) (k : ℕ) (u : List Id) (st : State) → length x ≡ width_of f.kind → Memᴰ x u → n ≤ 1048576 → k < 1048576
-      → Early (shape_for w.settings n f) u k r (mem names marks times line) st → st.seen x ≡ false → (b : Admission) → how ≡ b
+      → Early (shape_for w.settings n f) u k r (mem names marks times line) st → st.seen x ≡ false → (b : Option Seconds) → how ≡ b
       → Early (shape_for w.settings n f) u (suc k) r' (mem names' marks' times' line') (in_as w st x b)
-  comes w n f k u st l h c i g z b y =
-      go b y (s.new times line (shape_for w.settings n f) st g.reads g.unfailed l (rw (g.unpainted x, z)) u g.universe h)
+  comes w n f k u st l h c i g z b y = met a refl s.told
     where
-      go : (b' : Admission) → how ≡ b' → Entered r (mem names' marks' times line) (shape_for w.settings n f) st x a
+      go : (slot : ℕ) → a ≡ Some slot → (b' : Option Seconds) → how ≡ b' → Entered r (mem names' marks' times line) (shape_for w.settings n f) st x slot
           → Early (shape_for w.settings n f) u (suc k) r' (mem names' marks' times' line') (in_as w st x b')
-      go (Admitted t) y' v =
-          let q = j.joins v.fresh t.0 y' in
+      go slot e' (Some t) y' v =
+          let q = j.joins slot e' t.0 y' in
           early-waits g w x t.0 h q.failed
           (subst (Reads r' (mem names' marks' times' line') (shape_for w.settings n f)) (sym (waits-shape w n f st x t.0))
           (q.joined names' marks' (shape_for w.settings n f) (sees st x) x v.reads g.unfailed v.slot (omega (arith, c)) (omega (arith, i, g.few, g.reads.admitted))))
-      go OnlySeen y' v =
+      go slot e' None y' v =
           let q = j.turned y' in
           rw (q.same_record, q.same-times, q.same_line) (early-sees g x h v.reads)
+
+      met : (d : Option ℕ) → a ≡ d → SeesTo r names marks names' marks' x d → Early (shape_for w.settings n f) u (suc k) r' (mem names' marks' times' line') (in_as w st x b)
+      met (Some slot) e' o = go slot e' b y (o.new times line (shape_for w.settings n f) st g.reads g.unfailed l (rw (g.unpainted x, z)) u g.universe h)
+      met None e' o = absurd (o.new times line (shape_for w.settings n f) st g.reads g.unfailed l (rw (g.unpainted x, z)) u g.universe h)
 
   pub tip-taken : TakesTip width store excluded o (mem names marks times line) (mem names' marks' times' line') x r r'
   tip-taken = record {
@@ -203,34 +206,35 @@ module _ (width : ℕ) (store excluded : List ℕ) (o : Sorting) {names marks na
 
 -- ---- a tip waits or does not
 
-module _ (r : Record) (times : List ℤ) (line : List ℕ) (a : Seen) (how : Admission) where
-  pub admit-again : a.fresh ≡ false → Admits r times times line line a how r
+module _ (r : Record) (times : List ℤ) (line : List ℕ) (a : Option ℕ) (how : Option Seconds) where
+  pub admit-again : a ≡ None → Admits r times times line line a how r
   admit-again f = record {
     long-times = refl;
     long-line = refl;
     repeat = λ e. record { same_record = refl; same-times = refl; same_line = refl };
     turned = λ e. record { same_record = refl; same-times = refl; same_line = refl };
-    joins = λ e t y. clash e f;
+    joins = λ slot e t y. let q = sym f ∙ e in cc;
   }
 
-  pub admit-turned : how ≡ OnlySeen → Admits r times times line line a how r
+  pub admit-turned : how ≡ None → Admits r times times line line a how r
   admit-turned f = record {
     long-times = refl;
     long-line = refl;
     repeat = λ e. record { same_record = refl; same-times = refl; same_line = refl };
     turned = λ e. record { same_record = refl; same-times = refl; same_line = refl };
-    joins = λ e t y. let q : Admitted (record { 0 = t }) ≡ OnlySeen = sym y ∙ f in let z : ◌≡◌ {A = ℕ} 0 1 = cc in absurd (omega arith);
+    joins = λ slot e t y. let q : Some (record { 0 = t }) ≡ None = sym y ∙ f in let z : ◌≡◌ {A = ℕ} 0 1 = cc in absurd (omega arith);
   }
 
-  pub admit-waits : {times' : List ℤ} {line' : List ℕ} {r' : Record} (s : Seconds) → a.fresh ≡ true → how ≡ Admitted s → Waits r times times' line line' a.slot s.0 r'
+  pub admit-waits : {times' : List ℤ} {line' : List ℕ} {r' : Record} {slot : ℕ} (s : Seconds) → a ≡ Some slot → how ≡ Some s → Waits r times times' line line' slot s.0 r'
       → Admits r times times' line line' a how r'
-  admit-waits {times'} {line'} {r'} s f h w = record {
+  admit-waits {times'} {line'} {r'} {slot} s f h w = record {
     long-times = w.long-times;
     long-line = w.for_line.long;
-    repeat = λ e. clash f e;
-    turned = λ e. let q : Admitted s ≡ OnlySeen = sym h ∙ e in let z : ◌≡◌ {A = ℕ} 0 1 = cc in absurd (omega arith);
-    joins = λ e t y.
-        let q : Admitted s ≡ Admitted (record { 0 = t }) = sym h ∙ y in
+    repeat = λ e. let q = sym f ∙ e in cc;
+    turned = λ e. let q : Some s ≡ None = sym h ∙ e in let z : ◌≡◌ {A = ℕ} 0 1 = cc in absurd (omega arith);
+    joins = λ k e t y.
+        let q : Some s ≡ Some (record { 0 = t }) = sym h ∙ y in
         let z : ◌≡◌ {A = Seconds} s (record { 0 = t }) = cc in
-        subst (λ (v : ℤ). Waits r times times' line line' a.slot v r') (ap (λ (v : Seconds). v.0) z) w;
+        let i : slot ≡ k = let j = sym f ∙ e in cc in
+        subst (λ (v : ℤ). Waits r times times' line line' k v r') (ap (λ (v : Seconds). v.0) z) (subst (λ (i : ℕ). Waits r times times' line line' i s.0 r') i w);
   }

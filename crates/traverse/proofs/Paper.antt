@@ -1,9 +1,11 @@
 -- An answer on any bytes is one of document 01's: its model has the answer's own fields, and as parents the ids at the start of the buffer after it, for
 -- past them the buffer is as it was. Assumes nothing.
+use Rattle.std.specs.Prelude.{None, Option, Some}
+use Rattle.commitgraph.specs.declared.Level.{Level}
+use Rattle.date.specs.declared.Seconds.{Seconds}
 use mathlib.Core.Path.{◌≡◌, refl, sym, ◌∙◌, ap, subst}
 use mathlib.Core.Logic.{inl, inr}
 use Prim.Native.Nat.{ℕ, zero, suc, ◌+◌, ◌*◌, ◌/◌, ◌≤◌, ◌<◌}
-use mathlib.Core.Option.{Option, none, some}
 use mathlib.Core.List.Memᴰ
 use mathlib.Core.List.{List, [], ◌∷◌, ◌++◌}
 use native.Mathlib.Omega.{arith}
@@ -18,13 +20,6 @@ use Rattle.walk.specs.declared.Refusal.{Refusal}
 use Rattle.walk.specs.declared.Refusal.TheVariants.{CommitNotFound, TooManyParents, Closed}
 use Rattle.walk.specs.declared.Outcome.{Outcome}
 use Rattle.walk.specs.declared.Outcome.TheVariants.{Commit, End, Refused}
-use Rattle.walk.specs.declared.MaybeLevel.{MaybeLevel}
-use Rattle.walk.specs.declared.MaybeLevel.TheVariants.{Generation, NoGeneration}
-use Rattle.walk.specs.declared.MaybeSeconds.{MaybeSeconds}
-use Rattle.walk.specs.declared.MaybeSeconds.TheVariants.{Time, NoTime}
-use Rattle.date.specs.declared.Zone.{Zone}
-use Rattle.date.specs.declared.Zone.TheVariants.{Minutes, NoZone}
-use Rattle.object.specs.Read.{zone_given}
 use Rattle.walk.specs.Opening.{list_ids}
 use Rattle.walk.specs.Next.{Kind, end, refused, handed, Answer}
 use Rattle.walk.specs.Calls.{shut}
@@ -72,29 +67,21 @@ module _ (b b' : List ℕ) (n : ℕ) (l : length b' ≡ length b) (h : n ≤ len
 
 -- ---- the model of an answer
 
-abbrev level_in : MaybeLevel → Option ℕ
-level_in (Generation l) = some l.0
-level_in NoGeneration = none
+abbrev level_in : Option Level → Option ℕ
+level_in (Some l) = Some l.0
+level_in None = None
 
-level_in_lem : (l : MaybeLevel) → l ≡ level_given (level_in l)
-level_in_lem (Generation l) = refl
-level_in_lem NoGeneration = refl
+level_in_lem : (l : Option Level) → l ≡ level_given (level_in l)
+level_in_lem (Some l) = refl
+level_in_lem None = refl
 
-abbrev seconds_in : MaybeSeconds → Option ℤ
-seconds_in (Time s) = some s.0
-seconds_in NoTime = none
+abbrev seconds_in : Option Seconds → Option ℤ
+seconds_in (Some s) = Some s.0
+seconds_in None = None
 
-seconds_in_lem : (s : MaybeSeconds) → s ≡ seconds_given (seconds_in s)
-seconds_in_lem (Time s) = refl
-seconds_in_lem NoTime = refl
-
-abbrev zone_in : Zone → Option ℤ
-zone_in (Minutes m) = some m
-zone_in NoZone = none
-
-zone_in_lem : (z : Zone) → z ≡ zone_given (zone_in z)
-zone_in_lem (Minutes m) = refl
-zone_in_lem NoZone = refl
+seconds_in_lem : (s : Option Seconds) → s ≡ seconds_given (seconds_in s)
+seconds_in_lem (Some s) = refl
+seconds_in_lem None = refl
 
 abbrev kind_in : (width : ℕ) (o : Outcome) (a : Given) → ShapedBy width o a → Kind
 kind_in width Commit a s = handed s.0 (level_in a.info.generation) (seconds_in a.info.time)
@@ -132,15 +119,15 @@ counted_in width End a s r e = let z : ◌≡◌ {A = ℕ} 0 1 = cc in absurd (o
 counted_in width (Refused q) a s r e = let z : q ≡ r = cc in subst (λ (y : Refusal). Counted y a.info.parents) z s.2
 
 -- card 7: an answer without a commit has no zone
-bare-zone : (a : Given) → Bare a → zone_in a.info.zone ≡ none
-bare-zone a b = ap zone_in b.no-zone
+bare-zone : (a : Given) → Bare a → a.info.zone ≡ None
+bare-zone a b = b.no-zone
 
-end-zone_in : (width : ℕ) (o : Outcome) (a : Given) (s : ShapedBy width o a) → kind_in width o a s ≡ end → zone_in a.info.zone ≡ none
+end-zone_in : (width : ℕ) (o : Outcome) (a : Given) (s : ShapedBy width o a) → kind_in width o a s ≡ end → a.info.zone ≡ None
 end-zone_in width Commit a s e = let z : ◌≡◌ {A = ℕ} 0 1 = cc in absurd (omega arith)
 end-zone_in width End a s e = bare-zone a s.0
 end-zone_in width (Refused q) a s e = bare-zone a s.0
 
-refused-zone_in : (width : ℕ) (o : Outcome) (a : Given) (s : ShapedBy width o a) → (r : Refusal) → kind_in width o a s ≡ refused r → zone_in a.info.zone ≡ none
+refused-zone_in : (width : ℕ) (o : Outcome) (a : Given) (s : ShapedBy width o a) → (r : Refusal) → kind_in width o a s ≡ refused r → a.info.zone ≡ None
 refused-zone_in width Commit a s r e = let z : ◌≡◌ {A = ℕ} 0 1 = cc in absurd (omega arith)
 refused-zone_in width End a s r e = bare-zone a s.0
 refused-zone_in width (Refused q) a s r e = bare-zone a s.0
@@ -150,7 +137,7 @@ no-ids [] e = refl
 no-ids (x ∷ l) e = absurd (omega (arith, e))
 
 abbrev model_of : (width : ℕ) (a : Given) → ShapedBy width a.outcome a → List Id → Answer
-model_of width a s ps = record { kind = kind_in width a.outcome a s; parents = ps; zone = zone_in a.info.zone; admitted = a.admitted; struck = a.struck; waiting = a.waiting }
+model_of width a s ps = record { kind = kind_in width a.outcome a s; parents = ps; zone = a.info.zone; admitted = a.admitted; struck = a.struck; waiting = a.waiting }
 
 given-model : (width : ℕ) (a : Given) (ps : List Id) (s : ShapedBy width a.outcome a) → a.info.parents ≡ length ps → a ≡ given (model_of width a s ps)
 unfolding given
@@ -158,7 +145,7 @@ given-model width a ps s e =
     let f = fields_in width a.outcome a s in
     λ k. record {
       outcome = outcome_in width a.outcome a s k;
-      info = record { id = f.id k; parents = e k; generation = f.generation k; time = f.time k; zone = zone_in_lem a.info.zone k };
+      info = record { id = f.id k; parents = e k; generation = f.generation k; time = f.time k; zone = a.info.zone };
       admitted = a.admitted;
       struck = a.struck;
       waiting = a.waiting;
@@ -196,10 +183,10 @@ of_paper width some_bytes {b} {b'} {a} p l h =
     }
 
 -- an answer that carries nothing but the running numbers, and leaves the buffer as it was: painting's refusal
-pub of_paper-refused : {width : ℕ} (b : List ℕ) (n : Refusal) (r : Record) → OfCall n → OfPaper width (gave (Refused n) no_id 0 NoGeneration NoTime NoZone r).answer b b
+pub of_paper-refused : {width : ℕ} (b : List ℕ) (n : Refusal) (r : Record) → OfCall n → OfPaper width (gave (Refused n) no_id 0 None None None r).answer b b
 unfolding parents_given joined given
 of_paper-refused b n r c = record {
-  model = record { kind = refused n; parents = []; zone = none; admitted = r.admitted; struck = r.struck; waiting = r.queue.count };
+  model = record { kind = refused n; parents = []; zone = None; admitted = r.admitted; struck = r.struck; waiting = r.queue.count };
   is = refl;
   kind = λ q e. let z : n ≡ q = cc in inl (subst (λ (y : Refusal). OfCall y) z c);
   bare-end = λ e. refl;
@@ -214,7 +201,7 @@ of_paper-refused b n r c = record {
 }
 
 -- and the end
-pub plain_end : {width : ℕ} (b : List ℕ) (r : Record) → Plain width b b (gave End no_id 0 NoGeneration NoTime NoZone r).answer
+pub plain_end : {width : ℕ} (b : List ℕ) (r : Record) → Plain width b b (gave End no_id 0 None None None r).answer
 plain_end b r = record { shape = (record { no-id = refl; no-generation = refl; no-time = refl; no-zone = refl }, refl); few = omega arith; past = λ k h. refl }
 
 -- refusal 12

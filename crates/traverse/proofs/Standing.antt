@@ -1,10 +1,10 @@
 -- Where untouched memory stands after an accepted opening and k calls: the files are good, every buffer has its size, the ids of the state lie in the
 -- universe of the input, which has no more ids than there are places, and the numbers are small, for P places suffice after every call. Assumes nothing.
+use Rattle.std.specs.Prelude.{None}
 use mathlib.Core.Path.{◌≡◌, refl, sym, ◌∙◌, ap, subst}
 use mathlib.Core.Logic.{⊎_elim}
 use Prim.Native.Nat.{ℕ, suc, ◌+◌, ◌*◌, ◌/◌, ◌≤◌}
 use mathlib.Core.Bool.{Bool, true, false, ◌||◌}
-use mathlib.Core.Option.{none}
 use mathlib.Core.List.{[]}
 use native.Mathlib.Omega.{arith}
 use lib.ListN.{length, replicate, length-replicate}
@@ -61,7 +61,7 @@ in_store_lem i = record { inside = body_in i }
 pub record Stands (i : Input) (m : Lent) (r : Record) (k : ℕ) (st : State) : Type 0 where
   pub accepted : open_walk i true ≡ opened st
   pub has_room : room_for i (lengths_of m) ≡ true
-  pub passed : refusal i ≡ none
+  pub passed : refusal i ≡ None
   pub sizes : Room (width_in i) (P i) (lengths_of m)
   pub reads : Reads r m.memory (shape_of i) (state_after i k)
 

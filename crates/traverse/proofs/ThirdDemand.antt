@@ -1,10 +1,10 @@
 -- The third demand: the opening's promise starts the walk, each call's promise carries it on, so every answer is the walk's; what is proved of the
 -- walk's answers is then read off the answers given. Assumes nothing.
+use Rattle.std.specs.Prelude.{Err, None, Ok, Option, Some}
 use Prim.Native.Nat.{ℕ, suc, ◌+◌}
 use mathlib.Core.Path.{◌≡◌, refl, sym, ◌∙◌, ap, subst}
 use mathlib.Core.Logic.{⊎_elim}
 use mathlib.Core.Bool.{Bool, true, false}
-use mathlib.Core.Option.{Option, none, some}
 use mathlib.Core.List.Memᴰ
 use mathlib.Core.List.{List, map}
 use native.Mathlib.Omega.{arith}
@@ -13,7 +13,6 @@ use lib.Seq.{take_all}
 use Rattle.hash.specs.Bytes.{Id}
 use Rattle.walk.specs.declared.Refusal.{Refusal}
 use Rattle.walk.specs.declared.Outcome.TheVariants.{Commit, End, Refused}
-use Rattle.walk.specs.declared.OpenOutcome.TheVariants.{Accepted, NotOpened}
 use Rattle.walk.specs.declared.OpenAnswer.{OpenAnswer}
 use Rattle.walk.specs.State.{State}
 use Rattle.walk.specs.Opening.{Input, width_in, walk_of, list_ids, refusal, room_for, P, Opening, closed, opened, open_tips, open_or, open_walk}
@@ -46,15 +45,15 @@ opened-room i true st e = (refl, e)
 opened-room i false st e = go (refusal i) e
   where
     go : {X : Type 0} (n : Option Refusal) → open_or i false n ≡ opened st → X
-    go none e = let z : ◌≡◌ {A = ℕ} 0 1 = cc in absurd (omega arith)
-    go (some r) e = let z : ◌≡◌ {A = ℕ} 0 1 = cc in absurd (omega arith)
+    go None e = let z : ◌≡◌ {A = ℕ} 0 1 = cc in absurd (omega arith)
+    go (Some r) e = let z : ◌≡◌ {A = ℕ} 0 1 = cc in absurd (omega arith)
 
-accepted-is : (o : Opening) → (open_given o).outcome ≡ Accepted → (st : State) × (o ≡ opened st)
+accepted-is : (o : Opening) → (open_given o).outcome ≡ (Ok tt) → (st : State) × (o ≡ opened st)
 unfolding open_given
 accepted-is (closed r) e = let z : ◌≡◌ {A = ℕ} 0 1 = cc in absurd (omega arith)
 accepted-is (opened st) e = (st, refl)
 
-refused-is : (o : Opening) (r : Refusal) → (open_given o).outcome ≡ NotOpened r → (n : Refusal) × (o ≡ closed n)
+refused-is : (o : Opening) (r : Refusal) → (open_given o).outcome ≡ Err r → (n : Refusal) × (o ≡ closed n)
 unfolding open_given
 refused-is (closed n) r e = (n, refl)
 refused-is (opened st) r e = let z : ◌≡◌ {A = ℕ} 0 1 = cc in absurd (omega arith)
@@ -153,7 +152,7 @@ module _ (i : Input) (m : Lent) (o : Opened) (m' : Lent) (s : OpenSays i m o m')
       let z : 0 + k ≡ k = omega arith in
       subst (λ (j : ℕ). Gives c (answer_at_call i j)) z (calls-walk i st r.1 0 o.record m' cs (ap (room_for i) s.same-lengths ∙ r.0) (s.accepted_open st e) q k c p)
 
-  demanded : refusal i ≡ none → room_for i (lengths_of m) ≡ true → Premises (walk_of i) (list_ids (width_in i) i.tips) → Delivered i o m'
+  demanded : refusal i ≡ None → room_for i (lengths_of m) ≡ true → Premises (walk_of i) (list_ids (width_in i) i.tips) → Delivered i o m'
   unfolding Third open_given
   demanded e room pre =
       let d = third i e pre in
@@ -166,12 +165,12 @@ module _ (i : Input) (m : Lent) (o : Opened) (m' : Lent) (s : OpenSays i m o m')
         every-list = λ cs q. lists i cs (after_open d.state k cs q) d;
       }
 
-  accepted-calls : o.answer.outcome ≡ Accepted → (cs : List Call) → Calls (files_of i) o.record m' cs → AnyCalls i cs
+  accepted-calls : o.answer.outcome ≡ (Ok tt) → (cs : List Call) → Calls (files_of i) o.record m' cs → AnyCalls i cs
   accepted-calls e cs q =
       let a = accepted-is (open_walk i (room_for i (lengths_of m))) (sym (ap (λ (a : OpenAnswer). a.outcome) s.answer) ∙ e) in
       any-calls i cs (after_open a.0 a.1 cs q) a.0 (opened-room i (room_for i (lengths_of m)) a.0 a.1).1
 
-  refused-calls : (r : Refusal) → o.answer.outcome ≡ NotOpened r → (f : Files) (cs : List Call) → Calls f o.record m' cs → (k : ℕ) (c : Call) → CallIs cs k c → Shut c
+  refused-calls : (r : Refusal) → o.answer.outcome ≡ Err r → (f : Files) (cs : List Call) → Calls f o.record m' cs → (k : ℕ) (c : Call) → CallIs cs k c → Shut c
   refused-calls r e f cs q =
       let a = refused-is (open_walk i (room_for i (lengths_of m))) r (sym (ap (λ (a : OpenAnswer). a.outcome) s.answer) ∙ e) in
       calls-shut f o.record m' cs (s.refused_open a.0 a.1).0 q

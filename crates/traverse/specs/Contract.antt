@@ -1,8 +1,7 @@
 -- What an opening and a next call promise (document 01: Opening, A next call, and what follows its table). Assumes nothing.
-use Rattle.std.specs.Prelude.{ℕ, suc, ◌≤◌, ◌≡◌, ◌⊎◌, ℤ, false, List, [], length}
+use Rattle.std.specs.Prelude.{ℕ, suc, ◌≤◌, ◌≡◌, ◌⊎◌, ℤ, false, List, [], length, None, Option}
 use Rattle.hash.specs.Bytes.{Id, width_of}
 use Rattle.object.specs.Header.{most}
-use Rattle.std.proofs.Math.Option.{Option, none}
 use Rattle.walk.specs.declared.Settings.{Settings}
 use Rattle.walk.specs.declared.Refusal.{Refusal}
 use Rattle.walk.specs.declared.Refusal.TheVariants.{CommitNotFound, TooManyParents, Closed}
@@ -80,8 +79,8 @@ pub record OfPaper (width : ℕ) (a : Given) (before after : List ℕ) : Type 0 
   pub kind : (r : Refusal) → model.kind ≡ refused r → OfCall r ⊎ (model ≡ shut)
   pub bare-end : model.kind ≡ end → model.parents ≡ []
   -- card 7: the zone is none "in a refusal or end"
-  pub end-zone : model.kind ≡ end → model.zone ≡ none
-  pub refused-zone : (r : Refusal) → model.kind ≡ refused r → model.zone ≡ none
+  pub end-zone : model.kind ≡ end → model.zone ≡ None
+  pub refused-zone : (r : Refusal) → model.kind ≡ refused r → model.zone ≡ None
   -- 9 comes before any line is read; 11 when 256 ids are read, or from painting, which gives none
   pub bare-lost : model.kind ≡ refused CommitNotFound → model.parents ≡ []
   pub crowded : model.kind ≡ refused TooManyParents → (length model.parents ≡ most) ⊎ (model.parents ≡ [])

@@ -1,13 +1,11 @@
 -- The third demand: one claim about an opening and every list of next calls after it, from what an opening and a next call promise
 -- (`OpenSays`, `NextSays`). Assumes nothing.
-use Rattle.std.specs.Prelude.{ℕ, zero, suc, ◌+◌, ◌≤◌, ◌<◌, ◌≡◌, ◌↔◌, Bool, true, cond, List, [], ◌∷◌, ◌++◌, map, length, take, get_or, ltb}
-use Rattle.std.proofs.Math.Option.{none}
+use Rattle.std.specs.Prelude.{ℕ, zero, suc, ◌+◌, ◌≤◌, ◌<◌, ◌≡◌, ◌↔◌, Bool, true, cond, List, [], ◌∷◌, ◌++◌, map, length, take, get_or, ltb, Err, None, Ok}
 use Rattle.hash.specs.Bytes.{Id}
 use Rattle.object.specs.Ids.{padded, id_in}
 use Rattle.walk.specs.declared.Refusal.{Refusal}
 use Rattle.walk.specs.declared.Outcome.{Outcome}
 use Rattle.walk.specs.declared.Outcome.TheVariants.{Commit, End, Refused}
-use Rattle.walk.specs.declared.OpenOutcome.TheVariants.{Accepted, NotOpened}
 use Rattle.walk.specs.State.{State}
 use Rattle.walk.specs.Opening.{Input, walk_of, list_ids, refusal, room_for, P, width_in}
 use Rattle.walk.specs.Next.{Answer}
@@ -106,7 +104,7 @@ pub record Lists (i : Input) (list : List Id) (cs : List Call) : Type 0 where
 -- under the premises
 pub record Delivered (i : Input) (o : Opened) (m : Lent) : Type 0 where
   -- "an opening to which none of 01's 1 to 6 applies is accepted"
-  pub accepted : o.answer.outcome ≡ Accepted
+  pub accepted : o.answer.outcome ≡ (Ok tt)
   -- the n different "commits reachable from an admitted tip over admitted links and from no hidden tip", and no others
   pub list : List Id
   pub no_repeats : NoDup list
@@ -140,10 +138,10 @@ pub record Shut (c : Call) : Type 0 where
 -- of an opening with the input i and the lent memory m, whatever it gave back (o, and memory left as m'), and every list of next calls after it
 pub record ThirdDemand (i : Input) (m : Lent) : Type 0 where
   -- none of 1 to 6 applies, and the premises hold
-  pub demanded : (o : Opened) (m' : Lent) → OpenSays i m o m' → refusal i ≡ none → room_for i (lengths_of m) ≡ true → Premises (walk_of i) (list_ids (width_in i) i.tips) → Delivered i o m'
+  pub demanded : (o : Opened) (m' : Lent) → OpenSays i m o m' → refusal i ≡ None → room_for i (lengths_of m) ≡ true → Premises (walk_of i) (list_ids (width_in i) i.tips) → Delivered i o m'
   -- any accepted opening
-  pub accepted-calls : (o : Opened) (m' : Lent) → OpenSays i m o m' → o.answer.outcome ≡ Accepted
+  pub accepted-calls : (o : Opened) (m' : Lent) → OpenSays i m o m' → o.answer.outcome ≡ (Ok tt)
       → (cs : List Call) → Calls (files_of i) o.record m' cs → AnyCalls i cs
   -- any refused opening, and calls with any files
-  pub refused-calls : (o : Opened) (m' : Lent) → OpenSays i m o m' → (r : Refusal) → o.answer.outcome ≡ NotOpened r
+  pub refused-calls : (o : Opened) (m' : Lent) → OpenSays i m o m' → (r : Refusal) → o.answer.outcome ≡ Err r
       → (f : Files) (cs : List Call) → Calls f o.record m' cs → (k : ℕ) (c : Call) → CallIs cs k c → Shut c

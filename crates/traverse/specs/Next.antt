@@ -1,17 +1,20 @@
 -- What the functions of a next call promise (document 01: A next call, and what follows its table). Assumes nothing.
-use Rattle.std.specs.Prelude.{ℕ, suc, ◌≤◌, ◌≡◌, Bool, true, false, List, length}
+use Rattle.std.specs.Prelude.{None, ℕ, suc, ◌≤◌, ◌≡◌, Bool, true, false, List, length}
 use Rattle.walk.specs.declared.Settings.{Settings}
 use Rattle.walk.specs.declared.Refusal.TheVariants.{Closed}
-use Rattle.walk.specs.declared.Outcome.TheVariants.{Refused}
+use Rattle.walk.specs.declared.Outcome.TheVariants.{End, Refused}
 use Rattle.walk.specs.State.{State}
 use Rattle.hash.specs.declared.Kind.{Kind}
 use Rattle.walk.specs.Opening.{parents_room, Input, Lengths, P, room_for, open_walk, opened}
 use Rattle.walk.specs.Calls.{state_after, answer_at_call}
-use Rattle.walk.specs.Given.{given, parents_given}
+use Rattle.walk.specs.Given.{no_id, given, parents_given}
 use Rattle.state.specs.declared.Record.{Record}
 use Rattle.state.specs.Reads.{Reads}
 use Rattle.state.specs.Shapes.{shape_of}
 use Rattle.visit.specs.declared.next.Taken.{Taken}
+use Rattle.visit.specs.Taking.{gave}
+use Rattle.painting.specs.declared.PaintError.{PaintError}
+use Rattle.painting.specs.declared.PaintError.TheVariants as painting
 use Rattle.traverse.specs.declared.Out.{Out}
 use Rattle.traverse.specs.Contract.{Files, input_with, Lent, lengths_of, closed_answer, OfPaper}
 use Rattle.hash.specs.Bytes.{width_of}
@@ -32,6 +35,11 @@ pub record GivesBack (t : Taken) (o : Out) : Type 0 where
 -- "12 alters nothing"
 abbrev pub shut_with : Record → Taken
 shut_with r = record { answer = closed_answer; after = r }
+
+-- what painting that does not go on gives back: its refusal, or the end of the walk
+abbrev pub stops : Record → PaintError → Taken
+stops r (painting.Refused why r') = gave (Refused why) no_id 0 None None None r'
+stops r painting.Touched = gave End no_id 0 None None None r
 
 -- a call that is not closed, with a record that says so of painting: on untouched memory the walk's answer, its parents and its next state;
 -- and on any bytes an answer of document 01 other than 12

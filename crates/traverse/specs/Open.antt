@@ -1,6 +1,6 @@
 -- The tips of an opening one after another, and what the functions of an opening promise (document 01: Opening). Assumes nothing.
-use Rattle.std.specs.Prelude.{ℕ, suc, ◌/◌, ◌≤◌, ◌<◌, ◌≡◌, true, false, cond, ◌||◌, length, ℤ, pos}
-use Rattle.std.proofs.Math.Option.{none}
+use Rattle.std.specs.Prelude.{ℕ, suc, ◌/◌, ◌≤◌, ◌<◌, ◌≡◌, true, false, cond, ◌||◌, length, ℤ, pos, Err, None, Ok, Option, Result, Some}
+use Rattle.date.specs.declared.Seconds.{Seconds}
 use mathlib.Core.List.{List, [], ◌∷◌, Memᴰ}
 use Rattle.hash.specs.Bytes.{Id, width_of, among}
 use Rattle.odb.specs.Store.{store_is_ok}
@@ -11,18 +11,14 @@ use Rattle.walk.specs.Lookup.{World, world_of}
 use Rattle.walk.specs.State.{Walk, State, empty_state, sees, waits}
 use Rattle.walk.specs.Opening.{Input, list_ids, P, walk_of, refusal, closed, opened, width_in}
 use Rattle.walk.specs.Given.{open_given}
-use Rattle.reading.specs.declared.tip.TipRead.{TipRead}
-use Rattle.reading.specs.declared.tip.TipRead.TheVariants.{Good, Missing, Unreadable}
+use Rattle.reading.specs.declared.tip.TipError.{TipError}
 use Rattle.reading.specs.Tip.{tip_of}
 use Rattle.state.specs.declared.Record.{Record}
-use Rattle.state.specs.declared.Seen.{Seen}
 use Rattle.state.specs.Reads.{Memory, Shape, Reads, Universe, closed_record}
 use Rattle.state.specs.declared.Fixed.{Fixed}
 use Rattle.state.specs.Shapes.{shape_for, shape_of}
 use Rattle.state.specs.Steps as steps
 use Rattle.traverse.specs.declared.Opened.{Opened}
-use Rattle.traverse.specs.declared.open.Admission.{Admission}
-use Rattle.traverse.specs.declared.open.Admission.TheVariants.{Admitted, OnlySeen}
 use Rattle.traverse.specs.Contract.{Lent}
 
 abbrev pub lent_of : List ℕ → List ℕ → List ℕ → List ℤ → List ℕ → List ℕ → Lent
@@ -31,18 +27,17 @@ lent_of names marks levels times line parents = record { memory = steps.mem name
 -- ---- one tip of the walk
 
 -- "under a cutoff it stays if seconds ≥ cutoff", of a tip that reads so; one that cannot be read refuses the opening before
-abbrev pub read_as : Sorting → TipRead → Admission
-read_as o (Good s) = cond (not_before (cutoff_of o) s.0) (Admitted s) OnlySeen
-read_as o Missing = OnlySeen
-read_as o Unreadable = OnlySeen
+abbrev pub read_as : Sorting → Result Seconds TipError → Option Seconds
+read_as o (Ok s) = cond (not_before (cutoff_of o) s.0) (Some s) None
+read_as o (Err e) = None
 
 -- "Under a time order each remaining tip is read from the book alone"
-unfoldable pub admission_of : World → Sorting → Id → Admission
-admission_of w o x = cond (timed o) (read_as o (tip_of (w.store x))) (Admitted (record { 0 = pos 0 }))
+unfoldable pub admission_of : World → Sorting → Id → Option Seconds
+admission_of w o x = cond (timed o) (read_as o (tip_of (w.store x))) (Some (record { 0 = pos 0 }))
 
-abbrev pub in_as : Walk → State → Id → Admission → State
-in_as w st x (Admitted t) = waits w st x t.0
-in_as w st x OnlySeen = sees st x
+abbrev pub in_as : Walk → State → Id → Option Seconds → State
+in_as w st x (Some t) = waits w st x t.0
+in_as w st x None = sees st x
 
 -- "Tips lose repeats and barred ids; the rest are seen"
 unfoldable pub tip_in : Walk → State → Id → State
@@ -75,12 +70,12 @@ pub record Kept (r : Record) (times times' : List ℤ) (line line' : List ℕ) (
   pub same_line : line' ≡ line
 
 -- add_to_queue, with its answer r'
-pub record Admits (r : Record) (times times' : List ℤ) (line line' : List ℕ) (a : Seen) (how : Admission) (r' : Record) : Type 0 where
+pub record Admits (r : Record) (times times' : List ℤ) (line line' : List ℕ) (a : Option ℕ) (how : Option Seconds) (r' : Record) : Type 0 where
   pub long-times : length times' ≡ length times
   pub long-line : length line' ≡ length line
-  pub repeat : a.fresh ≡ false → Kept r times times' line line' r'
-  pub turned : how ≡ OnlySeen → Kept r times times' line line' r'
-  pub joins : a.fresh ≡ true → (t : ℤ) → how ≡ Admitted (record { 0 = t }) → steps.Waits r times times' line line' a.slot t r'
+  pub repeat : a ≡ None → Kept r times times' line line' r'
+  pub turned : how ≡ None → Kept r times times' line line' r'
+  pub joins : (slot : ℕ) → a ≡ Some slot → (t : ℤ) → how ≡ Some (record { 0 = t }) → steps.Waits r times times' line line' slot t r'
 
 -- a walk over these files, with ids so wide
 abbrev pub Over : ℕ → List ℕ → List ℕ → Sorting → Walk → Type 0
@@ -101,7 +96,7 @@ pub record TakesTips (width : ℕ) (store tips excluded : List ℕ) (o : Sorting
 -- fill, with its answer r': the memory reads as the walk's first state
 pub record Fills (i : Input) (m m' : Memory) (r' : Record) : Type 0 where
   pub long : SameLengths m m'
-  pub filled : refusal i ≡ none → steps.Lent (width_in i) m.names m.marks m.times m.line (P i)
+  pub filled : refusal i ≡ None → steps.Lent (width_in i) m.names m.marks m.times m.line (P i)
       → Reads r' m' (shape_of i) (tips_all (walk_of i) (list_ids (width_in i) i.tips) empty_state)
 
 pub record Refuses (r : Refusal) (o : Opened) : Type 0 where

@@ -1,23 +1,19 @@
 // A next call: the first of a walk paints, and each takes the next commit of the queue. The record of counters comes and goes by value.
-ghost use Rattle.std.specs.Prelude.{◌≡◌, false, length};
+ghost use Rattle.std.specs.Prelude.{◌≡◌, false, length, None};
 ghost use Rattle.walk.specs.declared.Outcome.TheVariants.{Refused};
-ghost use Rattle.walk.specs.declared.MaybeLevel.TheVariants.{NoGeneration};
-ghost use Rattle.walk.specs.declared.MaybeSeconds.TheVariants.{NoTime};
-ghost use Rattle.date.specs.declared.Zone.TheVariants.{NoZone};
 ghost use Rattle.walk.specs.Given.{no_id};
 ghost use Rattle.opening.specs.Checks.{lengths_of};
 ghost use Rattle.visit.specs.Taking.{gave};
 ghost use Rattle.traverse.specs.Contract.{NextSays};
 ghost use Rattle.traverse.specs.Open.{lent_of};
-ghost use Rattle.traverse.specs.Next.{files_lent, Whole, GivesBack, shut_with, Goes};
+ghost use Rattle.traverse.specs.Next.{files_lent, Whole, GivesBack, shut_with, stops, Goes};
 
 use super::Out;
-use date::Zone;
 use hash::Kind;
-use painting::Painted;
+use painting::PaintError;
 use state::Record;
 use visit::Taken;
-use walk::{Answer, Info, MaybeLevel, MaybeSeconds, Outcome, Refusal, Settings};
+use walk::{Answer, Info, Outcome, Refusal, Settings};
 
 // Whether the record is open, and every lent buffer has its size for the record's places.
 pub fn is_whole(
@@ -50,14 +46,14 @@ pub fn is_whole(
 
 // What an answer without a commit says of one.
 fn no_commit() -> Info
-    ensures { result ≡ record { id = no_id; parents = 0; generation = NoGeneration; time = NoTime; zone = NoZone } }
+    ensures { result ≡ record { id = no_id; parents = 0; generation = None; time = None; zone = None } }
 {
     Info {
         id: [0u8; 32],
         parents: 0,
-        generation: MaybeLevel::NoGeneration,
-        time: MaybeSeconds::NoTime,
-        zone: Zone::NoZone,
+        generation: None,
+        time: None,
+        zone: None,
     }
 }
 
@@ -79,7 +75,7 @@ fn closed(r: Record) -> Out
 
 // An answer that carries no id, level, seconds or parents, with the running numbers of a record.
 fn bare(outcome: Outcome, r: Record) -> Out
-    ensures { GivesBack (gave outcome no_id 0 NoGeneration NoTime NoZone r) result }
+    ensures { GivesBack (gave outcome no_id 0 None None None r) result }
 {
     let q = r.queue;
     Out {
@@ -103,6 +99,19 @@ fn after(t: Taken) -> Out
     Out { answer, record: r }
 }
 
+// What painting that does not go on gives back: its refusal, or the end where the memory was seen to be touched.
+fn stopped(e: PaintError, r: Record) -> Out
+    ensures { GivesBack (stops r e) result }
+{
+    match e {
+        PaintError::Refused {
+            why,
+            after: painted,
+        } => bare(Outcome::Refused(why), painted),
+        PaintError::Touched => bare(Outcome::End, r),
+    }
+}
+
 // The first call: it paints, and then the next commit is taken; a refusal in painting is given once. Memory that is seen to be touched ends the
 // walk.
 fn first_call(
@@ -124,11 +133,10 @@ fn first_call(
     match painting::compute_hidden_frontier(
         record, graph, store, names, marks, levels, times, line, hidden,
     ) {
-        Painted::Done(r) => after(visit::next_by_topology_or_commit_date(
+        Ok(r) => after(visit::next_by_topology_or_commit_date(
             r, graph, store, names, marks, levels, times, line, parents, excluded, settings,
         )),
-        Painted::Refused { why, after: r } => bare(Outcome::Refused(why), r),
-        Painted::Touched => bare(Outcome::End, record),
+        Err(e) => stopped(e, record),
     }
 }
 

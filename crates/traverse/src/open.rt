@@ -15,18 +15,10 @@ use super::Opened;
 use commitgraph::Layout;
 use date::Seconds;
 use hash::Kind;
-use opening::Checked;
-use reading::TipRead;
+use reading::TipError;
 use revwalk::queue::Queue;
-use state::{Fixed, Record, Seen};
-use walk::{CommitTimeOrder, OpenAnswer, OpenOutcome, Parents, Refusal, Settings, Sorting};
-
-// How a tip that is neither excluded nor a repeat comes in: it waits, with its seconds, or a cutoff turns it away and it is only seen.
-#[derive(Clone, Copy)]
-pub enum Admission {
-    Admitted(Seconds),
-    OnlySeen,
-}
+use state::{Fixed, Record};
+use walk::{CommitTimeOrder, OpenAnswer, Parents, Refusal, Settings, Sorting};
 
 // Whether the queue keeps a time order: in the mode First it does not.
 fn is_by_time(settings: Settings) -> bool
@@ -61,28 +53,21 @@ fn takes_newest(sorting: Sorting) -> bool
 }
 
 // How a tip that was read comes in.
-fn read_as(sorting: Sorting, read: TipRead) -> Admission
+fn read_as(sorting: Sorting, read: Result<Seconds, TipError>) -> Option<Seconds>
     ensures { result ≡ read_as sorting read }
 {
     match read {
-        TipRead::Good(s) => {
-            if walk::within_cutoff_time(sorting, s) {
-                Admission::Admitted(s)
-            } else {
-                Admission::OnlySeen
-            }
-        }
-        TipRead::Missing => Admission::OnlySeen,
-        TipRead::Unreadable => Admission::OnlySeen,
+        Ok(s) if walk::within_cutoff_time(sorting, s) => Some(s),
+        _ => None,
     }
 }
 
 // How a tip comes in: under a time order it is read, from the store alone.
-fn tip_admission(kind: Kind, store: &[u8], sorting: Sorting, id: &[u8]) -> Admission
+fn tip_admission(kind: Kind, store: &[u8], sorting: Sorting, id: &[u8]) -> Option<Seconds>
     ensures { store_is_ok (width_of kind) store.now ≡ true → (graph : List ℕ) → result ≡ admission_of (world_of (width_of kind) store.now graph) sorting id.now }
 {
     if !walk::is_timed(sorting) {
-        return Admission::Admitted(Seconds(0));
+        return Some(Seconds(0));
     }
     read_as(sorting, reading::read_tip(kind, store, id))
 }
@@ -92,17 +77,17 @@ fn add_to_queue(
     r: Record,
     times: &mut [i64],
     line: &mut [u32],
-    seen: Seen,
-    how: Admission,
+    seen: Option<usize>,
+    how: Option<Seconds>,
 ) -> Record
     ensures { Admits r times.old times.new line.old line.new seen how result }
 {
-    if !seen.fresh {
+    let Some(slot) = seen else {
         return r;
-    }
+    };
     match how {
-        Admission::Admitted(s) => state::wait(r, times, line, seen.slot, s),
-        Admission::OnlySeen => r,
+        Some(s) => state::wait(r, times, line, slot, s),
+        None => r,
     }
 }
 
@@ -151,13 +136,11 @@ fn filtered(
 {
     let n = hash::ids_in(kind, tips.len());
     let mut r = first;
-    let mut k = 0;
-    while k < n {
+    for k in 0..n {
         let id = hash::nth(kind, tips, k);
         r = take_tip(
             kind, r, names, marks, times, line, store, excluded, sorting, id,
         );
-        k += 1;
     }
     r
 }
@@ -248,7 +231,7 @@ fn refused_open(r: Refusal) -> Opened
 {
     Opened {
         answer: OpenAnswer {
-            outcome: OpenOutcome::NotOpened(r),
+            outcome: Err(r),
             admitted: 0,
             struck: 0,
             waiting: 0,
@@ -264,7 +247,7 @@ fn accepted_open(r: Record) -> Opened
     let q = r.queue;
     Opened {
         answer: OpenAnswer {
-            outcome: OpenOutcome::Accepted,
+            outcome: Ok(()),
             admitted: r.admitted,
             struck: r.struck,
             waiting: q.count,
@@ -276,10 +259,8 @@ fn accepted_open(r: Record) -> Opened
 // Sets each position that a call may look for beside a slot to 0, so that no call reads memory that nobody has written to. (Any number would do:
 // nothing is promised of levels.)
 fn clear_notes(levels: &mut [u32]) {
-    let mut slot = 0;
-    while slot < levels.len() {
+    for slot in 0..levels.len() {
         levels[slot] = 0;
-        slot += 1;
     }
 }
 
@@ -314,8 +295,8 @@ pub fn open(
         line.len(),
         parents.len(),
     ) {
-        Checked::Refused(r) => refused_open(r),
-        Checked::Fine => {
+        Err(r) => refused_open(r),
+        Ok(()) => {
             clear_notes(levels);
             accepted_open(fill(
                 store, graph, tips, hidden, excluded, settings, names, marks, times, line,

@@ -3,14 +3,11 @@
 // stands its own length, at most 65,536. tools/make_vectors.py makes them.
 #![tactic(auto)]
 
-use actor::StampRead;
-use commit::{Cache, Either};
-use commitgraph::parents::ParentList;
-use commitgraph::rows::Position;
+use commit::Either;
 use commitgraph::{Layout, parents, rows};
-use date::{Seconds, Stamp, Zone};
+use date::{Seconds, Stamp};
 use hash::Kind;
-use object::{Line, Reading};
+use object::{HeaderError, ReadableHeader};
 use odb::Located;
 use std::io;
 
@@ -28,18 +25,15 @@ fn spaced(rt: &impl Print, n: usize) -> io::Result<()> {
 }
 
 fn seconds(rt: &impl Print, s: Seconds) -> io::Result<()> {
-    if date::is_negative(s) {
-        text(rt, b"-")?;
-    }
-    host::print_decimal(rt, date::magnitude(s))
+    print!(rt; "{}", s.0)
 }
 
 // A committer reading: the seconds, and the zone in signed minutes.
-fn zone(rt: &impl Print, z: Zone) -> io::Result<()> {
+fn zone(rt: &impl Print, z: Option<i64>) -> io::Result<()> {
     text(rt, b" zone ")?;
     match z {
-        Zone::Minutes(m) => seconds(rt, Seconds(m)),
-        Zone::NoZone => text(rt, b"none"),
+        Some(m) => seconds(rt, Seconds(m)),
+        None => text(rt, b"none"),
     }
 }
 
@@ -50,15 +44,9 @@ fn stamp(rt: &impl Print, s: Stamp) -> io::Result<()> {
     zone(rt, beside)
 }
 
-fn byte(rt: &impl Print, b: u8) -> io::Result<()> {
-    host::print_hex(rt, b as u64, 2)
-}
-
 fn hex(rt: &impl Print, s: &[u8]) -> io::Result<()> {
-    for i in 0..s.len() {
-        byte(rt, s[i])?;
-    }
-    text(rt, b"\n")
+    host::print_bytes(rt, s)?;
+    println!(rt;)
 }
 
 // ---- the commit store
@@ -99,30 +87,29 @@ fn store_case(rt: &impl Print, store: &[u8], ids: &[u8]) -> io::Result<()> {
 
 fn reading(rt: &impl Print, body: &[u8]) -> io::Result<()> {
     match object::readable(Kind::Sha1, body) {
-        Reading::Readable { parents, stamp: s } => {
+        Ok(ReadableHeader { parents, stamp: s }) => {
             text(rt, b"readable")?;
             spaced(rt, parents)?;
             text(rt, b" ")?;
             stamp(rt, s)?;
             text(rt, b"\n")
         }
-        Reading::Bad => text(rt, b"bad\n"),
-        Reading::Crowded => text(rt, b"crowded\n"),
+        Err(HeaderError::Bad) => text(rt, b"bad\n"),
+        Err(HeaderError::Crowded) => text(rt, b"crowded\n"),
     }
 }
 
 fn parent_at(rt: &impl Print, body: &[u8], at: usize) -> io::Result<()> {
-    let p = object::parent_line(Kind::Sha1, body, at);
-    if p.good {
+    if let Some(id) = object::parent_line(Kind::Sha1, body, at) {
         text(rt, b"parent ")?;
-        hex(rt, object::id_slice(Kind::Sha1, &p.id.bytes))?;
+        hex(rt, object::id_slice(Kind::Sha1, &id.bytes))?;
     }
     Ok(())
 }
 
 // The first and the last parent line.
 fn parent_lines(rt: &impl Print, body: &[u8]) -> io::Result<()> {
-    let Line::Good(at) = object::tree_line(Kind::Sha1, body, 0) else {
+    let Some(at) = object::tree_line(Kind::Sha1, body, 0) else {
         return Ok(());
     };
     parent_at(rt, body, at)?;
@@ -141,11 +128,11 @@ fn header_case(rt: &impl Print, body: &[u8]) -> io::Result<()> {
     parent_lines(rt, body)?;
     text(rt, b"seconds ")?;
     match object::stamp_only(Kind::Sha1, body) {
-        StampRead::Good(s) => {
+        Some(s) => {
             stamp(rt, s)?;
             text(rt, b"\n")
         }
-        StampRead::Bad => text(rt, b"bad\n"),
+        None => text(rt, b"bad\n"),
     }
 }
 
@@ -169,15 +156,15 @@ fn row(rt: &impl Print, graph: &[u8], l: Layout, p: usize) -> io::Result<()> {
     seconds(rt, rows::seconds(Kind::Sha1, graph, l, p))?;
     text(rt, b" parents ")?;
     match parents::parents(Kind::Sha1, graph, l, p) {
-        ParentList::Good(n) => positions(rt, graph, l, p, n),
-        ParentList::Corrupt => text(rt, b"corrupt\n"),
+        Some(n) => positions(rt, graph, l, p, n),
+        None => text(rt, b"corrupt\n"),
     }
 }
 
 fn graph_id(rt: &impl Print, graph: &[u8], l: Layout, id: &[u8]) -> io::Result<()> {
     match rows::lookup(Kind::Sha1, graph, l, id) {
-        Position::At(p) => row(rt, graph, l, p),
-        Position::Absent => text(rt, b"absent\n"),
+        Some(p) => row(rt, graph, l, p),
+        None => text(rt, b"absent\n"),
     }
 }
 
@@ -219,7 +206,7 @@ fn found<'a>(rt: &impl Print, at: Either, graph: &'a [u8], store: &'a [u8]) -> i
 // Each id is looked for with another position tried first: the answer does not depend on it.
 fn find_ids<'a>(
     rt: &impl Print,
-    cache: Cache,
+    cache: Option<Layout>,
     graph: &'a [u8],
     store: &'a [u8],
     ids: &[u8],
@@ -246,9 +233,9 @@ fn find_ids<'a>(
 fn find_case<'a>(rt: &impl Print, graph: &'a [u8], store: &'a [u8], ids: &[u8]) -> io::Result<()> {
     let l = commitgraph::parse(Kind::Sha1, graph);
     if graph.len() == 0 {
-        find_ids(rt, Cache::NoGraph, graph, store, ids)?;
+        find_ids(rt, None, graph, store, ids)?;
     } else {
-        find_ids(rt, Cache::Graph(l), graph, store, ids)?;
+        find_ids(rt, Some(l), graph, store, ids)?;
     }
     Ok(())
 }

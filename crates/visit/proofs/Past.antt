@@ -1,5 +1,7 @@
 -- What is set down stays inside the ids that are counted, and the answer has one of document 01's shapes, on any bytes: an id of at most its
 -- kind's bytes changes nothing past its own place, and at most 256 parents come out of either file. Assumes nothing.
+use Rattle.std.specs.Prelude.{None, Option, ℤ}
+use Rattle.date.specs.declared.Seconds.{Seconds}
 use mathlib.Core.Path.{◌≡◌, refl}
 use Prim.Native.Nat.{ℕ, ◌≤◌}
 use mathlib.Core.List.{List}
@@ -10,13 +12,8 @@ use Rattle.object.specs.Header.{most}
 use Rattle.walk.specs.declared.Outcome.TheVariants.{End, Refused}
 use Rattle.walk.specs.declared.Refusal.{Refusal}
 use Rattle.walk.specs.declared.Refusal.TheVariants.{CommitNotFound, CommitUnreadable, TooManyParents}
-use Rattle.walk.specs.declared.MaybeLevel.TheVariants.{NoGeneration}
-use Rattle.walk.specs.declared.MaybeSeconds.{MaybeSeconds}
-use Rattle.walk.specs.declared.MaybeSeconds.TheVariants.{NoTime}
 use Rattle.walk.specs.AnyInput.{OfCall}
 use Rattle.walk.specs.Given.{no_id}
-use Rattle.date.specs.declared.Zone.{Zone}
-use Rattle.date.specs.declared.Zone.TheVariants.{NoZone}
 use Rattle.reading.specs.declared.body.BodyEnd.{BodyEnd}
 use Rattle.reading.specs.declared.body.BodyEnd.TheVariants.{Whole, Unreadable, Crowded}
 use Rattle.state.specs.declared.Record.{Record}
@@ -26,10 +23,10 @@ use Rattle.visit.specs.Taking.{gave, end_given}
 
 -- ---- the shape of an answer
 
-pub plain_end : {width : ℕ} {b : List ℕ} (r : Record) → Plain width b b (gave End no_id 0 NoGeneration NoTime NoZone r).answer
+pub plain_end : {width : ℕ} {b : List ℕ} (r : Record) → Plain width b b (gave End no_id 0 None None None r).answer
 plain_end r = record { shape = (record { no-id = refl; no-generation = refl; no-time = refl; no-zone = refl }, refl); few = omega arith; past = λ k h. refl }
 
-pub plain-bare : {width : ℕ} {b b' : List ℕ} {why : Refusal} {n : ℕ} (r : Record) → OfCall why → Counted why n → n ≤ most → Past width n b b' → Plain width b b' (gave (Refused why) no_id n NoGeneration NoTime NoZone r).answer
+pub plain-bare : {width : ℕ} {b b' : List ℕ} {why : Refusal} {n : ℕ} (r : Record) → OfCall why → Counted why n → n ≤ most → Past width n b b' → Plain width b b' (gave (Refused why) no_id n None None None r).answer
 plain-bare r c m h p = record { shape = (record { no-id = refl; no-generation = refl; no-time = refl; no-zone = refl }, c, m); few = h; past = p.same }
 
 -- 9
@@ -45,7 +42,7 @@ counted-many : {n : ℕ} → n ≡ most → Counted TooManyParents n
 counted-many h = record { lost = λ e. let z : ◌≡◌ {A = ℕ} 0 1 = cc in absurd (omega arith); crowded = λ e. h }
 
 -- after a body's parents
-pub plain-ends : {width : ℕ} {b b' : List ℕ} {n : ℕ} (e : BodyEnd) (x : Id) (t : MaybeSeconds) (z : Zone) (r : Record) → length x ≡ width → (e ≡ Crowded → n ≡ most) → n ≤ most → Past width n b b' → Plain width b b' (end_given e x n t z r).answer
+pub plain-ends : {width : ℕ} {b b' : List ℕ} {n : ℕ} (e : BodyEnd) (x : Id) (t : Option Seconds) (z : Option ℤ) (r : Record) → length x ≡ width → (e ≡ Crowded → n ≡ most) → n ≤ most → Past width n b b' → Plain width b b' (end_given e x n t z r).answer
 plain-ends Whole x t z r w m h p = record { shape = (x, w, refl); few = h; past = p.same }
 plain-ends Unreadable x t z r w m h p = plain-bare r (omega arith, omega arith) counted-bad h p
 plain-ends Crowded x t z r w m h p = plain-bare r (omega arith, omega arith) (counted-many (m refl)) h p

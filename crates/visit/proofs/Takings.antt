@@ -1,16 +1,16 @@
 -- Taking the next commit is the walk's own step: the row or the body that the two files have decides its case, the visits give its state, and the
 -- running numbers are those that the record reads as. Assumes nothing.
+use Rattle.std.specs.Prelude.{None, Option, Some}
 use mathlib.Core.Path.{◌≡◌, refl, sym, ap, ◌∙◌, subst}
 use Prim.Native.Nat.{ℕ, ◌+◌, ◌-◌, ◌≤◌, ◌<◌}
 use mathlib.Core.Bool.{Bool, true, false, cond, ◌||◌}
-use mathlib.Core.Option.{Option, none, some}
 use mathlib.Core.List.{List, [], ◌∷◌, map, Memᴰ}
 use native.Mathlib.Omega.{arith}
 use lib.ListN.{length, take, get_or, length-map}
 use lib.IntN.{ℤ}
 use Rattle.hash.specs.Bytes.{Id, width_of, set_down}
 use Rattle.hash.specs.declared.Kind as Kinds
-use Rattle.hash.proofs.Tests.{by_cases, clash}
+use Rattle.hash.proofs.Tests.{by_cases, clash, no-some, some_in}
 use Rattle.date.specs.declared.Seconds.{Seconds}
 use Rattle.object.specs.Ids.{padded, id_in}
 use Rattle.object.specs.Header.{Header, header, most}
@@ -27,16 +27,9 @@ use Rattle.walk.specs.declared.Outcome.{Outcome}
 use Rattle.walk.specs.declared.Outcome.TheVariants.{Commit, End, Refused}
 use Rattle.walk.specs.declared.Refusal.{Refusal}
 use Rattle.walk.specs.declared.Refusal.TheVariants.{CommitNotFound, CommitUnreadable, TooManyParents}
-use Rattle.walk.specs.declared.MaybeLevel.{MaybeLevel}
-use Rattle.walk.specs.declared.MaybeLevel.TheVariants.{NoGeneration}
-use Rattle.walk.specs.declared.MaybeSeconds.{MaybeSeconds}
-use Rattle.walk.specs.declared.MaybeSeconds.TheVariants.{Time, NoTime}
 use Rattle.walk.specs.Settings.{followed, by_time}
 use Rattle.walk.specs.Lookup.{seconds_for, World, Row, row, no_row, row_at, world_of}
 use Rattle.walk.specs.State.{Walk, State, with_queue, is_empty}
-use Rattle.object.specs.Read.{zone_given}
-use Rattle.date.specs.declared.Zone.{Zone}
-use Rattle.date.specs.declared.Zone.TheVariants.{NoZone}
 use Rattle.walk.specs.Next.{Kind, end, refused, handed, level_shown, Step, step, zoned, zone_shown, visit_all, with_seconds, queued_seconds, ending, kind_of, step_from_row, from_body, take_store, dropped, back, take_row, take_queue, take_next}
 use Rattle.walk.specs.Given.{no_id, outcome_of, id_of_kind, level_given, level_of_kind, seconds_of_kind, seconds_given, joined, given, parents_given}
 use Rattle.walk.proofs.Take.{followed_sub, followed_map, mem_map, with_seconds_lem}
@@ -45,14 +38,11 @@ use Rattle.reading.specs.declared.body.BodyEnd.{BodyEnd}
 use Rattle.reading.specs.declared.body.BodyEnd.TheVariants.{Whole, Unreadable, Crowded}
 use Rattle.commit.specs.Find.{GoodCache, found_in, FindsCommit, part_in_store}
 use Rattle.commit.proofs.Parts.{found-slice}
-use Rattle.commit.specs.declared.Cache.{Cache}
-use Rattle.commit.specs.declared.Cache.TheVariants.{Graph}
 use Rattle.commit.specs.declared.Either.{Either}
 use Rattle.commit.specs.declared.Either.TheVariants.{CachedCommit, CommitRefIter, Absent as Either-as-Absent}
 use Rattle.reading.specs.Files.{cache_with, cache_of, world_under}
-use Rattle.reading.specs.Row.{level_of, row_read_of}
+use Rattle.reading.specs.Row.{row_with, level_of, row_read_of}
 use Rattle.reading.specs.declared.row.RowRead.{RowRead}
-use Rattle.reading.specs.declared.row.RowRead.TheVariants.{Corrupt, Row as RowAt}
 use Rattle.reading.proofs.Down.{set_down-none}
 use Rattle.reading.proofs.World.{located_body, located_none, good-cache, kept-world, dropped-world, same_store, found-row, found-body, found-absent}
 use Rattle.reading.proofs.Rows.{row-few, row_is, row-torn, row-counted}
@@ -71,9 +61,8 @@ use Rattle.visit.specs.declared.next.Taken.{Taken}
 use Rattle.links.specs.Link.{GoesBy, Ready}
 use Rattle.links.specs.Visits.{VisitsAll}
 use Rattle.links.proofs.Visits.{past-none}
-use Rattle.rowvisit.specs.Row.{Follows, VisitsRow, VisitedBy, VisitsCached}
+use Rattle.rowvisit.specs.Row.{visited, Follows, VisitsRow, VisitedBy, VisitsCached}
 use Rattle.rowvisit.specs.declared.row.RowVisited.{RowVisited}
-use Rattle.rowvisit.specs.declared.row.RowVisited.TheVariants.{Visited, Corrupt as RowVisited-as-Corrupt}
 use Rattle.bodyvisit.specs.Body.{VisitsBody, stored}
 use Rattle.visit.specs.Taking.{gave, time_given, end_given, EndsBody, Rests, Gives, InRows, InStore, Popped, TakesBody, TakesStored, TakesCached, TakesNext}
 use Rattle.visit.specs.Plain.{Plain}
@@ -83,14 +72,14 @@ use Rattle.bodyvisit.proofs.Bodies.{followed_take, crowded-followed, seconds-sto
 -- ---- an answer as the code gives it
 
 module _ {sh : Shape} {m m' : Memory} {b b' : List ℕ} {r : Record} {st : State} where
-  pub gives-zoned : (k : Kind) (ps : List Id) (y : Option ℤ) {o : Outcome} {x : Id} {n : ℕ} {l : MaybeLevel} {t : MaybeSeconds} → Reads r m' sh st → o ≡ outcome_of k → x ≡ id_of_kind k → n ≡ length ps
+  pub gives-zoned : (k : Kind) (ps : List Id) (y : Option ℤ) {o : Outcome} {x : Id} {n : ℕ} {l : Option Level} {t : Option Seconds} → Reads r m' sh st → o ≡ outcome_of k → x ≡ id_of_kind k → n ≡ length ps
       → l ≡ level_of_kind k → t ≡ seconds_of_kind k → b' ≡ set_down b 0 (joined ps) → ((j : ℕ) → sh.cap + sh.cap ≤ j → get_or m'.line j 0 ≡ get_or m.line j 0)
-      → Gives sh m m' b b' (gave o x n l t (zone_given y) r) (zoned y (step k ps st))
+      → Gives sh m m' b b' (gave o x n l t y r) (zoned y (step k ps st))
   unfolding given step parents_given
   gives-zoned k ps y g o x n l t d w = record {
     answer = λ i. record {
       outcome = o i;
-      info = record { id = x i; parents = n i; generation = l i; time = t i; zone = zone_given y };
+      info = record { id = x i; parents = n i; generation = l i; time = t i; zone = y };
       admitted = sym g.admitted i;
       struck = sym g.struck i;
       waiting = sym (queue-length g) i;
@@ -100,10 +89,10 @@ module _ {sh : Shape} {m m' : Memory} {b b' : List ℕ} {r : Record} {st : State
     line_kept = w;
   }
 
-  pub gives-step : (k : Kind) (ps : List Id) {o : Outcome} {x : Id} {n : ℕ} {l : MaybeLevel} {t : MaybeSeconds} → Reads r m' sh st → o ≡ outcome_of k → x ≡ id_of_kind k → n ≡ length ps → l ≡ level_of_kind k
-      → t ≡ seconds_of_kind k → b' ≡ set_down b 0 (joined ps) → ((j : ℕ) → sh.cap + sh.cap ≤ j → get_or m'.line j 0 ≡ get_or m.line j 0) → Gives sh m m' b b' (gave o x n l t NoZone r) (step k ps st)
+  pub gives-step : (k : Kind) (ps : List Id) {o : Outcome} {x : Id} {n : ℕ} {l : Option Level} {t : Option Seconds} → Reads r m' sh st → o ≡ outcome_of k → x ≡ id_of_kind k → n ≡ length ps → l ≡ level_of_kind k
+      → t ≡ seconds_of_kind k → b' ≡ set_down b 0 (joined ps) → ((j : ℕ) → sh.cap + sh.cap ≤ j → get_or m'.line j 0 ≡ get_or m.line j 0) → Gives sh m m' b b' (gave o x n l t None r) (step k ps st)
   unfolding step
-  gives-step k ps g o x n l t d w = gives-zoned k ps none g o x n l t d w
+  gives-step k ps g o x n l t d w = gives-zoned k ps None g o x n l t d w
 
 -- the seconds that a commit was queued with
 pub time-right : {v : Walk} {sh : Shape} {excluded : List ℕ} {settings : Settings} {r : Record} {m : Memory} {st : State} → GoesBy v sh excluded settings → Reads r m sh st → (s : Seconds) (t : ℤ)
@@ -116,11 +105,11 @@ time-right {v} {sh} {excluded} {settings} {r} by g s t e =
     (λ k.
     let h : r.queue.timed ≡ true = g.timed ∙ k in
     let i : by_time v.settings ≡ true = q ∙ sym p ∙ k in
-    ap (λ (c : Bool). time_given c s) h ∙ ap (λ (z : ℤ). Time (record { 0 = z })) (e k) ∙ ap (λ (c : Bool). seconds_given (cond c (some t) none)) (sym i))
+    ap (λ (c : Bool). time_given c s) h ∙ ap (λ (z : ℤ). Some (record { 0 = z })) (e k) ∙ ap (λ (c : Bool). seconds_given (cond c (Some t) None)) (sym i))
     (λ k.
     let h : r.queue.timed ≡ false = g.timed ∙ k in
     let i : by_time v.settings ≡ false = q ∙ sym p ∙ k in
-    ap (λ (c : Bool). time_given c s) h ∙ ap (λ (c : Bool). seconds_given (cond c (some t) none)) (sym i))
+    ap (λ (c : Bool). time_given c s) h ∙ ap (λ (c : Bool). seconds_given (cond c (Some t) None)) (sym i))
 
 -- ---- from the row
 
@@ -138,7 +127,7 @@ record TakesRow (excluded : List ℕ) (settings : Settings) (g : List ℕ) (l : 
 
 takes_row : {excluded : List ℕ} {settings : Settings} {g : List ℕ} {l : Layout} {p n k : ℕ} {c : Level} {r r' : Record} {x : Id} {s : Seconds} {m m' : Memory} {b b' : List ℕ}
     → Follows settings n k → VisitsRow excluded settings g l p k r m m' b b' r'
-    → TakesRow excluded settings g l p n c r x s.0 m m' b b' (gave Commit (padded x) k (level_given (level_shown c.0)) (time_given r'.queue.timed s) NoZone r')
+    → TakesRow excluded settings g l p n c r x s.0 m m' b b' (gave Commit (padded x) k (level_given (level_shown c.0)) (time_given r'.queue.timed s) None r')
 unfolding step_from_row
 takes_row {excluded} {settings} {g} {l} {p} {n} {k} {c} {r} {r'} {x} {s} {m} {m'} {b} {b'} f w = record {
   right = λ ok own ps q e i v sh st u t' by d j t z.
@@ -161,26 +150,26 @@ takes_row {excluded} {settings} {g} {l} {p} {n} {k} {c} {r} {r'} {x} {s} {m} {m'
 -- ---- from the body
 
 -- the kind of an answer after a body's parents, whose header has the zone y
-ends-kind : {sh : Shape} {m m' : Memory} {b b' : List ℕ} {r : Record} {st : State} (e : BodyEnd) (o : Option Refusal) (ps : List Id) (x : Id) (z y : Option ℤ) {n : ℕ} {t : MaybeSeconds} → refusal_of e ≡ o
+ends-kind : {sh : Shape} {m m' : Memory} {b b' : List ℕ} {r : Record} {st : State} (e : BodyEnd) (o : Option Refusal) (ps : List Id) (x : Id) (z y : Option ℤ) {n : ℕ} {t : Option Seconds} → refusal_of e ≡ o
     → Reads r m' sh st → n ≡ length ps → t ≡ seconds_given z → b' ≡ set_down b 0 (joined ps) → ((j : ℕ) → sh.cap + sh.cap ≤ j → get_or m'.line j 0 ≡ get_or m.line j 0)
-    → Gives sh m m' b b' (end_given e x n t (zone_given y) r) (zoned (zone_shown o y) (step (kind_of o (handed x none z)) ps st))
+    → Gives sh m m' b b' (end_given e x n t y r) (zoned (zone_shown o y) (step (kind_of o (handed x None z)) ps st))
 unfolding kind_of
-ends-kind Whole o ps x z y e g n t d w = rw (sym e) (gives-zoned (handed x none z) ps y g refl refl n refl t d w)
-ends-kind Unreadable o ps x z y e g n t d w = rw (sym e) (gives-zoned (refused CommitUnreadable) ps none g refl refl n refl refl d w)
-ends-kind Crowded o ps x z y e g n t d w = rw (sym e) (gives-zoned (refused TooManyParents) ps none g refl refl n refl refl d w)
+ends-kind Whole o ps x z y e g n t d w = rw (sym e) (gives-zoned (handed x None z) ps y g refl refl n refl t d w)
+ends-kind Unreadable o ps x z y e g n t d w = rw (sym e) (gives-zoned (refused CommitUnreadable) ps None g refl refl n refl refl d w)
+ends-kind Crowded o ps x z y e g n t d w = rw (sym e) (gives-zoned (refused TooManyParents) ps None g refl refl n refl refl d w)
 
 map_stored : (w : World) (l : List Id) → map (λ p. p.0) (stored w l) ≡ l
 map_stored w [] = refl
 map_stored w (x ∷ l) = ap (λ (r : List Id). x ∷ r) (map_stored w l)
 
 -- a zone counts where the commit is handed out alone
-same_end : (e : BodyEnd) (x : Id) (n : ℕ) (t : MaybeSeconds) (r : Record) {z y : Zone} → (e ≡ Whole → z ≡ y) → end_given e x n t z r ≡ end_given e x n t y r
-same_end Whole x n t r h = ap (λ (q : Zone). gave Commit (padded x) n NoGeneration t q r) (h refl)
+same_end : (e : BodyEnd) (x : Id) (n : ℕ) (t : Option Seconds) (r : Record) {z y : Option ℤ} → (e ≡ Whole → z ≡ y) → end_given e x n t z r ≡ end_given e x n t y r
+same_end Whole x n t r h = ap (λ (q : Option ℤ). gave Commit (padded x) n None t q r) (h refl)
 same_end Unreadable x n t r h = refl
 same_end Crowded x n t r h = refl
 
 -- a header that is not refused has a good tree line
-whole-tree : (s : Settings) (h : Header) → ending s h ≡ none → h.tree ≡ true
+whole-tree : (s : Settings) (h : Header) → ending s h ≡ None → h.tree ≡ true
 unfolding ending
 whole-tree s h e = by_cases h.tree (λ c. c) (λ c. let z : ◌≡◌ {A = ℕ} 0 1 = cc in absurd (omega arith))
 
@@ -202,7 +191,7 @@ takes_body d {excluded} {settings} {store} {r} {w₀} {x} {s} {m} {m'} {b} {b'} 
       (λ q c. j.inside x q.0 h there (followed_sub v.settings q.0 h.ids (with_seconds_lem v fs q (subst (λ (l : List (Id × ℤ)). Memᴰ q l) (sym list) c)).0)) in
       let reads = subst (λ (l : List (Id × ℤ)). Reads (waiting_in r seen.after) m' sh (visit_all v st l)) (sym list) went.ready.reads in
       let down = all.down z ∙ ap (λ (l : List Id). set_down b 0 (joined l)) (map_stored (world_of (width_of settings.kind) store g) fs) in
-      subst (λ (q : Taken). Gives sh m m' b b' q (zoned (zone_shown (ending v.settings h) h.zone) (step (kind_of (ending v.settings h) (handed x none (queued_seconds v t'))) fs (visit_all v st (with_seconds v fs))))) (sym (k.is ∙ same_end seen.ends x seen.parents (time_given w₀.queue.timed s) (waiting_in r seen.after) (λ c. k.right (whole-tree settings h (sym w.ends ∙ ap refusal_of c)) (omega (arith, w.parents, (followed_take settings h.ids).1)) c)))
+      subst (λ (q : Taken). Gives sh m m' b b' q (zoned (zone_shown (ending v.settings h) h.zone) (step (kind_of (ending v.settings h) (handed x None (queued_seconds v t'))) fs (visit_all v st (with_seconds v fs))))) (sym (k.is ∙ same_end seen.ends x seen.parents (time_given w₀.queue.timed s) (waiting_in r seen.after) (λ c. k.right (whole-tree settings h (sym w.ends ∙ ap refusal_of c)) (omega (arith, w.parents, (followed_take settings h.ids).1)) c)))
       (ends-kind seen.ends (ending v.settings h) fs x (queued_seconds v t') h.zone (w.ends ∙ ap (λ (q : Settings). ending q h) (sym by.same-settings)) reads (w.parents ∙ ap length same)
       (time-right by e.reads s t' t) down went.line_kept);
   plain =
@@ -214,18 +203,18 @@ takes_body d {excluded} {settings} {store} {r} {w₀} {x} {s} {m} {m'} {b} {b'} 
 
 -- the store does not have the commit
 absent_gives : {sh : Shape} {m : Memory} {b : List ℕ} {r : Record} {st : State} (v : Walk) (x : Id) (t : ℤ) → Reads r m sh st
-    → Gives sh m m b b (gave (Refused CommitNotFound) no_id 0 NoGeneration NoTime NoZone r) (from_body v st x t none)
+    → Gives sh m m b b (gave (Refused CommitNotFound) no_id 0 None None None r) (from_body v st x t None)
 unfolding from_body joined
 absent_gives {b = b} v x t g = gives-step (refused CommitNotFound) [] g refl refl refl refl refl (set_down-none b) (λ k h. refl)
 
-pub plain-absent : {width : ℕ} {b : List ℕ} (r : Record) → Plain width b b (gave (Refused CommitNotFound) no_id 0 NoGeneration NoTime NoZone r).answer
+pub plain-absent : {width : ℕ} {b : List ℕ} (r : Record) → Plain width b b (gave (Refused CommitNotFound) no_id 0 None None None r).answer
 plain-absent r = plain-bare r (omega arith, omega arith) counted-lost (omega arith) past-none
 
 -- ---- the first of the queue
 
 popped : {sh : Shape} {r : Record} {names marks : List ℕ} {times : List ℤ} {line line' : List ℕ} {st : State} {u : List Id} {n : Next} (y : Id × ℤ) (l : List (Id × ℤ))
-    → Rests sh r (mem names marks times line) st u → Pops r names times line line' n → st.queue ≡ y ∷ l → Popped sh r (mem names marks times line') st u y l n
-popped {sh} {marks = marks} {st = st} y l d p e = record { taken = p.some marks sh st y.0 y.1 l d.reads e; inside = d.inside; slots = d.slots; numbers = d.numbers }
+    → Rests sh r (mem names marks times line) st u → Pops r names times line line' (Some n) → st.queue ≡ y ∷ l → Popped sh r (mem names marks times line') st u y l n
+popped {sh} {marks = marks} {st = st} y l d p e = record { taken = p.told.some marks sh st y.0 y.1 l d.reads e; inside = d.inside; slots = d.slots; numbers = d.numbers }
 
 -- its id, of the settings' kind
 popped-id : {v : Walk} {sh : Shape} {excluded : List ℕ} {settings : Settings} {r : Record} {m : Memory} {st : State} {u : List Id} {y : Id × ℤ} {l : List (Id × ℤ)} {n : Next} → GoesBy v sh excluded settings → Popped sh r m st u y l n
@@ -243,29 +232,26 @@ popped-ready k = record {
 }
 
 -- the line from 2 · cap on, over a pop
-pop_kept : {sh : Shape} {r : Record} {names marks : List ℕ} {times : List ℤ} {line line' : List ℕ} {st : State} {n : Next} → Reads r (mem names marks times line) sh st → Pops r names times line line' n
+pop_kept : {sh : Shape} {r : Record} {names marks : List ℕ} {times : List ℤ} {line line' : List ℕ} {st : State} {n : Option Next} → Reads r (mem names marks times line) sh st → Pops r names times line line' n
     → (k : ℕ) → sh.cap + sh.cap ≤ k → get_or line' k 0 ≡ get_or line k 0
 pop_kept g p k h = p.for_line.kept k (omega (arith, h, g.cap))
 
 -- nothing waits
-ended : {sh : Shape} {r : Record} {names marks : List ℕ} {times : List ℤ} {line line' : List ℕ} {st : State} {u : List Id} {n : Next} {b : List ℕ}
-    → Rests sh r (mem names marks times line) st u → Pops r names times line line' n → n.found ≡ false → (s : Step) → (st.queue ≡ [] → step end [] st ≡ s)
-    → Gives sh (mem names marks times line) (mem names marks times line') b b (gave End no_id 0 NoGeneration NoTime NoZone r) s
+ended : {sh : Shape} {r : Record} {names marks : List ℕ} {times : List ℤ} {line line' : List ℕ} {st : State} {u : List Id} {b : List ℕ}
+    → Rests sh r (mem names marks times line) st u → Pops r names times line line' None → (s : Step) → (st.queue ≡ [] → step end [] st ≡ s)
+    → Gives sh (mem names marks times line) (mem names marks times line') b b (gave End no_id 0 None None None r) s
 unfolding joined
-ended {sh} {r} {names} {marks} {times} {line} {line'} {st} {u} {n} {b} d p f s c = go st.queue refl
-  where
-    go : (q : List (Id × ℤ)) → st.queue ≡ q → Gives sh (mem names marks times line) (mem names marks times line') b b (gave End no_id 0 NoGeneration NoTime NoZone r) s
-    go [] e =
-        let g : Reads r (mem names marks times line') sh st = rw (p.still f).1 d.reads in
-        subst (Gives sh (mem names marks times line) (mem names marks times line') b b (gave End no_id 0 NoGeneration NoTime NoZone r)) (c e)
-        (gives-step end [] g refl refl refl refl refl (set_down-none b) (pop_kept d.reads p))
-    go (y ∷ l) e = clash (p.some marks sh st y.0 y.1 l d.reads e).found f
+ended {sh} {r} {names} {marks} {times} {line} {line'} {st} {u} {b} d p s c =
+    let e = p.told.1 marks sh st d.reads in
+    let g : Reads r (mem names marks times line') sh st = rw p.told.0 d.reads in
+    subst (Gives sh (mem names marks times line) (mem names marks times line') b b (gave End no_id 0 None None None r)) (c e)
+    (gives-step end [] g refl refl refl refl refl (set_down-none b) (pop_kept d.reads p))
 
 gives_on : {sh : Shape} {m m₁ m' : Memory} {b b' : List ℕ} {a : Taken} {s : Step} → ((k : ℕ) → sh.cap + sh.cap ≤ k → get_or m₁.line k 0 ≡ get_or m.line k 0) → Gives sh m₁ m' b b' a s → Gives sh m m' b b' a s
 gives_on k g = record { answer = g.answer; down = g.down; reads = g.reads; line_kept = λ j h. g.line_kept j h ∙ k j h }
 
 module _ {excluded : List ℕ} {settings : Settings} {store : List ℕ} {r : Record} {names marks : List ℕ} {times : List ℤ} {line line' : List ℕ} {b : List ℕ} {n : Next} where
-  module _ {o : Located} (p : Pops r names times line line' n) (f : n.found ≡ true) (at : Locates (width_of settings.kind) store (id_in (width_of settings.kind) n.id.bytes) o) where
+  module _ {o : Located} (p : Pops r names times line line' (Some n)) (at : Locates (width_of settings.kind) store (id_in (width_of settings.kind) n.id.bytes) o) where
     -- what the store has of the commit that was popped decides
     from-store : {m' : Memory} {b' : List ℕ} {a : Taken} → ((g : List ℕ) → store_is_ok (width_of settings.kind) store ≡ true → (v : Walk) (sh : Shape) (st : State) (u : List Id) (y : Id × ℤ) (l : List (Id × ℤ)) → GoesBy v sh excluded settings
         → v.world ≡ world_of (width_of settings.kind) store g → Popped sh r (mem names marks times line') st u y l n → InStore v u → parents_room (width_of settings.kind) ≤ length b
@@ -276,7 +262,7 @@ module _ {excluded : List ℕ} {settings : Settings} {store : List ℕ} {r : Rec
       where
         go : store_is_ok (width_of settings.kind) store ≡ true → (g : List ℕ) (v : Walk) (sh : Shape) (st : State) (u : List Id) → GoesBy v sh excluded settings → v.world ≡ world_of (width_of settings.kind) store g
             → Rests sh r (mem names marks times line) st u → InStore v u → parents_room (width_of settings.kind) ≤ length b → (q : List (Id × ℤ)) → st.queue ≡ q → Gives sh (mem names marks times line) m' b b' a (take_store v st q)
-        go ok g v sh st u by own d j z [] e = clash f (p.none marks sh st d.reads e)
+        go ok g v sh st u by own d j z [] e = absurd (p.told.none marks sh st d.reads e)
         go ok g v sh st u by own d j z (y ∷ l) e =
             let k = popped y l d p e in
             gives_on (pop_kept d.reads p)
@@ -290,31 +276,31 @@ module _ {excluded : List ℕ} {settings : Settings} {store : List ℕ} {r : Rec
         (is ∙ ap (part_of store) i) whole in
         from-store
         (λ g ok v sh st u c l by own k j z.
-        let there : v.world.store (id_in (width_of settings.kind) n.id.bytes) ≡ some (header (width_of settings.kind) (part_of store (Body y e))) = ap (λ (q : World). q.store (id_in (width_of settings.kind) n.id.bytes)) own ∙ located_body g y e at i refl ok in
+        let there : v.world.store (id_in (width_of settings.kind) n.id.bytes) ≡ Some (header (width_of settings.kind) (part_of store (Body y e))) = ap (λ (q : World). q.store (id_in (width_of settings.kind) n.id.bytes)) own ∙ located_body g y e at i refl ok in
         subst (λ (q : Option Header). Gives sh (mem names marks times line') m' b b' a (from_body v (with_queue l st) (id_in (width_of settings.kind) n.id.bytes) c.1 q)) (sym there)
         (t.right ok g v sh (with_queue l st) u c.1 by own there (popped-ready k) j k.taken.seconds z))
         t.plain
 
-    pub stored-absent : o ≡ Absent → TakesStored excluded settings store r (mem names marks times line) (mem names marks times line') b b (gave (Refused CommitNotFound) no_id 0 NoGeneration NoTime NoZone (waiting_in r n.rest))
+    pub stored-absent : o ≡ Absent → TakesStored excluded settings store r (mem names marks times line) (mem names marks times line') b b (gave (Refused CommitNotFound) no_id 0 None None None (waiting_in r n.rest))
     stored-absent i =
         from-store
         (λ g ok v sh st u c l by own k j z.
-        let there : v.world.store (id_in (width_of settings.kind) n.id.bytes) ≡ none = ap (λ (q : World). q.store (id_in (width_of settings.kind) n.id.bytes)) own ∙ located_none g at i ok in
-        subst (λ (q : Option Header). Gives sh (mem names marks times line') (mem names marks times line') b b (gave (Refused CommitNotFound) no_id 0 NoGeneration NoTime NoZone (waiting_in r n.rest)) (from_body v (with_queue l st) (id_in (width_of settings.kind) n.id.bytes) c.1 q))
+        let there : v.world.store (id_in (width_of settings.kind) n.id.bytes) ≡ None = ap (λ (q : World). q.store (id_in (width_of settings.kind) n.id.bytes)) own ∙ located_none g at i ok in
+        subst (λ (q : Option Header). Gives sh (mem names marks times line') (mem names marks times line') b b (gave (Refused CommitNotFound) no_id 0 None None None (waiting_in r n.rest)) (from_body v (with_queue l st) (id_in (width_of settings.kind) n.id.bytes) c.1 q))
         (sym there) (absent_gives v (id_in (width_of settings.kind) n.id.bytes) c.1 k.taken.reads))
         (plain-absent (waiting_in r n.rest))
 
-  pub stored-none : Pops r names times line line' n → n.found ≡ false
-      → TakesStored excluded settings store r (mem names marks times line) (mem names marks times line') b b (gave End no_id 0 NoGeneration NoTime NoZone r)
-  unfolding take_store
-  stored-none p f = record { right = λ ok g v sh st u by own d j z. ended d p f (take_store v st st.queue) (λ e. ap (take_store v st) (sym e)); plain = plain_end r }
+pub stored-none : {excluded : List ℕ} {settings : Settings} {store : List ℕ} {r : Record} {names marks : List ℕ} {times : List ℤ} {line line' : List ℕ} {b : List ℕ} → Pops r names times line line' None
+    → TakesStored excluded settings store r (mem names marks times line) (mem names marks times line') b b (gave End no_id 0 None None None r)
+unfolding take_store
+stored-none {r = r} p = record { right = λ ok g v sh st u by own d j z. ended d p (take_store v st st.queue) (λ e. ap (take_store v st) (sym e)); plain = plain_end r }
 
 -- ---- the next commit
 
-pub next-none : {excluded : List ℕ} {settings : Settings} {graph store : List ℕ} {r : Record} {names marks : List ℕ} {times : List ℤ} {line line' : List ℕ} {b : List ℕ} {n : Next}
-    → Pops r names times line line' n → n.found ≡ false → TakesNext excluded settings graph store r (mem names marks times line) (mem names marks times line') b b (gave End no_id 0 NoGeneration NoTime NoZone r)
+pub next-none : {excluded : List ℕ} {settings : Settings} {graph store : List ℕ} {r : Record} {names marks : List ℕ} {times : List ℤ} {line line' : List ℕ} {b : List ℕ}
+    → Pops r names times line line' None → TakesNext excluded settings graph store r (mem names marks times line) (mem names marks times line') b b (gave End no_id 0 None None None r)
 unfolding take_next take_queue
-next-none p f = record { right = λ ok good v sh st u by fixed own d i j z. ended d p f (take_next v st) (λ e. ap (take_queue v st) (sym e)) }
+next-none p = record { right = λ ok good v sh st u by fixed own d i j z. ended d p (take_next v st) (λ e. ap (take_queue v st) (sym e)) }
 
 -- what the row in use says of the front decides the case: a graph that was dropped says nothing
 row_case : (width : ℕ) (v : Walk) (st : State) (graph store : List ℕ) (kept : Bool) (x : Id × ℤ) (l : List (Id × ℤ)) → v.world ≡ world_of width store graph → st.kept ≡ kept → st.queue ≡ x ∷ l
@@ -340,9 +326,9 @@ row-own width v graph store kept x d own k e =
 
 -- ---- from the row
 
-module _ {excluded : List ℕ} {settings : Settings} {graph store : List ℕ} {l : Layout} {p : ℕ} {r : Record} {n : Next} {names marks : List ℕ} {times : List ℤ} {line : List ℕ} {b : List ℕ} {w : RowRead}
+module _ {excluded : List ℕ} {settings : Settings} {graph store : List ℕ} {l : Layout} {p : ℕ} {r : Record} {n : Next} {names marks : List ℕ} {times : List ℤ} {line : List ℕ} {b : List ℕ} {w : Option RowRead}
     (read : w ≡ row_read_of (level_of (width_of settings.kind) graph l p) (parents_in (width_of settings.kind) graph l p)) where
-  cached-row : {m' : Memory} {b' : List ℕ} {a : Taken} {many : ℕ} {c : Level} → w ≡ RowAt many c → length (id_in (width_of settings.kind) n.id.bytes) ≡ width_of settings.kind
+  cached-row : {m' : Memory} {b' : List ℕ} {a : Taken} {many : ℕ} {c : Level} → w ≡ Some (row_with many c) → length (id_in (width_of settings.kind) n.id.bytes) ≡ width_of settings.kind
       → TakesRow excluded settings graph l p many c (waiting_in r n.rest) (id_in (width_of settings.kind) n.id.bytes) n.seconds.0 (mem names marks times line) m' b b' a
       → TakesCached excluded settings graph l p store r n (mem names marks times line) m' b b' a
   unfolding take_row
@@ -357,7 +343,7 @@ module _ {excluded : List ℕ} {settings : Settings} {graph store : List ℕ} {l
     plain = t.plain (row-counted (width_of settings.kind) graph l p read e) wide;
   }
 
-  cached-corrupt : {line' : List ℕ} {m' : Memory} {b' : List ℕ} {a : Taken} {r' : Record} → w ≡ Corrupt → Drops (waiting_in r n.rest) times line line' n.slot r'
+  cached-corrupt : {line' : List ℕ} {m' : Memory} {b' : List ℕ} {a : Taken} {r' : Record} → w ≡ None → Drops (waiting_in r n.rest) times line line' n.slot r'
       → TakesStored excluded settings store r' (mem names marks times line') m' b b' a → TakesCached excluded settings graph l p store r n (mem names marks times line) m' b b' a
   unfolding take_row dropped with_queue
   cached-corrupt {line'} {m'} {b'} {a} {r'} e x t = record {
@@ -377,52 +363,52 @@ module _ {excluded : List ℕ} {settings : Settings} {graph store : List ℕ} {l
   }
 
 -- the row's parents were visited
-visited_in : {w w' : Waiting} {k k' : ℕ} {c c' : Level} → Visited w k c ≡ Visited w' k' c' → (w ≡ w') × (k ≡ k') × (c ≡ c')
-visited_in e = (cc, cc, cc)
+visited_in : {w w' : Waiting} {k k' : ℕ} {c c' : Level} → Some (visited w k c) ≡ Some (visited w' k' c') → (w ≡ w') × (k ≡ k') × (c ≡ c')
+visited_in e = let q = some_in e in (ap (λ (x : RowVisited). x.after) q, ap (λ (x : RowVisited). x.parents) q, ap (λ (x : RowVisited). x.level) q)
 
 module _ {excluded : List ℕ} {settings : Settings} {graph store : List ℕ} {l : Layout} {p : ℕ} {r : Record} {n : Next} {names marks : List ℕ} {times : List ℤ} {line : List ℕ} {names₁ marks₁ : List ℕ} {times₁ : List ℤ}
-    {line₁ v v₁ b b₁ : List ℕ} {x : RowVisited}
+    {line₁ v v₁ b b₁ : List ℕ} {x : Option RowVisited}
     (seen : VisitsCached excluded settings graph l p r n.rest (mem names marks times line) (mem names₁ marks₁ times₁ line₁) v v₁ b b₁ x) where
-  pub cached-visited : {a : Taken} {w' : Waiting} {k : ℕ} {c : Level} → length (id_in (width_of settings.kind) n.id.bytes) ≡ width_of settings.kind → x ≡ Visited w' k c
-      → a ≡ gave Commit (padded (id_in (width_of settings.kind) n.id.bytes)) k (level_given (level_shown c.0)) (time_given w'.queue.timed n.seconds) NoZone (waiting_in r w')
+  pub cached-visited : {a : Taken} {w' : Waiting} {k : ℕ} {c : Level} → length (id_in (width_of settings.kind) n.id.bytes) ≡ width_of settings.kind → x ≡ Some (visited w' k c)
+      → a ≡ gave Commit (padded (id_in (width_of settings.kind) n.id.bytes)) k (level_given (level_shown c.0)) (time_given w'.queue.timed n.seconds) None (waiting_in r w')
       → TakesCached excluded settings graph l p store r n (mem names marks times line) (mem names₁ marks₁ times₁ line₁) b b₁ a
   cached-visited {a} {w'} {k} {c} wide e i = go (row_read_of (level_of (width_of settings.kind) graph l p) (parents_in (width_of settings.kind) graph l p)) refl seen.judged
     where
-      go : (w : RowRead) → w ≡ row_read_of (level_of (width_of settings.kind) graph l p) (parents_in (width_of settings.kind) graph l p)
+      go : (w : Option RowRead) → w ≡ row_read_of (level_of (width_of settings.kind) graph l p) (parents_in (width_of settings.kind) graph l p)
           → VisitedBy w excluded settings graph l p r n.rest (mem names marks times line) (mem names₁ marks₁ times₁ line₁) v v₁ b b₁ x
           → TakesCached excluded settings graph l p store r n (mem names marks times line) (mem names₁ marks₁ times₁ line₁) b b₁ a
-      go Corrupt read d = let y : RowVisited-as-Corrupt ≡ Visited w' k c = sym d.0 ∙ e in let z : ◌≡◌ {A = ℕ} 0 1 = cc in absurd (omega arith)
-      go (RowAt many c₀) read d =
+      go None read d = no-some (sym d.0 ∙ e)
+      go (Some q) read d =
           let s = visited_in (sym d.2 ∙ e) in
           let w : VisitsRow excluded settings graph l p k (waiting_in r n.rest) (mem names marks times line) (mem names₁ marks₁ times₁ line₁) b b₁ (waiting_in r w') =
           subst (λ (z : Waiting). VisitsRow excluded settings graph l p k (waiting_in r n.rest) (mem names marks times line) (mem names₁ marks₁ times₁ line₁) b b₁ (waiting_in r z)) s.0
           (subst (λ (z : ℕ). VisitsRow excluded settings graph l p z (waiting_in r n.rest) (mem names marks times line) (mem names₁ marks₁ times₁ line₁) b b₁ (waiting_in r d.1)) s.1 d.4) in
           subst (λ (q : Taken). TakesCached excluded settings graph l p store r n (mem names marks times line) (mem names₁ marks₁ times₁ line₁) b b₁ q) (sym i)
-          (cached-row read (ap (RowAt many) s.2) wide (takes_row (subst (λ (z : ℕ). Follows settings many z) s.1 d.3) w))
+          (cached-row read (ap (λ (z : Level). Some (row_with q.parents z)) s.2) wide (takes_row (subst (λ (z : ℕ). Follows settings q.parents z) s.1 d.3) w))
 
   -- its list is corrupt: nothing was changed, and the call goes on from the store
-  pub cached-torn : {line' : List ℕ} {m'' : Memory} {b'' : List ℕ} {a : Taken} {r' : Record} → x ≡ RowVisited-as-Corrupt → Drops (waiting_in r n.rest) times₁ line₁ line' n.slot r'
+  pub cached-torn : {line' : List ℕ} {m'' : Memory} {b'' : List ℕ} {a : Taken} {r' : Record} → x ≡ None → Drops (waiting_in r n.rest) times₁ line₁ line' n.slot r'
       → TakesStored excluded settings store r' (mem names₁ marks₁ times₁ line') m'' b₁ b'' a → TakesCached excluded settings graph l p store r n (mem names marks times line) m'' b b'' a
   cached-torn {line'} {m''} {b''} {a} {r'} e y t = go (row_read_of (level_of (width_of settings.kind) graph l p) (parents_in (width_of settings.kind) graph l p)) refl seen.judged
     where
-      go : (w : RowRead) → w ≡ row_read_of (level_of (width_of settings.kind) graph l p) (parents_in (width_of settings.kind) graph l p)
+      go : (w : Option RowRead) → w ≡ row_read_of (level_of (width_of settings.kind) graph l p) (parents_in (width_of settings.kind) graph l p)
           → VisitedBy w excluded settings graph l p r n.rest (mem names marks times line) (mem names₁ marks₁ times₁ line₁) v v₁ b b₁ x
           → TakesCached excluded settings graph l p store r n (mem names marks times line) m'' b b'' a
-      go Corrupt read d =
+      go None read d =
           subst (λ (c : List ℕ). TakesCached excluded settings graph l p store r n (mem names marks times line) m'' c b'' a) d.3
           (subst (λ (c : Memory). TakesCached excluded settings graph l p store r n c m'' b₁ b'' a) d.1 (cached-corrupt read refl y t))
-      go (RowAt many c₀) read d = let o : Visited d.1 d.0 c₀ ≡ RowVisited-as-Corrupt = sym d.2 ∙ e in let z : ◌≡◌ {A = ℕ} 0 1 = cc in absurd (omega arith)
+      go (Some q) read d = no-some (sym e ∙ d.2)
 
 -- ---- from what `find` found
 
 -- a row is found in a graph that is kept
-graph-kept : (graph : List ℕ) (l l' : Layout) (kept : Bool) → cache_with graph l kept ≡ Graph l' → kept ≡ true
+graph-kept : (graph : List ℕ) (l l' : Layout) (kept : Bool) → cache_with graph l kept ≡ Some l' → kept ≡ true
 unfolding cache_with
 graph-kept graph l l' true e = refl
 graph-kept graph l l' false e = let z : ◌≡◌ {A = ℕ} 0 1 = cc in absurd (omega arith)
 
 module _ {excluded : List ℕ} {settings : Settings} {graph store : List ℕ} {r : Record} {names marks : List ℕ} {times : List ℤ} {line line' : List ℕ} {b : List ℕ} {n : Next} {e : Either}
-    (p : Pops r names times line line' n) (f : n.found ≡ true) (found : FindsCommit (width_of settings.kind) (cache_with graph r.fixed.layout r.kept) graph store (id_in (width_of settings.kind) n.id.bytes) e) where
+    (p : Pops r names times line line' (Some n)) (found : FindsCommit (width_of settings.kind) (cache_with graph r.fixed.layout r.kept) graph store (id_in (width_of settings.kind) n.id.bytes) e) where
   -- the popped commit, whose row in use is d, is taken as the walk takes it
   found-next : {m' : Memory} {b' : List ℕ} {a : Taken} → ((v : Walk) (sh : Shape) (st : State) (u : List Id) (y : Id × ℤ) (l : List (Id × ℤ)) → store_is_ok (width_of settings.kind) store ≡ true → GoodCache (width_of settings.kind) (cache_of (width_of settings.kind) graph r.kept) graph
       → r.fixed.layout ≡ layout_of (width_of settings.kind) graph → e ≡ found_in (width_of settings.kind) (cache_of (width_of settings.kind) graph r.kept) graph store (id_in (width_of settings.kind) n.id.bytes) → GoesBy v sh excluded settings → v.world ≡ world_of (width_of settings.kind) store graph → st.kept ≡ r.kept
@@ -434,14 +420,14 @@ module _ {excluded : List ℕ} {settings : Settings} {graph store : List ℕ} {r
       go : store_is_ok (width_of settings.kind) store ≡ true → (is_empty graph || graph_ok (width_of settings.kind) graph) ≡ true → (v : Walk) (sh : Shape) (st : State) (u : List Id) → GoesBy v sh excluded settings → sh.fixed ≡ fixed_of settings.kind graph
           → v.world ≡ world_of (width_of settings.kind) store graph → Rests sh r (mem names marks times line) st u → InRows v u → InStore v u → parents_room (width_of settings.kind) ≤ length b → (q : List (Id × ℤ)) → st.queue ≡ q
           → Gives sh (mem names marks times line) m' b b' a (take_next v st)
-      go ok good v sh st u by fixed own d i j z [] o = clash f (p.none marks sh st d.reads o)
+      go ok good v sh st u by fixed own d i j z [] o = absurd (p.told.none marks sh st d.reads o)
       go ok good v sh st u by fixed own d i j z (y ∷ l) o =
           let k = popped y l d p o in
           let lay : r.fixed.layout ≡ layout_of (width_of settings.kind) graph = ap (λ (q : Fixed). q.layout) (d.reads.fixed ∙ fixed) in
           let used : cache_with graph r.fixed.layout r.kept ≡ cache_of (width_of settings.kind) graph r.kept = ap (λ (q : Layout). cache_with graph q r.kept) lay in
-          let right = subst (λ (q : Cache). GoodCache (width_of settings.kind) q graph) (sym used) (good-cache (width_of settings.kind) graph r.kept good) in
+          let right = subst (λ (q : Option Layout). GoodCache (width_of settings.kind) q graph) (sym used) (good-cache (width_of settings.kind) graph r.kept good) in
           let told : e ≡ found_in (width_of settings.kind) (cache_of (width_of settings.kind) graph r.kept) graph store (id_in (width_of settings.kind) n.id.bytes) =
-          found.good ok right ∙ ap (λ (q : Cache). found_in (width_of settings.kind) q graph store (id_in (width_of settings.kind) n.id.bytes)) used in
+          found.good ok right ∙ ap (λ (q : Option Layout). found_in (width_of settings.kind) q graph store (id_in (width_of settings.kind) n.id.bytes)) used in
           let s = w v sh st u y l ok (good-cache (width_of settings.kind) graph r.kept good) lay told by own d.reads.kept k i j z in
           subst (Gives sh (mem names marks times line) m' b b' a) (sym (row_step (width_of settings.kind) v graph store y l s.0 d.reads own o (popped-id by k) s.1))
           (gives_on (pop_kept d.reads p) s.2)
@@ -466,7 +452,7 @@ module _ {excluded : List ℕ} {settings : Settings} {graph store : List ℕ} {r
       found-next (λ v sh st u y l ok good lay told by own same k i j h.
       let x : Id = id_in (width_of settings.kind) n.id.bytes in
       let c = found-body (width_of settings.kind) (cache_of (width_of settings.kind) graph r.kept) graph store x s z ok (sym told ∙ q) in
-      let there : v.world.store x ≡ some (header (width_of settings.kind) (part_of store (Body s z))) = ap (λ (w : World). w.store x) own ∙ sym (same_store (width_of settings.kind) (cache_of (width_of settings.kind) graph r.kept) graph store x) ∙ c.1 in (
+      let there : v.world.store x ≡ Some (header (width_of settings.kind) (part_of store (Body s z))) = ap (λ (w : World). w.store x) own ∙ sym (same_store (width_of settings.kind) (cache_of (width_of settings.kind) graph r.kept) graph store x) ∙ c.1 in (
         no_row,
         c.0,
         subst (λ (x : Id). Gives sh (mem names marks times line') m' b b' a (from_body v (with_queue l st) x y.1 (v.world.store x))) (popped-id by k)
@@ -475,13 +461,13 @@ module _ {excluded : List ℕ} {settings : Settings} {graph store : List ℕ} {r
       ))
 
   pub next-absent : e ≡ Either-as-Absent
-      → TakesNext excluded settings graph store r (mem names marks times line) (mem names marks times line') b b (gave (Refused CommitNotFound) no_id 0 NoGeneration NoTime NoZone (waiting_in r n.rest))
+      → TakesNext excluded settings graph store r (mem names marks times line) (mem names marks times line') b b (gave (Refused CommitNotFound) no_id 0 None None None (waiting_in r n.rest))
   unfolding take_row take_store
   next-absent q = found-next (λ v sh st u y l ok good lay told by own same k i j h.
       let x : Id = id_in (width_of settings.kind) n.id.bytes in
-      let a : Taken = gave (Refused CommitNotFound) no_id 0 NoGeneration NoTime NoZone (waiting_in r n.rest) in
+      let a : Taken = gave (Refused CommitNotFound) no_id 0 None None None (waiting_in r n.rest) in
       let c = found-absent (width_of settings.kind) (cache_of (width_of settings.kind) graph r.kept) graph store x (sym told ∙ q) in
-      let there : v.world.store x ≡ none = ap (λ (w : World). w.store x) own ∙ sym (same_store (width_of settings.kind) (cache_of (width_of settings.kind) graph r.kept) graph store x) ∙ c.1 in (
+      let there : v.world.store x ≡ None = ap (λ (w : World). w.store x) own ∙ sym (same_store (width_of settings.kind) (cache_of (width_of settings.kind) graph r.kept) graph store x) ∙ c.1 in (
         no_row,
         c.0,
         subst (λ (x : Id). Gives sh (mem names marks times line') (mem names marks times line') b b a (from_body v (with_queue l st) x y.1 (v.world.store x))) (popped-id by k)

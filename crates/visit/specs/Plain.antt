@@ -1,6 +1,6 @@
 -- What holds of taking the next commit on any bytes, files and numbers (document 01: "a call gives some answer of this paper"). Assumes
 -- nothing.
-use Rattle.std.specs.Prelude.{ℕ, ◌*◌, ◌≤◌, ◌≡◌, List, length, get_or}
+use Rattle.std.specs.Prelude.{ℕ, ◌*◌, ◌≤◌, ◌≡◌, List, length, get_or, None}
 use Rattle.hash.specs.Bytes.{Id}
 use Rattle.object.specs.Ids.{padded}
 use Rattle.object.specs.Header.{most}
@@ -8,18 +8,15 @@ use Rattle.walk.specs.declared.Outcome.{Outcome}
 use Rattle.walk.specs.declared.Outcome.TheVariants.{Commit, End, Refused}
 use Rattle.walk.specs.declared.Refusal.{Refusal}
 use Rattle.walk.specs.declared.Refusal.TheVariants.{CommitNotFound, TooManyParents}
-use Rattle.date.specs.declared.Zone.TheVariants.{NoZone}
-use Rattle.walk.specs.declared.MaybeLevel.TheVariants.{NoGeneration}
-use Rattle.walk.specs.declared.MaybeSeconds.TheVariants.{NoTime}
 use Rattle.walk.specs.AnyInput.{OfCall}
 use Rattle.walk.specs.Given.{Given, no_id}
 
 -- "A refusal or end carries no id, level or seconds (zeros there)"; card 7: the zone is none "in a refusal or end"
 pub record Bare (a : Given) : Type 0 where
   pub no-id : a.info.id ≡ no_id
-  pub no-generation : a.info.generation ≡ NoGeneration
-  pub no-time : a.info.time ≡ NoTime
-  pub no-zone : a.info.zone ≡ NoZone
+  pub no-generation : a.info.generation ≡ None
+  pub no-time : a.info.time ≡ None
+  pub no-zone : a.info.zone ≡ None
 
 -- the parents that a refusal counts: 9 comes before any line is read; 11 at "a good 257th parent line", when 256 ids are read
 pub record Counted (r : Refusal) (n : ℕ) : Type 0 where

@@ -1,15 +1,12 @@
 -- What taking the next commit promises: the walk's own answer in all its fields, the ids at the start of the buffer parents, and the walk's own
 -- state after it; on any bytes, an answer of document 01. Assumes nothing.
-use Rattle.std.specs.Prelude.{ℕ, ◌+◌, ◌≤◌, ◌<◌, ◌≡◌, Bool, true, cond, ◌||◌, length, get_or, ℤ}
-use Rattle.std.proofs.Math.Option.{some}
+use Rattle.std.specs.Prelude.{ℕ, ◌+◌, ◌≤◌, ◌<◌, ◌≡◌, Bool, true, cond, ◌||◌, length, get_or, ℤ, None, Option, Some}
+use Rattle.commitgraph.specs.declared.Level.{Level}
 use mathlib.Core.List.{List, map, Memᴰ}
 use Rattle.hash.specs.Bytes.{Id, width_of}
 use Rattle.date.specs.declared.Seconds.{Seconds}
-use Rattle.date.specs.declared.Zone.{Zone}
-use Rattle.date.specs.declared.Zone.TheVariants.{NoZone}
 use Rattle.object.specs.Header.{Header}
 use Rattle.object.specs.Ids.{padded}
-use Rattle.object.specs.Read.{zone_given}
 use Rattle.odb.specs.Store.{store_is_ok}
 use Rattle.commitgraph.specs.Graph.{graph_ok, layout_of}
 use Rattle.commitgraph.specs.declared.Layout.{Layout}
@@ -18,10 +15,6 @@ use Rattle.walk.specs.declared.Settings.{Settings}
 use Rattle.walk.specs.declared.Outcome.{Outcome}
 use Rattle.walk.specs.declared.Outcome.TheVariants.{Commit, Refused}
 use Rattle.walk.specs.declared.Refusal.TheVariants.{CommitUnreadable, TooManyParents}
-use Rattle.walk.specs.declared.MaybeLevel.{MaybeLevel}
-use Rattle.walk.specs.declared.MaybeLevel.TheVariants.{NoGeneration}
-use Rattle.walk.specs.declared.MaybeSeconds.{MaybeSeconds}
-use Rattle.walk.specs.declared.MaybeSeconds.TheVariants.{Time, NoTime}
 use Rattle.walk.specs.Lookup.{row, row_at, world_of}
 use Rattle.walk.specs.State.{Walk, State, is_empty}
 use Rattle.walk.specs.Next.{Step, from_body, take_store, take_row, take_next}
@@ -39,7 +32,7 @@ use Rattle.links.specs.Link.{GoesBy, Ready}
 use Rattle.visit.specs.Plain.{Plain}
 
 -- an answer with the running numbers of the record r; x is an id by value
-abbrev pub gave : Outcome → Id → ℕ → MaybeLevel → MaybeSeconds → Zone → Record → Taken
+abbrev pub gave : Outcome → Id → ℕ → Option Level → Option Seconds → Option ℤ → Record → Taken
 gave o x n l t z r = record {
   answer = record {
     outcome = o;
@@ -51,19 +44,19 @@ gave o x n l t z r = record {
   after = r;
 }
 
-abbrev pub time_given : Bool → Seconds → MaybeSeconds
-time_given b s = cond b (Time s) NoTime
+abbrev pub time_given : Bool → Seconds → Option Seconds
+time_given b s = cond b (Some s) None
 
-abbrev pub end_given : BodyEnd → Id → ℕ → MaybeSeconds → Zone → Record → Taken
-end_given Whole x n t z r = gave Commit (padded x) n NoGeneration t z r
-end_given Unreadable x n t z r = gave (Refused CommitUnreadable) no_id n NoGeneration NoTime NoZone r
-end_given Crowded x n t z r = gave (Refused TooManyParents) no_id n NoGeneration NoTime NoZone r
+abbrev pub end_given : BodyEnd → Id → ℕ → Option Seconds → Option ℤ → Record → Taken
+end_given Whole x n t z r = gave Commit (padded x) n None t z r
+end_given Unreadable x n t z r = gave (Refused CommitUnreadable) no_id n None None None r
+end_given Crowded x n t z r = gave (Refused TooManyParents) no_id n None None None r
 
 -- the answer after the parents of a body with the header h, some of whose parents are seen, with the record r but for those that wait then: the zone
 -- of a commit that is handed out is the header's
-pub record EndsBody (r : Record) (seen : BodyVisited) (h : Header) (x : Id) (t : MaybeSeconds) (a : Taken) : Type 0 where
-  pub zone : Zone
-  pub right : h.tree ≡ true → seen.parents ≤ length h.ids → seen.ends ≡ Whole → zone ≡ zone_given h.zone
+pub record EndsBody (r : Record) (seen : BodyVisited) (h : Header) (x : Id) (t : Option Seconds) (a : Taken) : Type 0 where
+  pub zone : Option ℤ
+  pub right : h.tree ≡ true → seen.parents ≤ length h.ids → seen.ends ≡ Whole → zone ≡ h.zone
   pub is : a ≡ end_given seen.ends x seen.parents t zone (waiting_in r seen.after)
 
 -- the record r and the memory m read as the state st, whose ids lie in u; 256 commits more may be admitted
@@ -85,12 +78,12 @@ pub record InRows (v : Walk) (u : List Id) : Type 0 where
   pub inside : (x p : Id) (ps : List (Id × ℤ)) (l : ℕ) (s : ℤ) → v.world.graph x ≡ row ps l s → Memᴰ p (map (λ q. q.0) ps) → Memᴰ p u
 
 pub record InStore (v : Walk) (u : List Id) : Type 0 where
-  pub inside : (x p : Id) (h : Header) → v.world.store x ≡ some h → Memᴰ p h.ids → Memᴰ p u
+  pub inside : (x p : Id) (h : Header) → v.world.store x ≡ Some h → Memᴰ p h.ids → Memᴰ p u
 
 -- the commit x, queued with t seconds and out of the queue already, from its body with the header h, where the store has that under x
 pub record TakesBody (excluded : List ℕ) (settings : Settings) (store : List ℕ) (h : Header) (r : Record) (x : Id) (t : ℤ) (m m' : Memory) (b b' : List ℕ) (a : Taken) : Type 0 where
   pub right : store_is_ok (width_of settings.kind) store ≡ true → (g : List ℕ) (v : Walk) (sh : Shape) (st : State) (u : List Id) (t' : ℤ) → GoesBy v sh excluded settings → v.world ≡ world_of (width_of settings.kind) store g
-      → v.world.store x ≡ some h → Ready sh r m st u 256 → InStore v u → (sh.timed ≡ true → t ≡ t') → parents_room (width_of settings.kind) ≤ length b → Gives sh m m' b b' a (from_body v st x t' (some h))
+      → v.world.store x ≡ Some h → Ready sh r m st u 256 → InStore v u → (sh.timed ≡ true → t ≡ t') → parents_room (width_of settings.kind) ≤ length b → Gives sh m m' b b' a (from_body v st x t' (Some h))
   pub plain : Plain (width_of settings.kind) b b' a.answer
 
 -- the first of the queue, from the store alone

@@ -1,14 +1,11 @@
 // The next commit of the queue.
-ghost use Rattle.std.specs.Prelude.{◌≡◌, ◌+◌, ◌%◌, get_or};
+ghost use Rattle.std.specs.Prelude.{◌≡◌, ◌+◌, ◌%◌, get_or, None};
 ghost use Rattle.walk.specs.declared.Outcome.TheVariants.{Refused};
-ghost use Rattle.walk.specs.declared.MaybeLevel.TheVariants.{NoGeneration};
-ghost use Rattle.walk.specs.declared.MaybeSeconds.TheVariants.{NoTime};
 ghost use Rattle.walk.specs.Given.{no_id, level_given};
 ghost use Rattle.walk.specs.Next.{level_shown};
 ghost use Rattle.hash.specs.Bytes.{width_of};
 ghost use Rattle.object.specs.Header.{header};
 ghost use Rattle.object.specs.Ids.{padded, id_in};
-ghost use Rattle.date.specs.declared.Zone.TheVariants.{NoZone};
 ghost use Rattle.commit.specs.Find.{FindsCommit};
 ghost use Rattle.reading.specs.Files.{cache_with};
 ghost use Rattle.state.specs.Shapes.{waiting_in};
@@ -19,14 +16,13 @@ ghost use Rattle.visit.specs.Plain.{Plain};
 use bodyvisit::{BodyVisited, visit_body};
 use commit::Either;
 use commitgraph::{Layout, Level};
-use date::{Seconds, Zone};
+use date::Seconds;
 use hash::Kind;
 use object::ObjectId;
 use odb::Located;
 use reading::BodyEnd;
-use rowvisit::RowVisited;
 use state::{Next, Record, Waiting};
-use walk::{Answer, Info, MaybeLevel, MaybeSeconds, Outcome, Refusal, Settings};
+use walk::{Answer, Info, Outcome, Refusal, Settings};
 
 // An answer, and the record after it.
 #[derive(Clone, Copy)]
@@ -48,9 +44,9 @@ fn give(
     outcome: Outcome,
     id: ObjectId,
     parents: usize,
-    generation: MaybeLevel,
-    time: MaybeSeconds,
-    zone: Zone,
+    generation: Option<Level>,
+    time: Option<Seconds>,
+    zone: Option<i64>,
     r: Record,
     w: Waiting,
 ) -> Taken
@@ -80,28 +76,28 @@ fn give(
 
 // A refusal, with the number of parents set down before it.
 fn refuse(why: Refusal, parents: usize, r: Record, w: Waiting) -> Taken
-    ensures { result ≡ gave (Refused why) no_id parents NoGeneration NoTime NoZone (waiting_in r w) }
+    ensures { result ≡ gave (Refused why) no_id parents None None None (waiting_in r w) }
 {
     give(
         Outcome::Refused(why),
         ObjectId { bytes: [0u8; 32] },
         parents,
-        MaybeLevel::NoGeneration,
-        MaybeSeconds::NoTime,
-        Zone::NoZone,
+        None,
+        None,
+        None,
         r,
         w,
     )
 }
 
 // The seconds that a commit was queued with, in a queue by time.
-pub fn time_given(timed: bool, s: Seconds) -> MaybeSeconds
+pub fn time_given(timed: bool, s: Seconds) -> Option<Seconds>
     ensures { result ≡ time_given timed s }
 {
     if timed {
-        return MaybeSeconds::Time(s);
+        return Some(s);
     }
-    MaybeSeconds::NoTime
+    None
 }
 
 // The answer for a commit from its row, of which n parents were visited.
@@ -114,7 +110,7 @@ fn give_row(
     level: Level,
     after: Waiting,
 ) -> Taken
-    ensures { result ≡ gave Outcome.Commit (padded (id_in (width_of kind) id.bytes)) n (level_given (level_shown level.0)) (time_given after.queue.timed s) NoZone (waiting_in r after) }
+    ensures { result ≡ gave Outcome.Commit (padded (id_in (width_of kind) id.bytes)) n (level_given (level_shown level.0)) (time_given after.queue.timed s) None (waiting_in r after) }
 {
     let q = after.queue;
     give(
@@ -123,7 +119,7 @@ fn give_row(
         n,
         reading::level_shown(level),
         time_given(q.timed, s),
-        Zone::NoZone,
+        None,
         r,
         after,
     )
@@ -135,7 +131,7 @@ pub fn end_body(
     r: Record,
     seen: BodyVisited,
     id: ObjectId,
-    time: MaybeSeconds,
+    time: Option<Seconds>,
     body: &[u8],
 ) -> Taken
     ensures { EndsBody r seen (header (width_of kind) body.now) (id_in (width_of kind) id.bytes) time result }
@@ -146,7 +142,7 @@ pub fn end_body(
             Outcome::Commit,
             id_given(kind, id),
             seen.parents,
-            MaybeLevel::NoGeneration,
+            None,
             time,
             reading::zone_past(kind, body, seen.parents),
             r,
@@ -192,15 +188,15 @@ fn take_body(
 
 // The end of the walk.
 fn end_walk(r: Record) -> Taken
-    ensures { result ≡ gave Outcome.End no_id 0 NoGeneration NoTime NoZone r }
+    ensures { result ≡ gave Outcome.End no_id 0 None None None r }
 {
     give(
         Outcome::End,
         ObjectId { bytes: [0u8; 32] },
         0,
-        MaybeLevel::NoGeneration,
-        MaybeSeconds::NoTime,
-        Zone::NoZone,
+        None,
+        None,
+        None,
         r,
         state::waiting_of(r),
     )
@@ -247,10 +243,9 @@ fn take_stored(
     ensures { TakesStored excluded.now settings store.now r (mem names.old marks.old times.old line.old) (mem names.new marks.new times.new line.new) parents.old parents.new result }
 {
     let kind = settings.kind;
-    let first = state::pop(r, names, times, line);
-    if !first.found {
+    let Some(first) = state::pop(r, names, times, line) else {
         return end_walk(r);
-    }
+    };
     let id = first.id;
     let near = noted(levels, first.slot);
     let at = odb::locate_near(kind, store, object::id_slice(kind, &id.bytes), near);
@@ -298,12 +293,16 @@ fn take_cached(
         r, first.rest, graph, l, position, names, marks, levels, times, line, parents, excluded,
         settings,
     ) {
-        RowVisited::Visited {
-            after,
-            parents: n,
-            level,
-        } => give_row(kind, r, first.id, first.seconds, n, level, after),
-        RowVisited::Corrupt => {
+        Some(row) => give_row(
+            kind,
+            r,
+            first.id,
+            first.seconds,
+            row.parents,
+            row.level,
+            row.after,
+        ),
+        None => {
             let rest = state::with_waiting(r, first.rest);
             let back = state::drop_graph(rest, times, line, first.slot);
             take_stored(
@@ -357,10 +356,9 @@ pub fn next_by_topology_or_commit_date(
 ) -> Taken
     ensures { TakesNext excluded.now settings graph.now store.now r (mem names.old marks.old times.old line.old) (mem names.new marks.new times.new line.new) parents.old parents.new result × Plain (width_of settings.kind) parents.old parents.new result.answer }
 {
-    let top = state::pop(r, names, times, line);
-    if !top.found {
+    let Some(top) = state::pop(r, names, times, line) else {
         return end_walk(r);
-    }
+    };
     let l = r.fixed.layout;
     match look_up(l, r.kept, top.id, top.slot, graph, store, levels, settings) {
         Either::CachedCommit { position, .. } => take_cached(

@@ -1,10 +1,10 @@
 -- Painting ends within its turns on every input, with no premises: it is refused, or every queued commit is STALE. The weight, what is
 -- queued and the marks that the named ids lack, falls with each turn and is at most the turns allowed.
 -- Assumes nothing.
+use Rattle.std.specs.Prelude.{None, Option, Some}
 use mathlib.Core.Path.{◌≡◌, refl}
 use Prim.Native.Nat.{ℕ, zero, suc, ◌+◌, ◌*◌, ◌≤◌}
 use mathlib.Core.Bool.{Bool, true, false, cond}
-use mathlib.Core.Option.{Option, none, some}
 use mathlib.Core.List.Memᴰ
 use mathlib.Core.List.{List, [], ◌∷◌}
 use native.Mathlib.Omega.{arith}
@@ -65,13 +65,13 @@ module _ (w : World) (us : List Id) (within : (x p : Id) → Mem p (kids w x) �
 
 kids_body : (i : Input) (x p : Id) (o : Option Header) → (walk_of i).world.store x ≡ o → Mem p (parents_of (from_store o)) → Mem p (names i)
 unfolding from_store parents_of
-kids_body i x p none e m = absurd (Memᴰ.not-nil m)
-kids_body i x p (some h) e m = names-store i x p h e (go h.tree h.crowded h.author h.seconds m)
+kids_body i x p None e m = absurd (Memᴰ.not-nil m)
+kids_body i x p (Some h) e m = names-store i x p h e (go h.tree h.crowded h.author h.seconds m)
   where
     go : (t c a : Bool) (s : Option ℤ) → Mem p (parents_of (cond t (cond c (fail TooManyParents) (cond a (if_some s (fail CommitUnreadable) (λ u. good h.ids (record { generation = no_generation; time = u }))) (fail CommitUnreadable))) (fail CommitUnreadable))) → Mem p h.ids
     go true true a s k = absurd (Memᴰ.not-nil k)
-    go true false true none k = absurd (Memᴰ.not-nil k)
-    go true false true (some u) k = k
+    go true false true None k = absurd (Memᴰ.not-nil k)
+    go true false true (Some u) k = k
     go true false false s k = absurd (Memᴰ.not-nil k)
     go false c a s k = absurd (Memᴰ.not-nil k)
 

@@ -1,8 +1,8 @@
 -- At most 256 parents: a header's parent lines are counted, and a row's list ends at 256.
 -- Assumes nothing.
+use Rattle.std.specs.Prelude.{Some}
 use mathlib.Core.Path.{◌≡◌, ap}
 use Prim.Native.Nat.{ℕ, ◌≤◌}
-use mathlib.Core.Option.{some}
 use mathlib.Core.List.{List}
 use native.Mathlib.Omega.{arith}
 use lib.ListN.{length, length-map}
@@ -30,9 +30,9 @@ rows_of i x ps l s e =
     let r = is_row (width_in i) i.store i.graph x ps l s e in
     omega (arith, ap length r.same, length-map {B = Id × ℤ} r.places (λ (q : ℕ). (graph_id (width_in i) i.graph q, graph_seconds (width_in i) i.graph q)), parents-few (width_in i) i.graph r.place r.places r.listed)
 
-pub headers_of : (i : Input) (x : Id) (h : Header) → (walk_of i).world.store x ≡ some h → length h.ids ≤ most
+pub headers_of : (i : Input) (x : Id) (h : Header) → (walk_of i).world.store x ≡ Some h → length h.ids ≤ most
 unfolding walk_of world_of
 headers_of i x h e =
-    let o = some_of (store_find (width_in i) i.store x) (λ body. some (header (width_in i) body)) h e in
+    let o = some_of (store_find (width_in i) i.store x) (λ body. Some (header (width_in i) body)) h e in
     let k : header (width_in i) o.0 ≡ h = some_in o.2 in
     omega (arith, header-few (width_in i) o.0, ap (λ (q : Header). length q.ids) k)

@@ -1,10 +1,10 @@
 -- The parents that a commit store names: a parent line has 48 bytes (72 where an id has 32) and bodies lie end to end, so they are at most one for as many bytes.
 -- Assumes nothing.
+use Rattle.std.specs.Prelude.{Some}
 use mathlib.Core.Path.{◌≡◌, sym, ap, subst}
 use mathlib.Core.Logic.{⊎_elim}
 use Prim.Native.Nat.{ℕ, zero, suc, ◌*◌, ◌/◌, ◌≤◌, ◌<◌}
 use mathlib.Core.Bool.{true}
-use mathlib.Core.Option.{some}
 use mathlib.Core.List.Memᴰ
 use mathlib.Core.List.{List}
 use native.Mathlib.Omega.{arith}
@@ -47,7 +47,7 @@ up_to_in width b (suc n) k p h m =
     le : k ≤ n
     le = omega arith
 
-pub find_parents : (width : ℕ) (b : List ℕ) (x : Id) (c : List ℕ) → store_find width b x ≡ some c → (p : Id) → Mem p (header width c).ids → Mem p (store_parents width b)
+pub find_parents : (width : ℕ) (b : List ℕ) (x : Id) (c : List ℕ) → store_find width b x ≡ Some c → (p : Id) → Mem p (header width c).ids → Mem p (store_parents width b)
 unfolding store_parents
 find_parents width b x c e p m =
     let f = found-body width b x c e in

@@ -1,11 +1,11 @@
 -- The premises of the third demand are met by the histories of `Instances`. A list of ids that is closed under parents is tested id by id, and
 -- the tests compute.
 -- Assumes nothing.
+use Rattle.std.specs.Prelude.{Some}
 use mathlib.Core.Path.{◌≡◌, refl, sym, ◌∙◌, ap, subst}
 use mathlib.Core.Logic.{⊎_elim}
 use Prim.Native.Nat.{ℕ}
 use mathlib.Core.Bool.{Bool, true, false, ◌&&◌}
-use mathlib.Core.Option.{some}
 use mathlib.Core.List.Memᴰ
 use mathlib.Core.List.{List, [], ◌∷◌, map}
 use native.Mathlib.Omega.{arith}
@@ -58,7 +58,7 @@ good_of (good ps p) e = (ps, p, refl)
 abbrev AgreesIn : World → Id → Row → Type 0
 AgreesIn w x no_row = Unit {0}
 AgreesIn w x corrupt = ⊥
-AgreesIn w x (row ps l s) = (map (λ p. p.0) ps ≡ links w x) × (store_seconds w x ≡ some s)
+AgreesIn w x (row ps l s) = (map (λ p. p.0) ps ≡ links w x) × (store_seconds w x ≡ Some s)
 
 agrees_in_lem : (w : World) (x : Id) (r : Row) → w.graph x ≡ r → AgreesIn w x r → Agrees w x
 agrees_in_lem w x no_row e a = record {
@@ -70,7 +70,7 @@ agrees_in_lem w x corrupt e a = absurd a
 agrees_in_lem w x (row qs m t) e a = record {
   whole = λ k. let z : ◌≡◌ {A = ℕ} 0 1 = cc in omega arith;
   same-parents = λ ps l s k. let j : qs ≡ ps = cc in ap (map (λ (p : Id × ℤ). p.0)) (sym j) ∙ a.0;
-  same-seconds = λ ps l s k. let j : t ≡ s = cc in a.1 ∙ ap some j;
+  same-seconds = λ ps l s k. let j : t ≡ s = cc in a.1 ∙ ap Some j;
 }
 
 -- of every id of a list

@@ -1,9 +1,9 @@
 -- Card 6 holds of every input: a row's level is asked for in one place, which one row of level 0 turns to 0xFFFFFFFF for the whole file, and an
 -- answer shows that as none. Assumes nothing.
+use Rattle.std.specs.Prelude.{None, Option, Some}
 use mathlib.Core.Path.{◌≡◌, refl, ◌∙◌, ap}
 use Prim.Native.Nat.{ℕ}
 use mathlib.Core.Bool.{Bool, true, false, cond}
-use mathlib.Core.Option.{Option, none, some}
 use mathlib.Core.List.{List, map}
 use native.Mathlib.Omega.{arith}
 use lib.IntN.{ℤ}
@@ -25,11 +25,11 @@ use Rattle.walk.proofs.Moves.{Takes, nothing, absent, from-store, from_row, drop
 
 -- ---- what an answer shows
 
-pub shown-none : (l : ℕ) → l ≡ no_generation → level_shown l ≡ none
+pub shown-none : (l : ℕ) → l ≡ no_generation → level_shown l ≡ None
 unfolding level_shown
 shown-none l e = rw (eq-eqb l no_generation e)
 
-pub shown-some : (l : ℕ) → (l ≡ no_generation → ⊥) → level_shown l ≡ some l
+pub shown-some : (l : ℕ) → (l ≡ no_generation → ⊥) → level_shown l ≡ Some l
 unfolding level_shown
 shown-some l e = rw (ne_eqb l no_generation e)
 
@@ -46,12 +46,12 @@ module _ (width : ℕ) (b g : List ℕ) (z : ZeroRow width g) where
       on : (p : ℕ) (ps : List (Id × ℤ)) (l : ℕ) (s : ℤ) (o : Option (List ℕ))
           → if_some o corrupt (λ qs. row (map (λ q. (graph_id width g q, graph_seconds width g q)) qs) (generation width g p) (graph_seconds width g p)) ≡ row ps l s
           → l ≡ no_generation
-      on p ps l s none e = let n : ◌≡◌ {A = ℕ} 0 1 = cc in absurd (omega arith)
-      on p ps l s (some qs) e = let n : l ≡ generation width g p = cc in n ∙ zero-level width g z.position p z.below z.zero
+      on p ps l s None e = let n : ◌≡◌ {A = ℕ} 0 1 = cc in absurd (omega arith)
+      on p ps l s (Some qs) e = let n : l ≡ generation width g p = cc in n ∙ zero-level width g z.position p z.below z.zero
 
       go : (x : Id) (ps : List (Id × ℤ)) (l : ℕ) (s : ℤ) (o : Option ℕ) → graph_find width g x ≡ o → if_some o no_row (λ p. row_at width g p) ≡ row ps l s → l ≡ no_generation
-      go x ps l s none k e = let n : ◌≡◌ {A = ℕ} 0 1 = cc in absurd (omega arith)
-      go x ps l s (some p) k e = on p ps l s (graph_parents width g p) e
+      go x ps l s None k e = let n : ◌≡◌ {A = ℕ} 0 1 = cc in absurd (omega arith)
+      go x ps l s (Some p) k e = on p ps l s (graph_parents width g p) e
 
 module _ (w : World) (u : Unlevelled w) where
   pairs-none : (x : Id) → (pair_at w x).generation ≡ no_generation
@@ -65,8 +65,8 @@ module _ (w : World) (u : Unlevelled w) where
 
   store-none : (o : Option Header) (ps : List Id) (p : Pair) → from_store o ≡ good ps p → p.generation ≡ no_generation
   unfolding from_store
-  store-none none ps p e = let n : ◌≡◌ {A = ℕ} 0 1 = cc in absurd (omega arith)
-  store-none (some h) ps p e = go h.tree h.crowded h.author h.seconds e
+  store-none None ps p e = let n : ◌≡◌ {A = ℕ} 0 1 = cc in absurd (omega arith)
+  store-none (Some h) ps p e = go h.tree h.crowded h.author h.seconds e
     where
       go : (t c a : Bool) (s : Option ℤ)
           → cond t (cond c (fail TooManyParents) (cond a (if_some s (fail CommitUnreadable) (λ v. good h.ids (record { generation = no_generation; time = v }))) (fail CommitUnreadable))) (fail CommitUnreadable) ≡ good ps p
@@ -74,8 +74,8 @@ module _ (w : World) (u : Unlevelled w) where
       go false c a s f = let n : ◌≡◌ {A = ℕ} 0 1 = cc in absurd (omega arith)
       go true true a s f = let n : ◌≡◌ {A = ℕ} 0 1 = cc in absurd (omega arith)
       go true false false s f = let n : ◌≡◌ {A = ℕ} 0 1 = cc in absurd (omega arith)
-      go true false true none f = let n : ◌≡◌ {A = ℕ} 0 1 = cc in absurd (omega arith)
-      go true false true (some v) f = let n : p ≡ record { generation = no_generation; time = v } = cc in ap (λ (q : Pair). q.generation) n
+      go true false true None f = let n : ◌≡◌ {A = ℕ} 0 1 = cc in absurd (omega arith)
+      go true false true (Some v) f = let n : p ≡ record { generation = no_generation; time = v } = cc in ap (λ (q : Pair). q.generation) n
 
   painted-none : (x : Id) (ps : List Id) (p : Pair) → read w x ≡ good ps p → p.generation ≡ no_generation
   unfolding read read_row
@@ -90,7 +90,7 @@ module _ (w : World) (u : Unlevelled w) where
 
 -- a kind that shows no level
 abbrev Plain : Kind → Type 0
-Plain k = (x : Id) (l : Option ℕ) (t : Option ℤ) → k ≡ handed x l t → l ≡ none
+Plain k = (x : Id) (l : Option ℕ) (t : Option ℤ) → k ≡ handed x l t → l ≡ None
 
 end-plain : Plain end
 end-plain x l t e = let n : ◌≡◌ {A = ℕ} 0 1 = cc in absurd (omega arith)
@@ -98,13 +98,13 @@ end-plain x l t e = let n : ◌≡◌ {A = ℕ} 0 1 = cc in absurd (omega arith)
 refused-plain : (r : Refusal) → Plain (refused r)
 refused-plain r x l t e = let n : ◌≡◌ {A = ℕ} 0 1 = cc in absurd (omega arith)
 
-handed-plain : (y : Id) (m : Option ℕ) (v : Option ℤ) → m ≡ none → Plain (handed y m v)
+handed-plain : (y : Id) (m : Option ℕ) (v : Option ℤ) → m ≡ None → Plain (handed y m v)
 handed-plain y m v h x l t e = let n : l ≡ m = cc in n ∙ h
 
-kind-plain : (o : Option Refusal) (y : Id) (v : Option ℤ) → Plain (kind_of o (handed y none v))
+kind-plain : (o : Option Refusal) (y : Id) (v : Option ℤ) → Plain (kind_of o (handed y None v))
 unfolding kind_of
-kind-plain none y v = handed-plain y none v refl
-kind-plain (some r) y v = refused-plain r
+kind-plain None y v = handed-plain y None v refl
+kind-plain (Some r) y v = refused-plain r
 
 module _ (v : Walk) (u : Unlevelled v.world) where
   takes-plain : {st : State} {r : Step} → Takes v st r → Plain r.answer.kind

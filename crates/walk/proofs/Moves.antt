@@ -1,9 +1,9 @@
 -- What a call does, case by case: a view of `next` that laws about every call are proved over. It follows the clauses of the definitions.
 -- Assumes nothing.
+use Rattle.std.specs.Prelude.{None, Option, Some}
 use mathlib.Core.Path.{◌≡◌, refl, ◌∙◌, ap}
 use Prim.Native.Nat.{ℕ, zero, suc}
 use mathlib.Core.Bool.{Bool, true, false, cond, ◌||◌}
-use mathlib.Core.Option.{Option, none, some}
 use mathlib.Core.List.{List, [], ◌∷◌, map}
 use lib.IntN.{ℤ}
 use Rattle.hash.specs.Bytes.{Id}
@@ -23,10 +23,10 @@ pub data Takes (v : Walk) : State → Step → Type 0 where
   -- nothing waits
   nothing : {st : State} → st.queue ≡ [] → Takes v st (step end [] st)
   -- x is in neither file
-  absent : {st : State} (x : Id × ℤ) (q : List (Id × ℤ)) → st.queue ≡ x ∷ q → v.world.store x.0 ≡ none → Takes v st (step (refused CommitNotFound) [] (with_queue q st))
+  absent : {st : State} (x : Id × ℤ) (q : List (Id × ℤ)) → st.queue ≡ x ∷ q → v.world.store x.0 ≡ None → Takes v st (step (refused CommitNotFound) [] (with_queue q st))
   -- x is read from the store: handed out, or refused as its header ends
-  from-store : {st : State} (x : Id × ℤ) (q : List (Id × ℤ)) (h : Header) → st.queue ≡ x ∷ q → v.world.store x.0 ≡ some h
-      → Takes v st (zoned (zone_shown (ending v.settings h) h.zone) (step (kind_of (ending v.settings h) (handed x.0 none (queued_seconds v x.1))) (followed v.settings h.ids)
+  from-store : {st : State} (x : Id × ℤ) (q : List (Id × ℤ)) (h : Header) → st.queue ≡ x ∷ q → v.world.store x.0 ≡ Some h
+      → Takes v st (zoned (zone_shown (ending v.settings h) h.zone) (step (kind_of (ending v.settings h) (handed x.0 None (queued_seconds v x.1))) (followed v.settings h.ids)
       (visit_all v (with_queue q st) (with_seconds v (followed v.settings h.ids)))))
   -- x is read from its row
   from_row : {st : State} (x : Id × ℤ) (q ps : List (Id × ℤ)) (l : ℕ) (s : ℤ) → st.queue ≡ x ∷ q → v.world.graph x.0 ≡ row ps l s
@@ -45,8 +45,8 @@ pub data Moves (v : Walk) (st : State) : Step → Type 0 where
 module _ (v : Walk) where
   body-takes : (st : State) (x : Id × ℤ) (q : List (Id × ℤ)) → st.queue ≡ x ∷ q → (o : Option Header) → v.world.store x.0 ≡ o → Takes v st (from_body v (with_queue q st) x.0 x.1 o)
   unfolding from_body
-  body-takes st x q e none k = absent x q e k
-  body-takes st x q e (some h) k = from-store x q h e k
+  body-takes st x q e None k = absent x q e k
+  body-takes st x q e (Some h) k = from-store x q h e k
 
   store-takes : (st : State) (q : List (Id × ℤ)) → st.queue ≡ q → Takes v st (take_store v st q)
   unfolding take_store

@@ -1,10 +1,10 @@
 -- The numbers in an answer are those of the state after it, so they stay within P; and its parents are at most 256, as both files give no more.
 -- Assumes nothing.
+use Rattle.std.specs.Prelude.{None, Option, Some}
 use mathlib.Core.Path.{◌≡◌, refl, sym, subst}
 use mathlib.Core.Logic.{⊎_elim}
 use Prim.Native.Nat.{ℕ, zero, suc, ◌≤◌, ◌+◌}
 use mathlib.Core.Bool.{Bool, true, false, cond}
-use mathlib.Core.Option.{Option, none, some}
 use mathlib.Core.List.Memᴰ
 use mathlib.Core.List.{List, [], ◌∷◌, map}
 use native.Mathlib.Omega.{arith}
@@ -55,7 +55,7 @@ followed-few s l = go (only_first s)
 
 module _ (v : Walk)
     (few-rows : (x : Id) (ps : List (Id × ℤ)) (l : ℕ) (s : ℤ) → v.world.graph x ≡ row ps l s → length ps ≤ most)
-    (few-store : (x : Id) (h : Header) → v.world.store x ≡ some h → length h.ids ≤ most) where
+    (few-store : (x : Id) (h : Header) → v.world.store x ≡ Some h → length h.ids ≤ most) where
   takes_told : {st : State} {r : Step} → Takes v st r → Told r
   takes_told {st} (nothing e) = told end [] st (omega arith)
   takes_told {st} (absent x q e k) = told (refused CommitNotFound) [] (with_queue q st) (omega arith)
@@ -86,7 +86,7 @@ sums_parts n (b ∷ l) (Sums.call e s) a m =
     (λ j. sums_parts (n + uses b) l s a j)
     (Memᴰ.cases_cons m)
 
-calls_admit : (i : Input) (k : ℕ) (st : State) → refusal i ≡ none → Roomy i st → (a : Answer) → Mem a (calls (walk_of i) k st) → (a.admitted ≤ P i) × (length a.parents ≤ most)
+calls_admit : (i : Input) (k : ℕ) (st : State) → refusal i ≡ None → Roomy i st → (a : Answer) → Mem a (calls (walk_of i) k st) → (a.admitted ≤ P i) × (length a.parents ≤ most)
 unfolding calls
 calls_admit i zero st e r a m = absurd (Memᴰ.not-nil m)
 calls_admit i (suc k) st e r a m =

@@ -1,11 +1,11 @@
 -- No commit is handed out twice, on any input: an id enters the queue only while it is not seen, and is seen from then on; so the ids that wait are
 -- different, and those that were handed out are seen and do not wait.
 -- Assumes nothing.
+use Rattle.std.specs.Prelude.{None, Option, Some}
 use mathlib.Core.Path.{◌≡◌, refl, subst}
 use mathlib.Core.Logic.{⊎_elim}
 use Prim.Native.Nat.{ℕ, zero, suc}
 use mathlib.Core.Bool.{Bool, true, false, cond, ◌||◌}
-use mathlib.Core.Option.{Option, none, some}
 use mathlib.Core.List.Memᴰ
 use mathlib.Core.List.{List, [], ◌∷◌, ◌++◌, map}
 use lib.IntN.{ℤ, pos}
@@ -122,8 +122,8 @@ StepHeld r l = HeldBy r.state (handed_by r.answer.kind ++ l)
 
 kind-held : (n : Option Refusal) (x : Id) (generation : Option ℕ) (t : Option ℤ) (f : List Id) (st : State) (l : List Id) → HeldBy st (x ∷ l) → StepHeld (step (kind_of n (handed x generation t)) f st) l
 unfolding kind_of handed_by step
-kind-held none x generation t f st l h = h
-kind-held (some r) x generation t f st l h = fewer x st.queue st.seen l h
+kind-held None x generation t f st l h = h
+kind-held (Some r) x generation t f st l h = fewer x st.queue st.seen l h
 
 pub at-queue : {a q : List (Id × ℤ)} {seen : Id → Bool} {l : List Id} → a ≡ q → Held a seen l → Held q seen l
 at-queue {seen = seen} {l = l} e h = subst (λ (q : List (Id × ℤ)). Held q seen l) e h
@@ -133,10 +133,10 @@ unfolding step handed_by with_queue dropped kind_of
 takes_held v (nothing e) l h = h
 takes_held v {st} (absent x q e k) l h = fewer x.0 q st.seen l (out-held x q st.seen l (at-queue e h))
 takes_held v {st} (from-store x q b e k) l h =
-    kind-held (ending v.settings b) x.0 none (queued_seconds v x.1) (followed v.settings b.ids) (visit_all v (with_queue q st) (with_seconds v (followed v.settings b.ids))) l
+    kind-held (ending v.settings b) x.0 None (queued_seconds v x.1) (followed v.settings b.ids) (visit_all v (with_queue q st) (with_seconds v (followed v.settings b.ids))) l
     (visit_all-held v (with_seconds v (followed v.settings b.ids)) (with_queue q st) (x.0 ∷ l) (out-held x q st.seen l (at-queue e h)))
 takes_held v {st} (from_row x q ps generation s e k) l h =
-    kind-held none x.0 (some generation) (queued_seconds v x.1) (map (λ p. p.0) (followed v.settings ps)) (visit_all v (with_queue q st) (followed v.settings ps)) l
+    kind-held None x.0 (Some generation) (queued_seconds v x.1) (map (λ p. p.0) (followed v.settings ps)) (visit_all v (with_queue q st) (followed v.settings ps)) l
     (visit_all-held v (followed v.settings ps) (with_queue q st) (x.0 ∷ l) (out-held x q st.seen l (at-queue e h)))
 takes_held v {st} (drops x q e t) l h = takes_held v t l (back-held v x q st.seen l (at-queue e h))
 

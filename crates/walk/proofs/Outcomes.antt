@@ -1,4 +1,5 @@
 -- Each refusal, and each outcome of a call and of an opening, has a number of its own: it is read back from its number. Assumes nothing.
+use Rattle.std.specs.Prelude.{Err, Ok, Result}
 use Prim.Native.Nat.{ℕ, ◌<◌}
 use mathlib.Core.Path.{◌≡◌, refl, sym, ◌∙◌, ap}
 use mathlib.Core.Bool.{cond}
@@ -9,8 +10,6 @@ use Rattle.walk.specs.declared.Refusal.{Refusal}
 use Rattle.walk.specs.declared.Refusal.TheVariants.{BufferTooSmall, InputTooLarge, PartialId, CorruptStore, UnknownGraph, CorruptGraph, TipNotFound, TipUnreadable, CommitNotFound, CommitUnreadable, TooManyParents, Closed, UnreadableReach, GraphAtOdds, PairNotFalling, FalseName, FalseChecksum, UnfitStore, UnfitSeconds, ShortOutput, ReadingTwice, ReadingUnreadable, TangledReach, BadTerms, TooManyMoves}
 use Rattle.walk.specs.declared.Outcome.{Outcome}
 use Rattle.walk.specs.declared.Outcome.TheVariants.{Commit, End, Refused}
-use Rattle.walk.specs.declared.OpenOutcome.{OpenOutcome}
-use Rattle.walk.specs.declared.OpenOutcome.TheVariants.{Accepted, NotOpened}
 use Rattle.walk.specs.Refusals.{number_of}
 use Rattle.walk.specs.Given.{outcome_number, open_number}
 
@@ -92,14 +91,14 @@ outcome-back (Refused r) =
     simp (ne_eqb (number_of r) 0 (λ e. omega (arith, b.0)), ne_eqb (number_of r) 100 (λ e. omega (arith, b.1))) (ap Refused (refusal-back r))
 
 -- an opening's outcome beside a call's: the same numbers
-call_of : OpenOutcome → Outcome
-call_of Accepted = Commit
-call_of (NotOpened r) = Refused r
+call_of : Result (Unit {0}) Refusal → Outcome
+call_of (Ok _) = Commit
+call_of (Err r) = Refused r
 
-as_call : (o : OpenOutcome) → outcome_number (call_of o) ≡ open_number o
+as_call : (o : Result (Unit {0}) Refusal) → outcome_number (call_of o) ≡ open_number o
 unfolding call_of
-as_call Accepted = refl
-as_call (NotOpened r) = refl
+as_call (Ok _) = refl
+as_call (Err r) = refl
 
 -- ---- so no two have the same
 
@@ -109,12 +108,12 @@ refusal_number_own r s h = sym (refusal-back r) ∙ ap refusal_of h ∙ refusal-
 pub outcome_number-own : (o p : Outcome) → outcome_number o ≡ outcome_number p → o ≡ p
 outcome_number-own o p h = sym (outcome-back o) ∙ ap outcome_at h ∙ outcome-back p
 
-as_call_own : (o p : OpenOutcome) → call_of o ≡ call_of p → o ≡ p
+as_call_own : (o p : Result (Unit {0}) Refusal) → call_of o ≡ call_of p → o ≡ p
 unfolding call_of
-as_call_own Accepted Accepted h = refl
-as_call_own Accepted (NotOpened s) h = let z : ◌≡◌ {A = ℕ} 0 1 = cc in absurd (omega arith)
-as_call_own (NotOpened r) Accepted h = let z : ◌≡◌ {A = ℕ} 0 1 = cc in absurd (omega arith)
-as_call_own (NotOpened r) (NotOpened s) h = let e : r ≡ s = cc in ap NotOpened e
+as_call_own (Ok _) (Ok _) h = refl
+as_call_own (Ok _) (Err s) h = let z : ◌≡◌ {A = ℕ} 0 1 = cc in absurd (omega arith)
+as_call_own (Err r) (Ok _) h = let z : ◌≡◌ {A = ℕ} 0 1 = cc in absurd (omega arith)
+as_call_own (Err r) (Err s) h = let e : r ≡ s = cc in ap Err e
 
-pub open_number-own : (o p : OpenOutcome) → open_number o ≡ open_number p → o ≡ p
+pub open_number-own : (o p : Result (Unit {0}) Refusal) → open_number o ≡ open_number p → o ≡ p
 open_number-own o p h = as_call_own o p (outcome_number-own (call_of o) (call_of p) (as_call o ∙ h ∙ sym (as_call p)))

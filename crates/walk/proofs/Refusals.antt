@@ -1,7 +1,7 @@
 -- No two refusals have one number: the refusal is given back by its number. Assumes nothing.
+use Rattle.std.specs.Prelude.{None, Option, Some}
 use mathlib.Core.Path.{◌≡◌, refl, sym, ◌∙◌, ap}
 use Prim.Native.Nat.{ℕ}
-use mathlib.Core.Option.{Option, none, some}
 use mathlib.Core.List.{List, [], ◌∷◌}
 use lib.ListN.{get_or}
 use Rattle.hash.proofs.Tests.{some_in}
@@ -12,13 +12,13 @@ use Rattle.walk.specs.Refusals.{number_of}
 -- by rising number, from 0; none where no refusal has the number
 in_order : List (Option Refusal)
 in_order =
-    none ∷ some BufferTooSmall ∷ some InputTooLarge ∷ some PartialId ∷ some CorruptStore ∷ some UnknownGraph ∷ some CorruptGraph ∷ some TipNotFound
-    ∷ some TipUnreadable ∷ some CommitNotFound ∷ some CommitUnreadable ∷ some TooManyParents ∷ some Closed ∷ some UnreadableReach ∷ some GraphAtOdds ∷ some PairNotFalling
-    ∷ some FalseName ∷ some FalseChecksum ∷ some UnfitStore ∷ some UnfitSeconds ∷ some ShortOutput ∷ some ReadingTwice ∷ some ReadingUnreadable ∷ some TangledReach
-    ∷ some BadTerms ∷ some TooManyMoves
+    None ∷ Some BufferTooSmall ∷ Some InputTooLarge ∷ Some PartialId ∷ Some CorruptStore ∷ Some UnknownGraph ∷ Some CorruptGraph ∷ Some TipNotFound
+    ∷ Some TipUnreadable ∷ Some CommitNotFound ∷ Some CommitUnreadable ∷ Some TooManyParents ∷ Some Closed ∷ Some UnreadableReach ∷ Some GraphAtOdds ∷ Some PairNotFalling
+    ∷ Some FalseName ∷ Some FalseChecksum ∷ Some UnfitStore ∷ Some UnfitSeconds ∷ Some ShortOutput ∷ Some ReadingTwice ∷ Some ReadingUnreadable ∷ Some TangledReach
+    ∷ Some BadTerms ∷ Some TooManyMoves
     ∷ []
 
-number-back : (r : Refusal) → get_or in_order (number_of r) none ≡ some r
+number-back : (r : Refusal) → get_or in_order (number_of r) None ≡ Some r
 unfolding in_order
 number-back BufferTooSmall = refl
 number-back InputTooLarge = refl
@@ -47,4 +47,4 @@ number-back BadTerms = refl
 number-back TooManyMoves = refl
 
 pub number-once : (r s : Refusal) → number_of r ≡ number_of s → r ≡ s
-number-once r s e = some_in (sym (number-back r) ∙ ap (λ (n : ℕ). get_or in_order n none) e ∙ number-back s)
+number-once r s e = some_in (sym (number-back r) ∙ ap (λ (n : ℕ). get_or in_order n None) e ∙ number-back s)

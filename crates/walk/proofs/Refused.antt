@@ -1,9 +1,9 @@
 -- A call is refused by 9, 10 or 11 alone: a commit is absent, its header ends badly or in too many parents, or painting stops at one that
 -- cannot be read, and reading gives no other refusal. Assumes nothing.
+use Rattle.std.specs.Prelude.{None, Option, Some}
 use mathlib.Core.Path.{sym, ◌∙◌, ap, subst}
 use Prim.Native.Nat.{ℕ, zero, suc}
 use mathlib.Core.Bool.{Bool, true, false, cond, not, ◌&&◌}
-use mathlib.Core.Option.{Option, none, some}
 use mathlib.Core.List.{List, [], ◌∷◌}
 use native.Mathlib.Omega.{arith}
 use lib.IntN.{ℤ}
@@ -30,14 +30,14 @@ FailsAs (good ps p) = Unit {0}
 
 store_fails : (o : Option Header) → FailsAs (from_store o)
 unfolding from_store
-store_fails none = (omega arith, omega arith)
-store_fails (some h) = go h.tree h.crowded h.author h.seconds
+store_fails None = (omega arith, omega arith)
+store_fails (Some h) = go h.tree h.crowded h.author h.seconds
   where
     go : (t c a : Bool) (s : Option ℤ)
         → FailsAs (cond t (cond c (fail TooManyParents) (cond a (if_some s (fail CommitUnreadable) (λ u. good h.ids (record { generation = no_generation; time = u }))) (fail CommitUnreadable))) (fail CommitUnreadable))
     go true true a s = (omega arith, omega arith)
-    go true false true none = (omega arith, omega arith)
-    go true false true (some u) = tt
+    go true false true None = (omega arith, omega arith)
+    go true false true (Some u) = tt
     go true false false s = (omega arith, omega arith)
     go false c a s = (omega arith, omega arith)
 
@@ -107,7 +107,7 @@ header-answers : (s : Settings) (h : Header) (x : Id) (g : Option ℕ) (t : Opti
 unfolding ending kind_of
 header-answers s h x g t = go h.tree (only_first s && not (is_empty h.ids)) h.crowded h.author
   where
-    go : (a b c d : Bool) → AnswersAs (kind_of (cond a (cond b none (cond c (some TooManyParents) (cond d none (some CommitUnreadable)))) (some CommitUnreadable)) (handed x g t))
+    go : (a b c d : Bool) → AnswersAs (kind_of (cond a (cond b None (cond c (Some TooManyParents) (cond d None (Some CommitUnreadable)))) (Some CommitUnreadable)) (handed x g t))
     go true true c d = tt
     go true false true d = (omega arith, omega arith)
     go true false false true = tt
@@ -118,7 +118,7 @@ takes_answers : (v : Walk) {st : State} {r : Step} → Takes v st r → AnswersA
 unfolding step
 takes_answers v (nothing e) = tt
 takes_answers v (absent x q e k) = (omega arith, omega arith)
-takes_answers v (from-store x q h e k) = header-answers v.settings h x.0 none _
+takes_answers v (from-store x q h e k) = header-answers v.settings h x.0 None _
 takes_answers v (from_row x q ps l s e k) = tt
 takes_answers v (drops x q e t) = takes_answers v t
 

@@ -1,11 +1,11 @@
 -- P places suffice, at every call: the ids that wait are different and lie in the universe, so do the seen and the frontier; and an id is admitted
 -- as a tip, or as a parent that was not seen, so that the admitted and the unseen parents together never grow.
 -- Assumes nothing.
+use Rattle.std.specs.Prelude.{None, Some}
 use mathlib.Core.Path.{◌≡◌, refl, sym, subst}
 use mathlib.Core.Logic.{⊎_elim}
 use Prim.Native.Nat.{ℕ, zero, suc, ◌+◌, ◌≤◌}
 use mathlib.Core.Bool.{Bool, true, ◌||◌}
-use mathlib.Core.Option.{none, some}
 use mathlib.Core.List.Memᴰ
 use mathlib.Core.List.{List, [], ◌∷◌, ◌++◌, map}
 use native.Mathlib.Omega.{arith}
@@ -62,7 +62,7 @@ module _ (v : Walk) (us : List Id) where
       omega (arith, visitAll-owed ps (visit v st p.0 p.1) (λ q k. i q (Memᴰ.tail k)), visit-owed st p.0 p.1 (i p (Memᴰ.head refl)))
 
   module _ (in_rows : (x p : Id) (ps : List (Id × ℤ)) (l : ℕ) (s : ℤ) → v.world.graph x ≡ row ps l s → Mem p (map (λ q. q.0) ps) → Mem p us)
-      (in_store_lem : (x p : Id) (h : Header) → v.world.store x ≡ some h → Mem p h.ids → Mem p us) where
+      (in_store_lem : (x p : Id) (h : Header) → v.world.store x ≡ Some h → Mem p h.ids → Mem p us) where
     takes-owed : {st : State} {r : Step} → Takes v st r → owed us r.state ≤ owed us st
     unfolding step with_queue dropped owed
     takes-owed (nothing e) = omega arith
@@ -96,7 +96,7 @@ pub record Roomy (i : Input) (st : State) : Type 0 where
   pub named : Named (universe i) st
   pub counted : owed (names i) st ≤ P i
 
-pub roomy-fits : (i : Input) → refusal i ≡ none → (st : State) → Roomy i st → Fits (P i) st
+pub roomy-fits : (i : Input) → refusal i ≡ None → (st : State) → Roomy i st → Fits (P i) st
 unfolding owed
 roomy-fits i e st r =
     let u : length (universe i) ≤ P i = universe_length i e in

@@ -1,10 +1,10 @@
 -- The rows of a commit-graph file with a good layout: positions of parents are below N, and an id's row is found at its position, since
 -- ids rise strictly; so the seconds that a row gives its parents are those of their own rows. Assumes nothing.
+use Rattle.std.specs.Prelude.{None, Option, Some}
 use mathlib.Core.Path.{◌≡◌, refl, sym, ◌∙◌, ap, subst}
 use mathlib.Core.Logic.{◌⊎◌, inl, inr, ⊎_elim}
 use Prim.Native.Nat.{ℕ, zero, suc, ◌≤◌, ◌<◌}
 use mathlib.Core.Bool.{true}
-use mathlib.Core.Option.{Option, none, some}
 use mathlib.Core.List.Memᴰ
 use mathlib.Core.List.{List, [], ◌∷◌, map}
 use native.Mathlib.Omega.{arith}
@@ -24,7 +24,7 @@ use Rattle.commitgraph.proofs.LayoutRight.{right}
 use Rattle.commitgraph.proofs.Edges.{parents-below}
 
 -- the id at a position is found there
-pub row-found : (width : ℕ) (g : List ℕ) → graph_ok width g ≡ true → (q : ℕ) → q < graph_count g → graph_find width g (graph_id width g q) ≡ some q
+pub row-found : (width : ℕ) (g : List ℕ) → graph_ok width g ≡ true → (q : ℕ) → q < graph_count g → graph_find width g (graph_id width g q) ≡ Some q
 unfolding graph_find graph_id
 row-found width g ok q l = find_at (graph_ids width g) (graph_id width g q) (graph_count g) q (right width g ok).ids_rise l refl
 
@@ -36,32 +36,32 @@ mem_of_map f (x ∷ xs) b m =
 -- a row of the world is a row of the file
 pub record IsRow (width : ℕ) (g : List ℕ) (x : Id) (ps : List (Id × ℤ)) : Type 0 where
   pub place : ℕ
-  pub found : graph_find width g x ≡ some place
+  pub found : graph_find width g x ≡ Some place
   pub places : List ℕ
-  pub listed : graph_parents width g place ≡ some places
+  pub listed : graph_parents width g place ≡ Some places
   pub same : ps ≡ map (λ q. (graph_id width g q, graph_seconds width g q)) places
 
 pub is_row : (width : ℕ) (b g : List ℕ) (x : Id) (ps : List (Id × ℤ)) (l : ℕ) (s : ℤ) → (world_of width b g).graph x ≡ row ps l s → IsRow width g x ps
 unfolding world_of row_at
 is_row width b g x ps l s e = go (graph_find width g x) refl e
   where
-    on : (p : ℕ) → graph_find width g x ≡ some p → (o : Option (List ℕ)) → graph_parents width g p ≡ o
+    on : (p : ℕ) → graph_find width g x ≡ Some p → (o : Option (List ℕ)) → graph_parents width g p ≡ o
         → if_some o corrupt (λ qs. row (map (λ q. (graph_id width g q, graph_seconds width g q)) qs) (generation width g p) (graph_seconds width g p)) ≡ row ps l s → IsRow width g x ps
-    on p f none k e' = let z : ◌≡◌ {A = ℕ} 0 1 = cc in absurd (omega arith)
-    on p f (some qs) k e' = record { place = p; found = f; places = qs; listed = k; same = cc }
+    on p f None k e' = let z : ◌≡◌ {A = ℕ} 0 1 = cc in absurd (omega arith)
+    on p f (Some qs) k e' = record { place = p; found = f; places = qs; listed = k; same = cc }
 
     go : (o : Option ℕ) → graph_find width g x ≡ o → if_some o no_row (λ p. row_at width g p) ≡ row ps l s → IsRow width g x ps
-    go none k e' = let z : ◌≡◌ {A = ℕ} 0 1 = cc in absurd (omega arith)
-    go (some p) k e' = on p k (graph_parents width g p) refl e'
+    go None k e' = let z : ◌≡◌ {A = ℕ} 0 1 = cc in absurd (omega arith)
+    go (Some p) k e' = on p k (graph_parents width g p) refl e'
 
-row_or_corrupt : (width : ℕ) (b g : List ℕ) (x : Id) (p : ℕ) → graph_find width g x ≡ some p
+row_or_corrupt : (width : ℕ) (b g : List ℕ) (x : Id) (p : ℕ) → graph_find width g x ≡ Some p
     → ((world_of width b g).graph x ≡ corrupt) ⊎ ((qs : List (Id × ℤ)) × (m : ℕ) × ((world_of width b g).graph x ≡ row qs m (graph_seconds width g p)))
 unfolding world_of row_at
 row_or_corrupt width b g x p f = go (graph_parents width g p) refl
   where
     go : (o : Option (List ℕ)) → graph_parents width g p ≡ o → ((world_of width b g).graph x ≡ corrupt) ⊎ ((qs : List (Id × ℤ)) × (m : ℕ) × ((world_of width b g).graph x ≡ row qs m (graph_seconds width g p)))
-    go none k = inl (rw (f, k))
-    go (some l) k = inr (map (λ q. (graph_id width g q, graph_seconds width g q)) l, generation width g p, rw (f, k))
+    go None k = inl (rw (f, k))
+    go (Some l) k = inr (map (λ q. (graph_id width g q, graph_seconds width g q)) l, generation width g p, rw (f, k))
 
 pub coherent_world : (width : ℕ) (b g : List ℕ) → graph_ok width g ≡ true → Coherent (world_of width b g)
 unfolding Coherent
@@ -71,7 +71,7 @@ coherent_world width b g ok x ps l s e t m =
     let f = row-found width g ok q.0 (parents-below width g r.place r.places r.listed q.0 q.1) in
     rw q.2 (row_or_corrupt width b g (graph_id width g q.0) q.0 f)
 
-pub find_nil : (width : ℕ) (y : Id) → graph_find width [] y ≡ none
+pub find_nil : (width : ℕ) (y : Id) → graph_find width [] y ≡ None
 unfolding graph_find graph_count find_in
 find_nil width y = refl
 

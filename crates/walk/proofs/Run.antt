@@ -1,11 +1,11 @@
 -- The whole list of calls on a painted state, under the premises. Each call hands out the first that waits and leaves fewer that wait or are
 -- unseen; when nothing waits, all that is reached outside the frontier was handed out, since the parents of what was handed out are seen.
 -- Assumes nothing.
+use Rattle.std.specs.Prelude.{None, Option, Some}
 use mathlib.Core.Path.{◌≡◌, refl, sym, ◌∙◌, ap, subst}
 use mathlib.Core.Logic.{◌⊎◌, inl, inr, ⊎_elim}
 use Prim.Native.Nat.{ℕ, zero, suc, ◌≤◌, ◌<◌}
 use mathlib.Core.Bool.{Bool, true, false, cond, ◌||◌}
-use mathlib.Core.Option.{Option, none, some}
 use mathlib.Core.List.Memᴰ
 use mathlib.Core.List.{List, [], ◌∷◌, Memᴰ}
 use native.Mathlib.Omega.{arith}
@@ -35,10 +35,10 @@ time_of : (s : Sorting) (first : Bool) (b : Option ℤ) → cond (timed s) (if_s
     → (first || not_before (cutoff_of s) (if_some b (pos 0) (λ t. t))) ≡ true
 unfolding timed cutoff_of not_before
 time_of BreadthFirst f b e = or_right f true refl
-time_of (ByCommitTime o) f none e = clash e refl
-time_of (ByCommitTime o) f (some t) e = or_right f _ e
-time_of (ByCommitTimeCutoff o c) f none e = clash e refl
-time_of (ByCommitTimeCutoff o c) f (some t) e = or_right f _ e
+time_of (ByCommitTime o) f None e = clash e refl
+time_of (ByCommitTime o) f (Some t) e = or_right f _ e
+time_of (ByCommitTimeCutoff o c) f None e = clash e refl
+time_of (ByCommitTimeCutoff o c) f (Some t) e = or_right f _ e
 
 tip_in-time : (v : Walk) (tips : List Id) (x : Id) → tipStays v tips x ≡ true → (only_first v.settings || not_before (cutoff_of v.settings.sorting) (seconds_for v.world x)) ≡ true
 unfolding tipStays seconds_for

@@ -1,10 +1,10 @@
 -- End stays: a call says end only where nothing waits after the painting, and such a state answers every later call with end and stays as it is.
 -- Assumes nothing.
+use Rattle.std.specs.Prelude.{None, Option, Some}
 use mathlib.Core.Logic.{⊎_elim}
 use mathlib.Core.Path.{◌≡◌, refl, sym, ◌∙◌, ap, subst}
 use Prim.Native.Nat.{ℕ, zero, suc, ◌≤◌}
 use mathlib.Core.Bool.{Bool, true, cond}
-use mathlib.Core.Option.{Option, none, some}
 use mathlib.Core.List.{[], ◌∷◌}
 use native.Mathlib.Omega.{arith}
 use native.Mathlib.Nat.{eq-or-lt_of_le}
@@ -39,15 +39,15 @@ not-refused n e = let z : ◌≡◌ {A = ℕ} 0 1 = cc in absurd (omega arith)
 
 not-kind {ℓ} : {X : Type ℓ} (n : Option Refusal) (x : Id) (l : Option ℕ) (t : Option ℤ) → kind_of n (handed x l t) ≡ end → X
 unfolding kind_of
-not-kind none x l t e = not-handed x l t e
-not-kind (some r) x l t e = not-refused r e
+not-kind None x l t e = not-handed x l t e
+not-kind (Some r) x l t e = not-refused r e
 
 -- then nothing waits, and it is as painted as before
 takes_end : (v : Walk) {st : State} {r : Step} → Takes v st r → r.answer.kind ≡ end → (r.state.queue ≡ []) × (r.state.painted ≡ st.painted)
 unfolding step dropped
 takes_end v (nothing e) k = (e, refl)
 takes_end v (absent x q e b) k = not-refused CommitNotFound k
-takes_end v (from-store x q h e b) k = not-kind (ending v.settings h) x.0 none (queued_seconds v x.1) k
+takes_end v (from-store x q h e b) k = not-kind (ending v.settings h) x.0 None (queued_seconds v x.1) k
 takes_end v (from_row x q ps l s e b) k = not-handed x.0 (level_shown l) (queued_seconds v x.1) k
 takes_end v (drops x q e t) k = takes_end v t k
 

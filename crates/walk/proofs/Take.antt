@@ -1,11 +1,11 @@
 -- One commit is taken from the queue. Under the premises its header is good and its row, if it has one, says the same; so it is handed out,
 -- with the store's parents, and their seconds are the store's.
 -- Assumes nothing.
+use Rattle.std.specs.Prelude.{None, Option, Some}
 use mathlib.Core.Path.{◌≡◌, refl, sym, ◌∙◌, ap, subst}
 use mathlib.Core.Logic.{inl, inr, ⊎_elim}
 use Prim.Native.Nat.{ℕ, zero, suc}
 use mathlib.Core.Bool.{Bool, true, false, not, ◌&&◌}
-use mathlib.Core.Option.{Option, none, some}
 use mathlib.Core.List.Memᴰ
 use mathlib.Core.List.{List, [], ◌∷◌, map, Memᴰ}
 use native.Mathlib.Omega.{arith}
@@ -59,13 +59,13 @@ pub record Whole (h : Header) (ps : List Id) : Type 0 where
   pub tree-ok : h.tree ≡ true
   pub not-crowded : h.crowded ≡ false
   pub author-ok : h.author ≡ true
-  pub has-seconds : (s : ℤ) × (h.seconds ≡ some s)
+  pub has-seconds : (s : ℤ) × (h.seconds ≡ Some s)
   pub ids_are : h.ids ≡ ps
 
-pub header_of : (o : Option Header) (ps : List Id) (p : Pair) → from_store o ≡ good ps p → (h : Header) × (o ≡ some h) × Whole h ps
+pub header_of : (o : Option Header) (ps : List Id) (p : Pair) → from_store o ≡ good ps p → (h : Header) × (o ≡ Some h) × Whole h ps
 unfolding from_store
-header_of none ps p e = let z : ◌≡◌ {A = ℕ} 0 1 = cc in absurd (omega arith)
-header_of (some h) ps p e =
+header_of None ps p e = let z : ◌≡◌ {A = ℕ} 0 1 = cc in absurd (omega arith)
+header_of (Some h) ps p e =
     by_cases h.tree
     (λ t. by_cases h.crowded
     (λ c. let f : fail TooManyParents ≡ good ps p = rw (t, c) at e in let z : ◌≡◌ {A = ℕ} 0 1 = cc in absurd (omega arith))
@@ -76,11 +76,11 @@ header_of (some h) ps p e =
   where
     go : h.tree ≡ true → h.crowded ≡ false → h.author ≡ true → (o : Option ℤ) → h.seconds ≡ o
         → if_some o (fail CommitUnreadable) (λ s. good h.ids (record { generation = no_generation; time = s })) ≡ good ps p
-        → (h' : Header) × (some h ≡ some h') × Whole h' ps
-    go t c a none k f = let z : ◌≡◌ {A = ℕ} 0 1 = cc in absurd (omega arith)
-    go t c a (some s) k f = (h, refl, record { tree-ok = t; not-crowded = c; author-ok = a; has-seconds = (s, k); ids_are = cc })
+        → (h' : Header) × (Some h ≡ Some h') × Whole h' ps
+    go t c a None k f = let z : ◌≡◌ {A = ℕ} 0 1 = cc in absurd (omega arith)
+    go t c a (Some s) k f = (h, refl, record { tree-ok = t; not-crowded = c; author-ok = a; has-seconds = (s, k); ids_are = cc })
 
-pub ending-whole : (s : Settings) (h : Header) (ps : List Id) → Whole h ps → ending s h ≡ none
+pub ending-whole : (s : Settings) (h : Header) (ps : List Id) → Whole h ps → ending s h ≡ None
 unfolding ending
 ending-whole s h ps g =
     by_cases (only_first s && not (is_empty h.ids))
@@ -124,7 +124,7 @@ module _ (v : Walk) (tips : List Id) (pre : Premises v tips) (coherent : Coheren
   away-region front x (tip a o) = region-tip x a.lent
   away-region front x (link {x = y} b a o) = region-on y x (away-region front y b) (followed_sub v.settings x (links v.world y) a.follows)
 
-  pub header_at : (x : Id) → Region v tips x → (h : Header) × (v.world.store x ≡ some h) × Whole h (links v.world x)
+  pub header_at : (x : Id) → Region v tips x → (h : Header) × (v.world.store x ≡ Some h) × Whole h (links v.world x)
   unfolding Readable links parents_of
   header_at x r =
       let g = pre.readable x r in
@@ -153,7 +153,7 @@ module _ (v : Walk) (tips : List Id) (pre : Premises v tips) (coherent : Coheren
   from-body st x t r =
       let a = header_at x r in
       let f = followed v.settings a.0.ids in (
-        none,
+        None,
         queued_seconds v t,
         f,
         with_seconds v f,
@@ -163,7 +163,7 @@ module _ (v : Walk) (tips : List Id) (pre : Premises v tips) (coherent : Coheren
         (λ p m. (with_seconds_lem v f p m).1),
       )
 
-  seconds-for : (x : Id) (t : ℤ) → store_seconds v.world x ≡ some t → seconds_for v.world x ≡ t
+  seconds-for : (x : Id) (t : ℤ) → store_seconds v.world x ≡ Some t → seconds_for v.world x ≡ t
   unfolding seconds_for
   seconds-for x t e = rw e
 
@@ -176,7 +176,7 @@ module _ (v : Walk) (tips : List Id) (pre : Premises v tips) (coherent : Coheren
         queued_seconds v t,
         map (λ p. p.0) f,
         f,
-        none,
+        None,
         refl,
         followed_map v.settings (λ p. p.0) ps ∙ ap (followed v.settings) same,
         (λ p m.
@@ -185,7 +185,7 @@ module _ (v : Walk) (tips : List Id) (pre : Premises v tips) (coherent : Coheren
             let rp : Region v tips p.0 = region-on x p.0 r lp in
             ⊎_elim
             (λ c. absurd ((pre.agrees p.0 rp).whole c))
-            (λ c. let b : store_seconds v.world p.0 ≡ some p.1 = (pre.agrees p.0 rp).same-seconds c.0 c.1 p.1 c.2 in
+            (λ c. let b : store_seconds v.world p.0 ≡ Some p.1 = (pre.agrees p.0 rp).same-seconds c.0 c.1 p.1 c.2 in
             sym (seconds-for p.0 p.1 b))
             (coherent x ps l s e p mp)),
       )

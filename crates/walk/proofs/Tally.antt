@@ -1,11 +1,11 @@
 -- The sum and the end, of any walk and with no premises. A call uses up one commit and leaves the others where they were, or says end, or is
 -- painting's own refusal, which strikes all; so the sum is kept. And each call that uses up a commit leaves fewer that wait or are unseen, so
 -- end comes. Assumes nothing.
+use Rattle.std.specs.Prelude.{None, Option, Some}
 use mathlib.Core.Path.{◌≡◌, refl, ap, subst}
 use mathlib.Core.Logic.{◌⊎◌, inl, inr, ⊎_elim}
 use Prim.Native.Nat.{ℕ, zero, suc, ◌+◌, ◌-◌, ◌≤◌, ◌<◌}
 use mathlib.Core.Bool.{Bool, true, false}
-use mathlib.Core.Option.{Option, none, some}
 use mathlib.Core.List.{List, [], ◌∷◌, map}
 use native.Mathlib.Omega.{arith}
 use lib.ListN.{length}
@@ -75,8 +75,8 @@ Used (handed x l t) = Unit {0}
 
 used_kind : (n : Option Refusal) (x : Id) (l : Option ℕ) (t : Option ℤ) → Used (kind_of n (handed x l t))
 unfolding Used kind_of
-used_kind none x l t = tt
-used_kind (some n) x l t = tt
+used_kind None x l t = tt
+used_kind (Some n) x l t = tt
 
 uses-one : (k : Kind) (b : Bool) → Used k → b ≡ true → uses_kind k b ≡ 1
 unfolding Used uses_kind
@@ -111,7 +111,7 @@ module _ (v : Walk) where
   takes-adds n {st} (absent x q e k) t = used-adds n (refused CommitNotFound) tt [] [] (with_queue q st) (omega (arith, ap length e))
   takes-adds n {st} (from-store x q h e k) t =
       adds-zoned (zone_shown (ending v.settings h) h.zone)
-      (used-adds n (kind_of (ending v.settings h) (handed x.0 none (queued_seconds v x.1))) (used_kind (ending v.settings h) x.0 none (queued_seconds v x.1))
+      (used-adds n (kind_of (ending v.settings h) (handed x.0 None (queued_seconds v x.1))) (used_kind (ending v.settings h) x.0 None (queued_seconds v x.1))
       (followed v.settings h.ids) (with_seconds v (followed v.settings h.ids)) (with_queue q st) (omega (arith, ap length e)))
   takes-adds n {st} (from_row x q ps l s e k) t =
       used-adds n (handed x.0 (level_shown l) (queued_seconds v x.1)) tt (map (λ p. p.0) (followed v.settings ps)) (followed v.settings ps) (with_queue q st) (omega (arith, ap length e))
@@ -123,7 +123,7 @@ module _ (v : Walk) where
   takes-uses n {st} (nothing e) t m k = let z : ◌≡◌ {A = ℕ} 0 1 = cc in absurd (omega arith)
   takes-uses n {st} (absent x q e b) t m k = used-one n (refused CommitNotFound) tt [] [] (with_queue q st) (omega (arith, ap length e))
   takes-uses n {st} (from-store x q h e b) t m k =
-      used-one n (kind_of (ending v.settings h) (handed x.0 none (queued_seconds v x.1))) (used_kind (ending v.settings h) x.0 none (queued_seconds v x.1))
+      used-one n (kind_of (ending v.settings h) (handed x.0 None (queued_seconds v x.1))) (used_kind (ending v.settings h) x.0 None (queued_seconds v x.1))
       (followed v.settings h.ids) (with_seconds v (followed v.settings h.ids)) (with_queue q st) (omega (arith, ap length e))
   takes-uses n {st} (from_row x q ps l s e b) t m k =
       used-one n (handed x.0 (level_shown l) (queued_seconds v x.1)) tt (map (λ p. p.0) (followed v.settings ps)) (followed v.settings ps) (with_queue q st) (omega (arith, ap length e))
@@ -157,7 +157,7 @@ ends_up (a ∷ l) n (suc m) le e = let t = ends_tail e in before (ends_up l t.0 
 
 module _ (v : Walk) (us : List Id)
     (in_rows : (x p : Id) (ps : List (Id × ℤ)) (l : ℕ) (s : ℤ) → v.world.graph x ≡ row ps l s → Mem p (map (λ q. q.0) ps) → Mem p us)
-    (in_store_lem : (x p : Id) (h : Header) → v.world.store x ≡ some h → Mem p h.ids → Mem p us) where
+    (in_store_lem : (x p : Id) (h : Header) → v.world.store x ≡ Some h → Mem p h.ids → Mem p us) where
   -- end, or fewer are left
   takes-left : {st : State} {r : Step} → Takes v st r → (r.answer.kind ≡ end) ⊎ (left us r.state < left us st)
   unfolding step with_queue dropped left

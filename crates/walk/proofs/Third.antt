@@ -2,11 +2,11 @@
 -- outside the frontier is what is reached over admitted links and from no hidden tip: the frontier is hidden, and what is reached before it is
 -- not. The walk hands out the first, each once.
 -- Assumes nothing.
+use Rattle.std.specs.Prelude.{None, Some}
 use mathlib.Core.Path.{◌≡◌, refl, sym, ◌∙◌, ap, subst}
 use mathlib.Core.Logic.{inl, inr, ⊎_elim, ◌↔◌}
 use Prim.Native.Nat.{ℕ, ◌+◌, ◌*◌, ◌≤◌}
 use mathlib.Core.Bool.{Bool, true, false, ◌&&◌, ◌||◌}
-use mathlib.Core.Option.{none, some}
 use mathlib.Core.List.Memᴰ
 use mathlib.Core.List.{List, [], ◌∷◌, map}
 use native.Mathlib.Omega.{arith}
@@ -76,7 +76,7 @@ module _ (v : Walk) (tips : List Id) (pre : Premises v tips) (coherent : Coheren
       let s = h.2.has-seconds in
       rw (h.1, h.2.tree-ok, h.2.not-crowded, h.2.author-ok, s.1)
   pair_row x r corrupt e = absurd ((pre.agrees x r).whole e)
-  pair_row x r (row ps l s) e = let k : if_some (w.store x) none (λ h. h.seconds) ≡ some s = (pre.agrees x r).same-seconds ps l s e in rw k
+  pair_row x r (row ps l s) e = let k : if_some (w.store x) None (λ h. h.seconds) ≡ Some s = (pre.agrees x r).same-seconds ps l s e in rw k
 
   pair-at : (x : Id) → R x → pair w x ≡ pair_at w x
   unfolding read pair_at

@@ -1,8 +1,8 @@
 -- An opening tip by tip, with no premises: what the empty state has, and what each tip keeps whether it waits or the cutoff turns it away, the opened state has.
 -- Assumes nothing.
+use Rattle.std.specs.Prelude.{None, Option, Some}
 use mathlib.Core.Path.{◌≡◌, refl, sym, ◌∙◌, ap, subst}
 use mathlib.Core.Bool.{Bool, true, false, cond}
-use mathlib.Core.Option.{Option, some, none}
 use Prim.Native.Nat.{ℕ}
 use mathlib.Core.List.{List, [], ◌∷◌}
 use native.Mathlib.Omega.{arith}
@@ -24,8 +24,8 @@ opened_test P true x y st e f g = f e
 opened_test P false x y st e f g = g e
 
 pub opened_some : {A : Type 0} (P : Type 0) (o : Option A) (n : Refusal) (f : A → Opening) (st : State) → if_some o (closed n) f ≡ opened st → ((a : A) → f a ≡ opened st → P) → P
-opened_some P none n f st e g = no-opened n st e
-opened_some P (some a) n f st e g = g a e
+opened_some P None n f st e g = no-opened n st e
+opened_some P (Some a) n f st e g = g a e
 
 -- ---- tip by tip
 
@@ -46,17 +46,17 @@ module _ (v : Walk) where
         (λ e₄. tips-keep xs (sees st x) st' (by-turning x xs st q) e₄))))
         (λ e₁. tips-keep xs (waits v st x (pos 0)) st' (by-waiting x xs st (pos 0) q) e₁)
 
-or_closed : (i : Input) (r : Refusal) (st : State) → open_or i true (some r) ≡ opened st → closed r ≡ opened st
+or_closed : (i : Input) (r : Refusal) (st : State) → open_or i true (Some r) ≡ opened st → closed r ≡ opened st
 unfolding open_or
 or_closed i r st e = e
 
-pub open_accepted : (i : Input) (st : State) → open_walk i true ≡ opened st → refusal i ≡ none
+pub open_accepted : (i : Input) (st : State) → open_walk i true ≡ opened st → refusal i ≡ None
 unfolding open_walk
 open_accepted i st e = go (refusal i) refl e
   where
-    go : (n : Option Refusal) → refusal i ≡ n → open_or i true n ≡ opened st → refusal i ≡ none
-    go none k f = k
-    go (some r) k f = no-opened r st (or_closed i r st f)
+    go : (n : Option Refusal) → refusal i ≡ n → open_or i true n ≡ opened st → refusal i ≡ None
+    go None k f = k
+    go (Some r) k f = no-opened r st (or_closed i r st f)
 
 pub open_tips_lem : (i : Input) (st : State) → open_walk i true ≡ opened st → tips_in (walk_of i) (distinct [] (walk_of i).excluded (list_ids (width_in i) i.tips)) empty_state ≡ opened st
 unfolding open_walk open_or open_tips walk_of

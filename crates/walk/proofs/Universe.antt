@@ -1,11 +1,11 @@
 -- Every id that the walk names lies in one list of at most P ids: the tips and hidden tips as lent, the store's parent lines and the graph's rows.
 -- For a tip is of the first, and after the opening an id is seen only as a parent, in the frontier only by a mark, and marks go to tips, hidden tips and parents.
 -- Assumes nothing.
+use Rattle.std.specs.Prelude.{None, Option, Some}
 use mathlib.Core.Path.{◌≡◌, refl, sym, subst}
 use mathlib.Core.Logic.{inl, ⊎_elim}
 use Prim.Native.Nat.{ℕ, zero, suc, ◌≤◌}
 use mathlib.Core.Bool.{Bool, true, cond, ◌||◌}
-use mathlib.Core.Option.{Option, none, some}
 use mathlib.Core.List.Memᴰ
 use mathlib.Core.List.{List, [], ◌∷◌, ◌++◌, map}
 use native.Mathlib.Omega.{arith}
@@ -109,11 +109,11 @@ module _ (v : Walk) (us : List Id) where
   -- ---- one commit is taken
 
   module _ (in_rows : (x p : Id) (ps : List (Id × ℤ)) (l : ℕ) (s : ℤ) → v.world.graph x ≡ row ps l s → Mem p (map (λ q. q.0) ps) → Mem p us)
-      (in_store_lem : (x p : Id) (h : Header) → v.world.store x ≡ some h → Mem p h.ids → Mem p us) where
+      (in_store_lem : (x p : Id) (h : Header) → v.world.store x ≡ Some h → Mem p h.ids → Mem p us) where
     kind-in : (n : Option Refusal) (x : Id) (generation : Option ℕ) (t : Option ℤ) → Mem x us → (y : Id) → Mem y (handed_by (kind_of n (handed x generation t))) → Mem y us
     unfolding kind_of handed_by
-    kind-in none x generation t m y k = ⊎_elim (λ e. rw e m) (λ j. absurd (Memᴰ.not-nil j)) (Memᴰ.cases_cons k)
-    kind-in (some r) x generation t m y k = absurd (Memᴰ.not-nil k)
+    kind-in None x generation t m y k = ⊎_elim (λ e. rw e m) (λ j. absurd (Memᴰ.not-nil j)) (Memᴰ.cases_cons k)
+    kind-in (Some r) x generation t m y k = absurd (Memᴰ.not-nil k)
 
     takes-named : {st : State} {r : Step} → Takes v st r → Named us st → StepNamed us r
     unfolding step handed_by with_queue dropped kind_of
@@ -127,7 +127,7 @@ module _ (v : Walk) (us : List Id) where
         let i : (p : Id) → Mem p f → Mem p us = λ p j. in_store_lem x.0 p h k (followed_sub v.settings p h.ids j) in
         record {
           after_it = visitAll-named (with_seconds v f) (with_queue q st) (λ p j. i p.0 (with_seconds_lem v f p j).0) (rest-named x q e n);
-          tells = record { id_in_lem = kind-in (ending v.settings h) x.0 none (queued_seconds v x.1) (head_in x q e n); parents_in = i };
+          tells = record { id_in_lem = kind-in (ending v.settings h) x.0 None (queued_seconds v x.1) (head_in x q e n); parents_in = i };
         }
     takes-named {st} (from_row x q ps generation s e k) n =
         let f = followed v.settings ps in
@@ -135,7 +135,7 @@ module _ (v : Walk) (us : List Id) where
         λ p m. in_rows x.0 p ps generation s k (followed_sub v.settings p (map (λ (q : Id × ℤ). q.0) ps) (rw (followed_map v.settings (λ (q : Id × ℤ). q.0) ps) at m)) in
         record {
           after_it = visitAll-named f (with_queue q st) (λ p m. j p.0 (mem_map (λ (q : Id × ℤ). q.0) p f m)) (rest-named x q e n);
-          tells = record { id_in_lem = kind-in none x.0 (some generation) (queued_seconds v x.1) (head_in x q e n); parents_in = j };
+          tells = record { id_in_lem = kind-in None x.0 (Some generation) (queued_seconds v x.1) (head_in x q e n); parents_in = j };
         }
     takes-named (drops x q e t) n = takes-named t (dropped-named x q e n)
 
@@ -168,7 +168,7 @@ module _ (v : Walk) (us : List Id) where
 
 -- ---- of an input
 
-pub universe_length : (i : Input) → refusal i ≡ none → length (universe i) ≤ P i
+pub universe_length : (i : Input) → refusal i ≡ None → length (universe i) ≤ P i
 unfolding universe P
 universe_length i e =
     let a = accepted i e in
@@ -198,7 +198,7 @@ name_in i x m = Memᴰ.append_right (list_ids (width_in i) i.tips) (Memᴰ.appen
 pub row_in : (i : Input) (x p : Id) (ps : List (Id × ℤ)) (l : ℕ) (s : ℤ) → (walk_of i).world.graph x ≡ row ps l s → Mem p (map (λ q. q.0) ps) → Mem p (universe i)
 row_in i x p ps l s e m = name_in i p (names-rows i x p ps l s e m)
 
-pub body_in : (i : Input) (x p : Id) (h : Header) → (walk_of i).world.store x ≡ some h → Mem p h.ids → Mem p (universe i)
+pub body_in : (i : Input) (x p : Id) (h : Header) → (walk_of i).world.store x ≡ Some h → Mem p h.ids → Mem p (universe i)
 body_in i x p h e m = name_in i p (names-store i x p h e m)
 
 pub kid_in : (i : Input) (x p : Id) → Mem p (kids (walk_of i).world x) → Mem p (universe i)

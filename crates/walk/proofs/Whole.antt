@@ -1,11 +1,11 @@
 -- The claims about whole inputs: the third demand, the sum and the end. An accepted opening has files of a good layout, and these give what
 -- the claims on the model ask for: rows agree among themselves, and the parents that the files name are few enough for P.
 -- Assumes nothing.
+use Rattle.std.specs.Prelude.{None, Option, Some}
 use mathlib.Core.Path.{◌≡◌, refl, sym, ◌∙◌, ap, subst}
 use mathlib.Core.Logic.{◌⊎◌, inl, inr}
 use Prim.Native.Nat.{ℕ, zero, suc, ◌+◌, ◌*◌, ◌/◌, ◌≤◌}
 use mathlib.Core.Bool.{Bool, true, false, cond, ◌||◌}
-use mathlib.Core.Option.{Option, none, some}
 use mathlib.Core.List.Memᴰ
 use mathlib.Core.List.{List, [], ◌∷◌, map}
 use native.Mathlib.Omega.{arith}
@@ -46,18 +46,18 @@ pub record Accepted (i : Input) : Type 0 where
   pub store_ok : store_is_ok (width_in i) i.store ≡ true
   pub graph-ok : (is_empty i.graph ≡ true) ⊎ (graph_ok (width_in i) i.graph ≡ true)
 
-pick-none : (b : Bool) (n : Option Refusal) (r : Refusal) → cond b n (some r) ≡ none → (b ≡ true) × (n ≡ none)
+pick-none : (b : Bool) (n : Option Refusal) (r : Refusal) → cond b n (Some r) ≡ None → (b ≡ true) × (n ≡ None)
 pick-none true n r e = (refl, e)
 pick-none false n r e = no-some (sym e)
 
-pub accepted : (i : Input) → refusal i ≡ none → Accepted i
+pub accepted : (i : Input) → refusal i ≡ None → Accepted i
 unfolding refusal
 accepted i e =
     let a = pick-none (sizes_ok i) _ InputTooLarge e in
     let b = pick-none (whole_ids i) _ PartialId a.1 in
     let c = pick-none (store_is_ok (width_in i) i.store) _ CorruptStore b.1 in
     let d = pick-none (is_empty i.graph || graph_head (hash_version i.settings.kind) i.graph) _ UnknownGraph c.1 in
-    let f = pick-none (is_empty i.graph || graph_ok (width_in i) i.graph) none CorruptGraph d.1 in
+    let f = pick-none (is_empty i.graph || graph_ok (width_in i) i.graph) None CorruptGraph d.1 in
     record { store_ok = c.0; graph-ok = or_cases {a = is_empty i.graph} {b = graph_ok (width_in i) i.graph} f.0 }
 
 empty-is : (g : List ℕ) → is_empty g ≡ true → g ≡ []
@@ -88,14 +88,14 @@ length_list width b = length_cut width (length b / width) b
 
 -- ---- what the store names
 
-store-names : (i : Input) (x p : Id) (h : Header) → (world_of (width_in i) i.store i.graph).store x ≡ some h → Mem p h.ids → Mem p (store_parents (width_in i) i.store)
+store-names : (i : Input) (x p : Id) (h : Header) → (world_of (width_in i) i.store i.graph).store x ≡ Some h → Mem p h.ids → Mem p (store_parents (width_in i) i.store)
 unfolding world_of
 store-names i x p h e m =
-    let o = some_of (store_find (width_in i) i.store x) (λ body. some (header (width_in i) body)) h e in
+    let o = some_of (store_find (width_in i) i.store x) (λ body. Some (header (width_in i) body)) h e in
     let k : header (width_in i) o.0 ≡ h = some_in o.2 in
     find_parents (width_in i) i.store x o.0 o.1 p (subst (λ (q : Header). Mem p q.ids) (sym k) m)
 
-store_names' : (i : Input) (x p : Id) (h : Header) → (walk_of i).world.store x ≡ some h → Mem p h.ids → Mem p (store_parents (width_in i) i.store)
+store_names' : (i : Input) (x p : Id) (h : Header) → (walk_of i).world.store x ≡ Some h → Mem p h.ids → Mem p (store_parents (width_in i) i.store)
 unfolding walk_of
 store_names' i x p h e m = store-names i x p h e m
 
@@ -113,7 +113,7 @@ room i a = omega (arith, store_parents_length (width_in i) i.store a.store_ok, l
 
 -- ---- the third demand
 
-opened_as : (i : Input) → refusal i ≡ none → (st : State) → tips_in (walk_of i) (distinct [] (walk_of i).excluded (list_ids (width_in i) i.tips)) empty_state ≡ opened st
+opened_as : (i : Input) → refusal i ≡ None → (st : State) → tips_in (walk_of i) (distinct [] (walk_of i).excluded (list_ids (width_in i) i.tips)) empty_state ≡ opened st
     → open_walk i true ≡ opened st
 unfolding open_walk open_or open_tips
 opened_as i e st k = ap (λ (n : Option Refusal). open_or i true n) e ∙ k
@@ -188,7 +188,7 @@ pub names-rows : (i : Input) (x p : Id) (ps : List (Id × ℤ)) (l : ℕ) (s : �
 unfolding walk_of
 names-rows i x p ps l s e m = Memᴰ.append_right (store_parents (width_in i) i.store) (rows_in (width_in i) i.store i.graph x p ps l s e m)
 
-pub names-store : (i : Input) (x p : Id) (h : Header) → (walk_of i).world.store x ≡ some h → Mem p h.ids → Mem p (names i)
+pub names-store : (i : Input) (x p : Id) (h : Header) → (walk_of i).world.store x ≡ Some h → Mem p h.ids → Mem p (names i)
 names-store i x p h e m = Memᴰ.append_left (row_ids (width_in i) i.graph (graph_count i.graph)) (store_names' i x p h e m)
 
 pub sum_law : (i : Input) → SumLaw i

@@ -1,10 +1,10 @@
 -- Every id that an accepted walk names has the width of its kind: a list is cut into so many bytes each, a parent line has two digits for each, and a commit-graph file
 -- of a good layout has room for each of its ids. Assumes nothing.
+use Rattle.std.specs.Prelude.{None}
 use mathlib.Core.Path.{◌≡◌, refl, sym, ◌∙◌, ap, subst}
 use mathlib.Core.Logic.{◌⊎◌, inl, inr, ⊎_elim}
 use Prim.Native.Nat.{ℕ, zero, suc, ◌*◌, ◌/◌, ◌≤◌, ◌<◌}
 use mathlib.Core.Bool.{true}
-use mathlib.Core.Option.{none}
 use mathlib.Core.List.Memᴰ
 use mathlib.Core.List.{List, [], ◌∷◌, ◌++◌}
 use native.Mathlib.Omega.{arith}
@@ -87,7 +87,7 @@ graph-wide width (y ∷ g) p (inr e) = rows-wide width (y ∷ g) (graph_count (y
 
 -- ---- of an accepted opening
 
-pub universe-wide : (i : Input) → refusal i ≡ none → Wide (width_in i) (universe i)
+pub universe-wide : (i : Input) → refusal i ≡ None → Wide (width_in i) (universe i)
 unfolding universe store_parents
 universe-wide i e =
     let a = accepted i e in

@@ -1,7 +1,6 @@
 -- Every call after an opening (document 01: "every answer … equals that of the walk as written here, which is fed only the opening's
 -- files, lists and settings and the number of calls"). Assumes nothing.
-use Rattle.std.specs.Prelude.{ℕ, zero, suc, true, List, [], ◌∷◌}
-use Rattle.std.proofs.Math.Option.{none}
+use Rattle.std.specs.Prelude.{ℕ, zero, suc, true, List, [], ◌∷◌, None}
 use Rattle.walk.specs.declared.Refusal.TheVariants.{Closed}
 use Rattle.walk.specs.Settings.{timed, cutoff_of, not_before, only_first, by_time, taken_before, sooner, goes_before, followed}
 use Rattle.walk.specs.Lookup.{row_at, world_of, store_seconds, seconds_for, lt_pair, from_store, read_row, read, parents_of}
@@ -24,7 +23,7 @@ state_after i (suc k) = (next (walk_of i) (state_after i k)).state
 
 -- the answer to a call on a closed record: 12, and "12 carr[ies] zeros"
 abbrev pub shut : Answer
-shut = record { kind = refused Closed; parents = []; zone = none; admitted = 0; struck = 0; waiting = 0 }
+shut = record { kind = refused Closed; parents = []; zone = None; admitted = 0; struck = 0; waiting = 0 }
 
 unfoldable pub answer_on : Walk → State → Opening → Answer
 answer_on w st (closed r) = shut

@@ -1,7 +1,6 @@
 -- The third demand on a walk: its premises, the commits to be handed out, and the claim about every list of calls.
 -- Assumes nothing.
-use Rattle.std.specs.Prelude.{◌≡◌, ◌⊎◌, ◌↔◌, ℕ, ◌≤◌, Bool, true, false, cond, ◌||◌, List, [], ◌∷◌, map, length, ℤ}
-use Rattle.std.proofs.Math.Option.{Option, none, some}
+use Rattle.std.specs.Prelude.{◌≡◌, ◌⊎◌, ◌↔◌, ℕ, ◌≤◌, Bool, true, false, cond, ◌||◌, List, [], ◌∷◌, map, length, ℤ, None, Option, Some}
 use Rattle.hash.specs.Bytes.{Id, among, if_some}
 use Rattle.walk.specs.Settings.{timed, cutoff_of, not_before, only_first, followed}
 use Rattle.walk.specs.Lookup.{World, Row, no_row, row, corrupt, good, from_store, Pair, lt_pair, no_generation, store_seconds, seconds_for}
@@ -22,7 +21,7 @@ Readable w x = (ps : List Id) × (p : Pair) × (from_store (w.store x) ≡ good 
 pub record Agrees (w : World) (x : Id) : Type 0 where
   pub whole : w.graph x ≡ corrupt → ⊥
   pub same-parents : (ps : List (Id × ℤ)) (l : ℕ) (s : ℤ) → w.graph x ≡ row ps l s → map (λ p. p.0) ps ≡ links w x
-  pub same-seconds : (ps : List (Id × ℤ)) (l : ℕ) (s : ℤ) → w.graph x ≡ row ps l s → store_seconds w x ≡ some s
+  pub same-seconds : (ps : List (Id × ℤ)) (l : ℕ) (s : ℤ) → w.graph x ≡ row ps l s → store_seconds w x ≡ Some s
 
 -- the level of a row; "Without a graph row the level is 0xFFFFFFFF"
 unfoldable pub row_generation : Row → ℕ
@@ -108,9 +107,9 @@ pub record Delivers (i : Input) : Type 0 where
 
 -- under the premises, "an opening to which none of 01's 1 to 6 applies"
 unfoldable pub Third : Input → Type 0
-Third i = refusal i ≡ none → Premises (walk_of i) (list_ids (width_in i) i.tips) → Delivers i
+Third i = refusal i ≡ None → Premises (walk_of i) (list_ids (width_in i) i.tips) → Delivers i
 
 -- the same with weaker premises: they are asked of what is reachable from the hidden tips and from the tips that are left once "[t]ips lose
 -- repeats and barred ids", and of nothing that only an excluded tip reaches
 unfoldable pub ThirdOfKept : Input → Type 0
-ThirdOfKept i = refusal i ≡ none → Premises (walk_of i) (distinct [] (walk_of i).excluded (list_ids (width_in i) i.tips)) → Delivers i
+ThirdOfKept i = refusal i ≡ None → Premises (walk_of i) (distinct [] (walk_of i).excluded (list_ids (width_in i) i.tips)) → Delivers i

@@ -1,20 +1,13 @@
 -- Answers as the code gives them: document 01's numbers and values for every case, and the bytes of the buffer parents.
 -- Assumes nothing.
-use Rattle.std.specs.Prelude.{ℕ, ◌-◌, List, [], ◌∷◌, ◌++◌, length, replicate, ℤ, pos}
-use Rattle.std.proofs.Math.Option.{Option, none, some}
+use Rattle.std.specs.Prelude.{ℕ, ◌-◌, List, [], ◌∷◌, ◌++◌, length, replicate, ℤ, pos, Err, None, Ok, Option, Result, Some}
+use Rattle.commitgraph.specs.declared.Level.{Level}
+use Rattle.date.specs.declared.Seconds.{Seconds}
+use Rattle.walk.specs.declared.Refusal.{Refusal}
 use Rattle.hash.specs.Bytes.{Id, set_down}
 use Rattle.object.specs.Ids.{id_room, padded}
 use Rattle.walk.specs.declared.Outcome.{Outcome}
 use Rattle.walk.specs.declared.Outcome.TheVariants.{Commit, End, Refused}
-use Rattle.walk.specs.declared.MaybeLevel.{MaybeLevel}
-use Rattle.walk.specs.declared.MaybeLevel.TheVariants.{Generation, NoGeneration}
-use Rattle.walk.specs.declared.MaybeSeconds.{MaybeSeconds}
-use Rattle.walk.specs.declared.MaybeSeconds.TheVariants.{Time, NoTime}
-use Rattle.date.specs.declared.Zone.{Zone}
-use Rattle.date.specs.declared.Zone.TheVariants.{Minutes, NoZone}
-use Rattle.object.specs.Read.{zone_given}
-use Rattle.walk.specs.declared.OpenOutcome.{OpenOutcome}
-use Rattle.walk.specs.declared.OpenOutcome.TheVariants.{Accepted, NotOpened}
 use Rattle.walk.specs.declared.Info.{Info}
 use Rattle.walk.specs.declared.Answer as declaredAnswer
 use Rattle.walk.specs.declared.OpenAnswer.{OpenAnswer}
@@ -42,27 +35,27 @@ id_of_kind end = no_id
 id_of_kind (refused r) = no_id
 id_of_kind (handed x g t) = padded x
 
-abbrev pub level_given : Option ℕ → MaybeLevel
-level_given none = NoGeneration
-level_given (some l) = Generation (record { 0 = l })
+abbrev pub level_given : Option ℕ → Option Level
+level_given None = None
+level_given (Some l) = Some (record { 0 = l })
 
-abbrev pub seconds_given : Option ℤ → MaybeSeconds
-seconds_given none = NoTime
-seconds_given (some s) = Time (record { 0 = s })
+abbrev pub seconds_given : Option ℤ → Option Seconds
+seconds_given None = None
+seconds_given (Some s) = Some (record { 0 = s })
 
-abbrev pub level_of_kind : Kind → MaybeLevel
-level_of_kind end = NoGeneration
-level_of_kind (refused r) = NoGeneration
+abbrev pub level_of_kind : Kind → Option Level
+level_of_kind end = None
+level_of_kind (refused r) = None
 level_of_kind (handed x g t) = level_given g
 
-abbrev pub seconds_of_kind : Kind → MaybeSeconds
-seconds_of_kind end = NoTime
-seconds_of_kind (refused r) = NoTime
+abbrev pub seconds_of_kind : Kind → Option Seconds
+seconds_of_kind end = None
+seconds_of_kind (refused r) = None
 seconds_of_kind (handed x g t) = seconds_given t
 
 -- what an answer says of a commit, with card 7's zone; n parents' ids stand in the buffer
 abbrev pub info_of : Kind → ℕ → Option ℤ → Info
-info_of k n z = record { id = id_of_kind k; parents = n; generation = level_of_kind k; time = seconds_of_kind k; zone = zone_given z }
+info_of k n z = record { id = id_of_kind k; parents = n; generation = level_of_kind k; time = seconds_of_kind k; zone = z }
 
 -- an answer of the walk, field by field as a call gives it; the parents' ids stand in the buffer, here is their number
 unfoldable pub given : Answer → Given
@@ -87,8 +80,8 @@ parents_given a b = set_down b 0 (joined a.parents)
 
 -- "refused openings … carry zeros"; an accepted one carries its running numbers
 unfoldable pub open_given : Opening → OpenAnswer
-open_given (closed r) = record { outcome = NotOpened r; admitted = 0; struck = 0; waiting = 0 }
-open_given (opened st) = record { outcome = Accepted; admitted = st.admitted; struck = st.struck; waiting = length st.queue }
+open_given (closed r) = record { outcome = Err r; admitted = 0; struck = 0; waiting = 0 }
+open_given (opened st) = record { outcome = (Ok tt); admitted = st.admitted; struck = st.struck; waiting = length st.queue }
 
 -- ---- document 01's numbers and values of each case
 
@@ -99,9 +92,9 @@ outcome_number End = 100
 outcome_number (Refused r) = number_of r
 
 -- the same of an opening, where an accepted one is 0
-abbrev pub open_number : OpenOutcome → ℕ
-open_number Accepted = 0
-open_number (NotOpened r) = number_of r
+abbrev pub open_number : Result (Unit {0}) Refusal → ℕ
+open_number (Ok _) = 0
+open_number (Err r) = number_of r
 
 -- how many of n calls may follow one that came out so: none after the end
 abbrev pub calls_after : ℕ → Outcome → ℕ
@@ -110,15 +103,15 @@ calls_after n End = 0
 calls_after n (Refused r) = n - 1
 
 -- "zeros there": a level and a number of seconds, 0 where there is none
-abbrev pub level_value : MaybeLevel → ℕ
-level_value (Generation l) = l.0
-level_value NoGeneration = 0
+abbrev pub level_value : Option Level → ℕ
+level_value (Some l) = l.0
+level_value None = 0
 
-abbrev pub seconds_value : MaybeSeconds → ℤ
-seconds_value (Time s) = s.0
-seconds_value NoTime = pos 0
+abbrev pub seconds_value : Option Seconds → ℤ
+seconds_value (Some s) = s.0
+seconds_value None = pos 0
 
 -- minutes, 0 where there is no zone
-abbrev pub zone_value : Zone → ℤ
-zone_value (Minutes m) = m
-zone_value NoZone = pos 0
+abbrev pub zone_value : Option ℤ → ℤ
+zone_value (Some m) = m
+zone_value None = pos 0

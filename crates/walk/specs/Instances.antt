@@ -1,8 +1,7 @@
 -- The premises of the third demand can be met, and what the walk then says: histories without a graph file, with one that lists all commits
 -- and agrees (a parent list in EDGE), and with one that lists a part; All and First, breadth order and a time order with a cutoff, each with a
 -- hidden tip. Assumes nothing.
-use Rattle.std.specs.Prelude.{◌≡◌, List, [], ◌∷◌, length, pos}
-use Rattle.std.proofs.Math.Option.{none, some}
+use Rattle.std.specs.Prelude.{◌≡◌, List, [], ◌∷◌, length, pos, None, Some}
 use Rattle.walk.specs.declared.Sorting.TheVariants.{BreadthFirst}
 use Rattle.walk.specs.Opening.{Input, walk_of, list_ids, refusal, width_in}
 use Rattle.walk.specs.Next.{Kind, end, handed}
@@ -13,7 +12,7 @@ use Rattle.walk.specs.Slips.{input_with, fork, listing, grown, earlier}
 
 -- none of 2 to 6 applies to the input, it meets the premises, and its answers are of these kinds
 pub record Meets (i : Input) (ks : List Kind) : Type 0 where
-  pub accepted : refusal i ≡ none
+  pub accepted : refusal i ≡ None
   pub premises : Premises (walk_of i) (list_ids (width_in i) i.tips)
   pub says : kinds (answers i (length ks)) ≡ ks
 
@@ -41,5 +40,5 @@ pub record Instances : Type 0 where
   pub no-graph : Meets hiding (out 8 ∷ out 6 ∷ out 7 ∷ out 4 ∷ out 2 ∷ end ∷ [])
   pub by_first : Meets first_hiding (out 8 ∷ out 6 ∷ out 5 ∷ end ∷ [])
   pub with_graph : Meets all_listed (
-      handed (id_for 1) (some 2) (some (pos 9)) ∷ handed (id_for 3) (some 1) (some (pos 6)) ∷ handed (id_for 4) (some 1) (some (pos 6)) ∷ end ∷ [])
-  pub with_part : Meets part_listed (handed (id_for 1) (some 0x3FFFFFFF) none ∷ end ∷ [])
+      handed (id_for 1) (Some 2) (Some (pos 9)) ∷ handed (id_for 3) (Some 1) (Some (pos 6)) ∷ handed (id_for 4) (Some 1) (Some (pos 6)) ∷ end ∷ [])
+  pub with_part : Meets part_listed (handed (id_for 1) (Some 0x3FFFFFFF) None ∷ end ∷ [])

@@ -1,6 +1,5 @@
 -- Card 6: "If any row has level 0, no level of that file is used: pairs take 0xFFFFFFFF and listings show none." Assumes nothing.
-use Rattle.std.specs.Prelude.{ℕ, ◌<◌, ◌≡◌, List, ℤ}
-use Rattle.std.proofs.Math.Option.{Option, none}
+use Rattle.std.specs.Prelude.{ℕ, ◌<◌, ◌≡◌, List, ℤ, None, Option}
 use Rattle.hash.specs.Bytes.{Id}
 use Rattle.commitgraph.specs.Graph.{graph_count, places_of, stated_level, generation, no_generation}
 use Rattle.walk.specs.Lookup.{Pair, good, read}
@@ -23,7 +22,7 @@ pub record ZeroRow (width : ℕ) (g : List ℕ) : Type 0 where
 pub record NoLevels (i : Input) : Type 0 where
   pub pairs : (x : Id) → (pair_at (walk_of i).world x).generation ≡ no_generation
   pub painted : (x : Id) (ps : List Id) (p : Pair) → read (walk_of i).world x ≡ good ps p → p.generation ≡ no_generation
-  pub shown : (k : ℕ) (x : Id) (l : Option ℕ) (t : Option ℤ) → (answer_at_call i k).kind ≡ handed x l t → l ≡ none
+  pub shown : (k : ℕ) (x : Id) (l : Option ℕ) (t : Option ℤ) → (answer_at_call i k).kind ≡ handed x l t → l ≡ None
 
 -- one row with level 0 is enough for that; where there is none, each row's level is the one that it states
 pub record NeverComputed (i : Input) : Type 0 where

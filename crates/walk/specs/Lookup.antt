@@ -1,7 +1,6 @@
 -- Lookup (document 01): what the commit-graph file and the commit store say of an object id, and the pairs that painting goes by.
 -- The walk is written over `World`, and over nothing else of the two files. Assumes nothing.
-use Rattle.std.specs.Prelude.{ℕ, Bool, true, false, cond, List, [], map, eqb, ltb, ℤ, pos}
-use Rattle.std.proofs.Math.Option.{Option, none, some}
+use Rattle.std.specs.Prelude.{ℕ, Bool, true, false, cond, List, [], map, eqb, ltb, ℤ, pos, None, Option, Some}
 use Rattle.std.specs.Int.Signed.{lt_z}
 use Rattle.hash.specs.Bytes.{Id, if_some}
 use Rattle.object.specs.Header.{Header, header}
@@ -32,13 +31,13 @@ row_at width g p =
 unfoldable pub world_of : ℕ → List ℕ → List ℕ → World
 world_of width store g = record {
   graph = λ x. if_some (graph_find width g x) no_row (λ p. row_at width g p);
-  store = λ x. if_some (store_find width store x) none (λ body. some (header width body));
+  store = λ x. if_some (store_find width store x) None (λ body. Some (header width body));
 }
 
 -- the committer time in the store; none where the commit is absent or its header not good through committer. "Where only seconds are
 -- wanted (tips at opening, parents in a next call) parents are not counted."
 unfoldable pub store_seconds : World → Id → Option ℤ
-store_seconds w x = if_some (w.store x) none (λ h. h.seconds)
+store_seconds w x = if_some (w.store x) None (λ h. h.seconds)
 
 -- "from the book, else they are 0"
 unfoldable pub seconds_for : World → Id → ℤ
@@ -70,8 +69,8 @@ pub data Read : Type 0 where
 -- "A commit is readable if all four parts hold and it has at most 256 parents"; "absent (9), unreadable (10) or crowded (11)"; "of 10
 -- and 11 the earlier line decides"; "Without a graph row the level is 0xFFFFFFFF"
 unfoldable pub from_store : Option Header → Read
-from_store none = fail CommitNotFound
-from_store (some h) =
+from_store None = fail CommitNotFound
+from_store (Some h) =
     let whole : Read = if_some h.seconds (fail CommitUnreadable) (λ s. good h.ids (record { generation = no_generation; time = s })) in
     let authored : Read = cond h.author whole (fail CommitUnreadable) in
     let counted : Read = cond h.crowded (fail TooManyParents) authored in

@@ -1,7 +1,6 @@
 -- A next call (document 01): the answer, and the state that it leaves.
 -- Assumes nothing.
-use Rattle.std.specs.Prelude.{ℕ, ◌+◌, ◌-◌, Bool, true, false, cond, not, ◌&&◌, ◌||◌, List, [], ◌∷◌, map, length, eqb, ℤ}
-use Rattle.std.proofs.Math.Option.{Option, none, some}
+use Rattle.std.specs.Prelude.{ℕ, ◌+◌, ◌-◌, Bool, true, false, cond, not, ◌&&◌, ◌||◌, List, [], ◌∷◌, map, length, eqb, ℤ, None, Option, Some}
 use Rattle.hash.specs.Bytes.{Id, among}
 use Rattle.object.specs.Header.{Header}
 use Rattle.walk.specs.declared.Settings.{Settings}
@@ -38,7 +37,7 @@ pub record Step : Type 0 where
 
 unfoldable pub step : Kind → List Id → State → Step
 step k ps st = record {
-  answer = record { kind = k; parents = ps; zone = none; admitted = st.admitted; struck = st.struck; waiting = length st.queue };
+  answer = record { kind = k; parents = ps; zone = None; admitted = st.admitted; struck = st.struck; waiting = length st.queue };
   state = st;
 }
 
@@ -81,13 +80,13 @@ with_seconds w [] = []
 with_seconds w (x ∷ xs) = (x, seconds_for w.world x) ∷ with_seconds w xs
 
 unfoldable pub queued_seconds : Walk → ℤ → Option ℤ
-queued_seconds w t = cond (by_time w.settings) (some t) none
+queued_seconds w t = cond (by_time w.settings) (Some t) None
 
 -- ---- one commit x, queued with t seconds and out of the queue already
 
 -- the level that an answer shows of a commit from its graph row. Card 6: where no level of the file is used, "listings show none"
 unfoldable pub level_shown : ℕ → Option ℕ
-level_shown l = cond (eqb l no_generation) none (some l)
+level_shown l = cond (eqb l no_generation) None (Some l)
 
 -- from its graph row: "Each parent enters the answer's list … Under First only one parent"
 unfoldable pub step_from_row : Walk → State → Id → ℤ → List (Id × ℤ) → ℕ → Step
@@ -99,28 +98,28 @@ step_from_row w st x t ps l =
 -- line; of 10 and 11 the earlier line decides": why a header is refused, none where it is not
 unfoldable pub ending : Settings → Header → Option Refusal
 ending s h =
-    let authored : Option Refusal = cond h.author none (some CommitUnreadable) in
-    let counted : Option Refusal = cond h.crowded (some TooManyParents) authored in
-    let whole : Option Refusal = cond (only_first s && not (is_empty h.ids)) none counted in
-    cond h.tree whole (some CommitUnreadable)
+    let authored : Option Refusal = cond h.author None (Some CommitUnreadable) in
+    let counted : Option Refusal = cond h.crowded (Some TooManyParents) authored in
+    let whole : Option Refusal = cond (only_first s && not (is_empty h.ids)) None counted in
+    cond h.tree whole (Some CommitUnreadable)
 
 unfoldable pub kind_of : Option Refusal → Kind → Kind
-kind_of none k = k
-kind_of (some r) k = refused r
+kind_of None k = k
+kind_of (Some r) k = refused r
 
 -- card 7: "none when the commit came from the graph, which holds no zone; … and is none if a line up to committer is bad, and in a refusal or
 -- end": the zone z of a header that ends so
 abbrev pub zone_shown : Option Refusal → Option ℤ → Option ℤ
-zone_shown none z = z
-zone_shown (some r) z = none
+zone_shown None z = z
+zone_shown (Some r) z = None
 
 -- from the store. "9 to 11 use up the commit; after 10 and 11 ids already read stand at the start of parents, counted in the answer,
 -- and those admitted stay so"
 unfoldable pub from_body : Walk → State → Id → ℤ → Option Header → Step
-from_body w st x t none = step (refused CommitNotFound) [] st
-from_body w st x t (some h) =
+from_body w st x t None = step (refused CommitNotFound) [] st
+from_body w st x t (Some h) =
     let f = followed w.settings h.ids in
-    zoned (zone_shown (ending w.settings h) h.zone) (step (kind_of (ending w.settings h) (handed x none (queued_seconds w t))) f (visit_all w st (with_seconds w f)))
+    zoned (zone_shown (ending w.settings h) h.zone) (step (kind_of (ending w.settings h) (handed x None (queued_seconds w t))) f (visit_all w st (with_seconds w f)))
 
 -- ---- the next commit of the queue
 

@@ -1,7 +1,6 @@
 -- Opening (document 01): what an opening is given, its outcomes in order 2 to 6, 1, 7, 8, and the tips that wait after it.
 -- Assumes nothing.
-use Rattle.std.specs.Prelude.{ℕ, ◌+◌, ◌*◌, ◌/◌, ◌%◌, Bool, cond, ◌&&◌, ◌||◌, List, [], ◌∷◌, length, eqb, leb, pos}
-use Rattle.std.proofs.Math.Option.{Option, none, some}
+use Rattle.std.specs.Prelude.{ℕ, ◌+◌, ◌*◌, ◌/◌, ◌%◌, Bool, cond, ◌&&◌, ◌||◌, List, [], ◌∷◌, length, eqb, leb, pos, None, Option, Some}
 use Rattle.hash.specs.Bytes.{Id, width_of, among, ids_of, if_some}
 use Rattle.object.specs.Header.{parent_size}
 use Rattle.odb.specs.Store.{store_is_ok}
@@ -63,11 +62,11 @@ whole_ids i = eqb (length i.tips % width_in i) 0 && eqb (length i.hidden % width
 -- the first of 2 to 6 that applies. "A zero-length graph means none"; "a graph of the other width is 5"
 unfoldable pub refusal : Input → Option Refusal
 refusal i =
-    let six : Option Refusal = cond (is_empty i.graph || graph_ok (width_in i) i.graph) none (some CorruptGraph) in
-    let five : Option Refusal = cond (is_empty i.graph || graph_head (hash_version i.settings.kind) i.graph) six (some UnknownGraph) in
-    let four : Option Refusal = cond (store_is_ok (width_in i) i.store) five (some CorruptStore) in
-    let three : Option Refusal = cond (whole_ids i) four (some PartialId) in
-    cond (sizes_ok i) three (some InputTooLarge)
+    let six : Option Refusal = cond (is_empty i.graph || graph_ok (width_in i) i.graph) None (Some CorruptGraph) in
+    let five : Option Refusal = cond (is_empty i.graph || graph_head (hash_version i.settings.kind) i.graph) six (Some UnknownGraph) in
+    let four : Option Refusal = cond (store_is_ok (width_in i) i.store) five (Some CorruptStore) in
+    let three : Option Refusal = cond (whole_ids i) four (Some PartialId) in
+    cond (sizes_ok i) three (Some InputTooLarge)
 
 -- ---- 1
 
@@ -128,8 +127,8 @@ open_tips i room =
     cond room r (closed BufferTooSmall)
 
 unfoldable pub open_or : Input → Bool → Option Refusal → Opening
-open_or i room none = open_tips i room
-open_or i room (some r) = closed r
+open_or i room None = open_tips i room
+open_or i room (Some r) = closed r
 
 unfoldable pub open_walk : Input → Bool → Opening
 open_walk i room = open_or i room (refusal i)

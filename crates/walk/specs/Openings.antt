@@ -1,7 +1,6 @@
 -- Openings that are refused, one for each of document 01's numbers 1 to 8. Each has every fault that is tested later as well, so the order is
 -- shown too: "in order 2 to 6, 1, 7, 8". Assumes nothing.
-use Rattle.std.specs.Prelude.{◌≡◌, refl, ℕ, List, [], ◌∷◌, ◌++◌, replicate}
-use Rattle.std.proofs.Math.Option.{Option, none, some}
+use Rattle.std.specs.Prelude.{◌≡◌, refl, ℕ, List, [], ◌∷◌, ◌++◌, replicate, None, Option, Some}
 use Rattle.hash.specs.Bytes.{bytes_all}
 use Rattle.idlist.specs.IdList.{id_list_all}
 use Rattle.object.specs.Header.{header_all}
@@ -14,8 +13,8 @@ use Rattle.walk.specs.Runs.{id_for, u32, names, all, newest, id_wide, names_wide
 
 -- the number of a refused opening; none of an accepted one
 unfoldable pub opening_number : Opening → Option ℕ
-opening_number (closed r) = some (number_of r)
-opening_number (opened st) = none
+opening_number (closed r) = Some (number_of r)
+opening_number (opened st) = None
 
 -- an opening under a time order, with these files, tips and lengths of the lent buffers
 unfoldable pub opens_by : List ℕ → List ℕ → List ℕ → Lengths → Option ℕ
@@ -46,18 +45,18 @@ wide_head = 67 ∷ 71 ∷ 80 ∷ 72 ∷ 1 ∷ 2 ∷ 0 ∷ 0 ∷ []
 
 -- one byte is a foreign graph file, and no bytes are a torn store; commit 9 is in no store
 pub record EachRefused : Type 0 where
-  pub oversize : opens_by [] (0 ∷ []) (replicate 20481 0) short ≡ some 2
-  pub ragged_list : opens_by [] (0 ∷ []) (0 ∷ []) short ≡ some 3
-  pub torn-store : opens_by [] (0 ∷ []) (names (9 ∷ 1 ∷ [])) short ≡ some 4
-  pub foreign-graph : opens_by blurred (0 ∷ []) (names (9 ∷ 1 ∷ [])) short ≡ some 5
-  pub other_width : opens_by blurred wide_head (names (9 ∷ 1 ∷ [])) short ≡ some 5
-  pub torn-graph : opens_by blurred head_alone (names (9 ∷ 1 ∷ [])) short ≡ some 6
-  pub short-memory : opens_by blurred [] (names (9 ∷ 1 ∷ [])) short ≡ some 1
+  pub oversize : opens_by [] (0 ∷ []) (replicate 20481 0) short ≡ Some 2
+  pub ragged_list : opens_by [] (0 ∷ []) (0 ∷ []) short ≡ Some 3
+  pub torn-store : opens_by [] (0 ∷ []) (names (9 ∷ 1 ∷ [])) short ≡ Some 4
+  pub foreign-graph : opens_by blurred (0 ∷ []) (names (9 ∷ 1 ∷ [])) short ≡ Some 5
+  pub other_width : opens_by blurred wide_head (names (9 ∷ 1 ∷ [])) short ≡ Some 5
+  pub torn-graph : opens_by blurred head_alone (names (9 ∷ 1 ∷ [])) short ≡ Some 6
+  pub short-memory : opens_by blurred [] (names (9 ∷ 1 ∷ [])) short ≡ Some 1
   -- "the first tip at fault in list order decides which"
-  pub lost_tip : opens_by blurred [] (names (9 ∷ 1 ∷ [])) enough ≡ some 7
-  pub blurred_tip : opens_by blurred [] (names (1 ∷ 9 ∷ [])) enough ≡ some 8
+  pub lost_tip : opens_by blurred [] (names (9 ∷ 1 ∷ [])) enough ≡ Some 7
+  pub blurred_tip : opens_by blurred [] (names (1 ∷ 9 ∷ [])) enough ≡ Some 8
   -- and with no fault
-  pub accepted : opens_by blurred [] [] enough ≡ none
+  pub accepted : opens_by blurred [] [] enough ≡ None
 
 pub each-refused : EachRefused
 unfolding opens_by blurred head_alone wide_head names_wide bytes_all id_list_all header_all store_all graph_all walk_all

@@ -1,7 +1,6 @@
 -- Document 01's runs, as theorems over the bytes of a commit store: its starred runs in one joint statement, one of them with SHA-256
 -- ids, the skewed clock, the absent parent. Assumes nothing.
-use Rattle.std.specs.Prelude.{◌≡◌, refl, ℕ, ◌+◌, ◌/◌, ◌%◌, cond, List, [], ◌∷◌, ◌++◌, length, replicate, ltb, pos}
-use Rattle.std.proofs.Math.Option.{none, some}
+use Rattle.std.specs.Prelude.{◌≡◌, refl, ℕ, ◌+◌, ◌/◌, ◌%◌, cond, List, [], ◌∷◌, ◌++◌, length, replicate, ltb, pos, None, Some}
 use Rattle.hash.specs.Bytes.{Id, width_of, id_bytes, bytes_all}
 use Rattle.idlist.specs.IdList.{id_list_all}
 use Rattle.object.specs.Header.{tree_word, parent_word, author_word, committer_word, header_all}
@@ -117,11 +116,11 @@ says store tips hidden excluded s k = kinds (answers (input store tips hidden ex
 
 -- commit n is handed out: with no level, as it comes from the store, and without seconds (breadth order, First)
 abbrev pub out : ℕ → Kind
-out n = handed (id_for n) none none
+out n = handed (id_for n) None None
 
 -- commit n is handed out under a time order: with the seconds t that it was queued with
 abbrev pub out_at : ℕ → ℕ → Kind
-out_at n t = handed (id_for n) none (some (pos t))
+out_at n t = handed (id_for n) None (Some (pos t))
 
 unfoldable pub all : Sorting → Settings
 all s = record { sorting = s; parents = All; kind = Sha1 }
@@ -157,7 +156,7 @@ dated n = out_at n n
 
 -- and so under a SHA-256 id
 abbrev pub wide : ℕ → Kind
-wide n = handed (id_wide (width_of Sha256) n) none (some (pos n))
+wide n = handed (id_wide (width_of Sha256) n) None (Some (pos n))
 
 -- "*breadth 8 6 7 5 4 3 2 1; *newest 8 7 6 5 4 3 2 1; *oldest 8 6 5 3 1 7 4 2; *cutoff 4 newest 8 7 6 5 4; *First 8 6 5 3 1; *hide 5,
 -- breadth 8 6 7 4 2; *bar 6, breadth 8 7 4 2 1; *tips 7, 6, 7: 7 6 4 5 2 3 1." Each is followed by end, and end again

@@ -1,7 +1,6 @@
 -- The settings of a walk (document 01: `Sorting` and `Parents`): which order the queue keeps, what a cutoff turns away, which parents
 -- are followed. Assumes nothing.
-use Rattle.std.specs.Prelude.{Bool, true, false, cond, not, ◌&&◌, List, take, ℤ}
-use Rattle.std.proofs.Math.Option.{Option, none, some}
+use Rattle.std.specs.Prelude.{Bool, true, false, cond, not, ◌&&◌, List, take, ℤ, None, Option, Some}
 use Rattle.std.specs.Int.Signed.{lt_z}
 use Rattle.walk.specs.declared.Settings.{Settings}
 use Rattle.walk.specs.declared.Sorting.{Sorting}
@@ -17,14 +16,14 @@ timed (ByCommitTime o) = true
 timed (ByCommitTimeCutoff o c) = true
 
 unfoldable pub cutoff_of : Sorting → Option ℤ
-cutoff_of BreadthFirst = none
-cutoff_of (ByCommitTime o) = none
-cutoff_of (ByCommitTimeCutoff o c) = some c.0
+cutoff_of BreadthFirst = None
+cutoff_of (ByCommitTime o) = None
+cutoff_of (ByCommitTimeCutoff o c) = Some c.0
 
 -- "seconds ≥ cutoff", where there is a cutoff
 unfoldable pub not_before : Option ℤ → ℤ → Bool
-not_before none t = true
-not_before (some c) t = not (lt_z t c)
+not_before None t = true
+not_before (Some c) t = not (lt_z t c)
 
 -- the mode First
 unfoldable pub only_first : Settings → Bool

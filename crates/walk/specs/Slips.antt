@@ -1,7 +1,6 @@
 -- Runs that tell the walk from what it is easily mistaken for (document 01: "Slips in this trade"), some over the bytes of a commit-graph
 -- file; each is a theorem by computation. Assumes nothing.
-use Rattle.std.specs.Prelude.{◌≡◌, refl, ℕ, zero, suc, ◌+◌, ◌*◌, cond, List, [], ◌∷◌, ◌++◌, length, replicate, leb, pos}
-use Rattle.std.proofs.Math.Option.{none, some}
+use Rattle.std.specs.Prelude.{◌≡◌, refl, ℕ, zero, suc, ◌+◌, ◌*◌, cond, List, [], ◌∷◌, ◌++◌, length, replicate, leb, pos, None, Some}
 use Rattle.hash.specs.Bytes.{Id, id_bytes, bytes_all}
 use Rattle.idlist.specs.IdList.{id_list_all}
 use Rattle.object.specs.Header.{header_all}
@@ -184,14 +183,14 @@ pub record Slips : Type 0 where
   pub turned_away : says sample (8 ∷ 6 ∷ []) [] [] (first_only (newest_from 7)) 3 ≡ out 8 ∷ end ∷ end ∷ []
   -- 1 comes from the store, so its parents' seconds do too, and 2 is the oldest; its parents come from their rows
   pub store_child : says_with fork stale (1 ∷ []) [] (all newest) 6
-      ≡ out_at 1 9 ∷ handed (id_for 3) (some 1) (some (pos 6)) ∷ handed (id_for 4) (some 1) (some (pos 6)) ∷ handed (id_for 2) (some 1) (some (pos 5)) ∷ end ∷ end ∷ []
+      ≡ out_at 1 9 ∷ handed (id_for 3) (Some 1) (Some (pos 6)) ∷ handed (id_for 4) (Some 1) (Some (pos 6)) ∷ handed (id_for 2) (Some 1) (Some (pos 5)) ∷ end ∷ end ∷ []
   -- a commit without a row comes before all that have one: 2 is taken first and hides 3, so 4 and 5 are met with both marks. Were it taken
   -- last, 5 would have passed as visible only, and would be handed out
-  pub no_row-first : says_with grown earlier (1 ∷ []) (2 ∷ []) (all BreadthFirst) 3 ≡ handed (id_for 1) (some 0x3FFFFFFF) none ∷ end ∷ end ∷ []
+  pub no_row-first : says_with grown earlier (1 ∷ []) (2 ∷ []) (all BreadthFirst) 3 ≡ handed (id_for 1) (Some 0x3FFFFFFF) None ∷ end ∷ end ∷ []
   -- card 6: 3 has level 0, though neither tip reaches it, so no level is used: 4 is taken before 5 and hides it. Were 0 the lowest level, or 3
   -- alone without one, 5 would go before 4 as visible only, and would be handed out, as with any other level
   pub never-computed : says_with onward (rising 0) (1 ∷ []) (2 ∷ []) (all BreadthFirst) 3 ≡ out 1 ∷ end ∷ end ∷ []
-  pub computed : says_with onward (rising 1) (1 ∷ []) (2 ∷ []) (all BreadthFirst) 3 ≡ out 1 ∷ handed (id_for 5) (some 3) none ∷ end ∷ []
+  pub computed : says_with onward (rising 1) (1 ∷ []) (2 ∷ []) (all BreadthFirst) 3 ≡ out 1 ∷ handed (id_for 5) (Some 3) None ∷ end ∷ []
 
 pub slips : Slips
 unfolding says says_with all first_only sample_wide two_turns lent_twice fork stale grown earlier onward rising bytes_all id_list_all header_all store_all graph_all walk_all
@@ -217,30 +216,30 @@ ids_for (n ∷ ns) = id_for n ∷ ids_for ns
 
 -- a kind, parents, and the numbers of commits admitted, struck and waiting
 abbrev pub whole : Kind → List ℕ → ℕ → ℕ → ℕ → Answer
-whole k ps a s w = record { kind = k; parents = ids_for ps; zone = none; admitted = a; struck = s; waiting = w }
+whole k ps a s w = record { kind = k; parents = ids_for ps; zone = None; admitted = a; struck = s; waiting = w }
 
 -- the same of a commit from the store, whose committer line has the zone +0000
 abbrev pub zoned_whole : Kind → List ℕ → ℕ → ℕ → ℕ → Answer
-zoned_whole k ps a s w = record { kind = k; parents = ids_for ps; zone = some (pos 0); admitted = a; struck = s; waiting = w }
+zoned_whole k ps a s w = record { kind = k; parents = ids_for ps; zone = Some (pos 0); admitted = a; struck = s; waiting = w }
 
 pub record Fields : Type 0 where
   -- tips 8 and 5, hide 5: 5 waited and is struck
   pub struck : answers (input_with sample [] (8 ∷ 5 ∷ []) (5 ∷ []) (all BreadthFirst)) 2
-      ≡ zoned_whole (handed (id_for 8) none none) (6 ∷ 7 ∷ []) 4 1 2 ∷ zoned_whole (handed (id_for 6) none none) (5 ∷ []) 4 1 1 ∷ []
+      ≡ zoned_whole (handed (id_for 8) None None) (6 ∷ 7 ∷ []) 4 1 2 ∷ zoned_whole (handed (id_for 6) None None) (5 ∷ []) 4 1 1 ∷ []
   -- from a graph row come the level and the parents, in EDGE from the second on; under a time order the seconds that a commit was queued with
   pub graph-row : answers (input_with fork listing (1 ∷ []) [] (all newest)) 2
-      ≡ whole (handed (id_for 1) (some 2) (some (pos 9))) (2 ∷ 3 ∷ 4 ∷ []) 4 0 3 ∷ whole (handed (id_for 3) (some 1) (some (pos 6))) [] 4 0 2 ∷ []
+      ≡ whole (handed (id_for 1) (Some 2) (Some (pos 9))) (2 ∷ 3 ∷ 4 ∷ []) 4 0 3 ∷ whole (handed (id_for 3) (Some 1) (Some (pos 6))) [] 4 0 2 ∷ []
   -- card 6: where a row has level 0 no answer shows a level; parents and seconds are the rows' still
   pub no-levels : answers (input_with fork unlevelled (1 ∷ []) [] (all newest)) 2
-      ≡ whole (handed (id_for 1) none (some (pos 9))) (2 ∷ 3 ∷ 4 ∷ []) 4 0 3 ∷ whole (handed (id_for 2) none (some (pos 8))) [] 4 0 2 ∷ []
+      ≡ whole (handed (id_for 1) None (Some (pos 9))) (2 ∷ 3 ∷ 4 ∷ []) 4 0 3 ∷ whole (handed (id_for 2) None (Some (pos 8))) [] 4 0 2 ∷ []
   -- a corrupt list drops the graph for good
   pub no-graph : answers (input_with fork cut (1 ∷ []) [] (all newest)) 2
-      ≡ zoned_whole (handed (id_for 1) none (some (pos 9))) (2 ∷ 3 ∷ 4 ∷ []) 4 0 3 ∷ zoned_whole (handed (id_for 3) none (some (pos 6))) [] 4 0 2 ∷ []
+      ≡ zoned_whole (handed (id_for 1) None (Some (pos 9))) (2 ∷ 3 ∷ 4 ∷ []) 4 0 3 ∷ zoned_whole (handed (id_for 3) None (Some (pos 6))) [] 4 0 2 ∷ []
   -- under First neither the other parents nor the seconds
-  pub first-parent : answers (input_with fork [] (1 ∷ []) [] (first_only newest)) 1 ≡ zoned_whole (handed (id_for 1) none none) (2 ∷ []) 2 0 1 ∷ []
+  pub first-parent : answers (input_with fork [] (1 ∷ []) [] (first_only newest)) 1 ≡ zoned_whole (handed (id_for 1) None None) (2 ∷ []) 2 0 1 ∷ []
   -- a refused commit is used up
   pub not_found : answers (input_with lost [] (1 ∷ []) [] (all BreadthFirst)) 3
-      ≡ zoned_whole (handed (id_for 1) none none) (9 ∷ []) 2 0 1 ∷ whole (refused CommitNotFound) [] 2 0 0 ∷ whole end [] 2 0 0 ∷ []
+      ≡ zoned_whole (handed (id_for 1) None None) (9 ∷ []) 2 0 1 ∷ whole (refused CommitNotFound) [] 2 0 0 ∷ whole end [] 2 0 0 ∷ []
   -- painting's own refusal strikes all that waits
   pub not-painted : answers (input_with lost [] (1 ∷ []) (1 ∷ []) (all BreadthFirst)) 2 ≡ whole (refused CommitNotFound) [] 1 1 0 ∷ whole end [] 1 1 0 ∷ []
   -- a refused opening: 12, and zeros

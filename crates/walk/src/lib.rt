@@ -8,7 +8,7 @@ ghost use Rattle.walk.specs.Lookup.{pair_of, lt_pair};
 ghost use Rattle.walk.specs.Settings.{timed, cutoff_of, not_before};
 
 use commitgraph::Level;
-use date::{Seconds, Zone};
+use date::Seconds;
 use hash::Kind;
 
 // Which of two commits a time order takes first (document 01: newest, oldest).
@@ -45,7 +45,7 @@ pub struct Settings {
 }
 
 // A commit's place in the painting's order (document 01: the pair of level and seconds).
-#[derive(Clone, Copy)]
+#[derive(Clone, Copy, PartialEq, Eq, PartialOrd, Ord)]
 pub struct GenThenTime {
     pub generation: Level,
     pub time: Seconds,
@@ -81,26 +81,12 @@ pub enum Refusal {
     TooManyMoves,
 }
 
-// What a call gives: a commit, the end, or a refusal.
+// What a call gives: a commit, the end, or a refusal. (No Option of a Result: each of the three comes with the same numbers, which stand in `Answer`.)
 #[derive(Clone, Copy)]
 pub enum Outcome {
     Commit,
     End,
     Refused(Refusal),
-}
-
-// A generation, where the commit came from the commit-graph file.
-#[derive(Clone, Copy)]
-pub enum MaybeLevel {
-    Generation(Level),
-    NoGeneration,
-}
-
-// The seconds that a commit was queued with, under a time order.
-#[derive(Clone, Copy)]
-pub enum MaybeSeconds {
-    Time(Seconds),
-    NoTime,
 }
 
 // What an answer says of a commit (gix_traverse::commit::Info). Its id has the width of its kind, and zeros stand after it. The parents' ids
@@ -109,10 +95,10 @@ pub enum MaybeSeconds {
 pub struct Info {
     pub id: [u8; 32],
     pub parents: usize,
-    pub generation: MaybeLevel,
-    pub time: MaybeSeconds,
+    pub generation: Option<Level>,
+    pub time: Option<Seconds>,
     // The minutes by which the committer's clock is ahead of UTC, where the commit came from the store.
-    pub zone: Zone,
+    pub zone: Option<i64>,
 }
 
 // The answer of a call: its outcome, what it says of a commit, and the walk's running numbers.
@@ -125,17 +111,10 @@ pub struct Answer {
     pub waiting: usize,
 }
 
-// What an opening gives.
-#[derive(Clone, Copy)]
-pub enum OpenOutcome {
-    Accepted,
-    NotOpened(Refusal),
-}
-
 // The answer of an opening: its outcome and the walk's running numbers.
 #[derive(Clone, Copy)]
 pub struct OpenAnswer {
-    pub outcome: OpenOutcome,
+    pub outcome: Result<(), Refusal>,
     pub admitted: usize,
     pub struck: usize,
     pub waiting: usize,
@@ -209,26 +188,13 @@ pub fn within_cutoff_time(sorting: Sorting, s: Seconds) -> bool
     match sorting {
         Sorting::BreadthFirst => true,
         Sorting::ByCommitTime(_) => true,
-        Sorting::ByCommitTimeCutoff { seconds, .. } => !date::before(s, seconds),
+        Sorting::ByCommitTimeCutoff { seconds, .. } => seconds <= s,
     }
-}
-
-// Whether a generation lies below another.
-fn lower(a: Level, b: Level) -> bool
-    ensures { result ≡ ltb a.0 b.0 }
-{
-    a.0 < b.0
 }
 
 // Whether a comes after b in the painting's order: generations are set against generations, then seconds against seconds.
 pub fn less(a: GenThenTime, b: GenThenTime) -> bool
     ensures { result ≡ lt_pair (pair_of a) (pair_of b) }
 {
-    if lower(a.generation, b.generation) {
-        return true;
-    }
-    if lower(b.generation, a.generation) {
-        return false;
-    }
-    date::before(a.time, b.time)
+    a < b
 }

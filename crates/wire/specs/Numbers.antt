@@ -1,7 +1,8 @@
 -- Settings from numbers, and what the functions that set an answer down promise. Assumes nothing.
-use Rattle.std.specs.Prelude.{ℕ, ◌≡◌, cond, List, set, eqb, ℤ}
+use Rattle.std.specs.Prelude.{ℕ, ◌≡◌, cond, List, set, eqb, ℤ, Option}
+use Rattle.commitgraph.specs.declared.Level.{Level}
+use Rattle.date.specs.declared.Seconds.{Seconds}
 use Rattle.hash.specs.Bytes.{Id, set_down}
-use Rattle.date.specs.declared.Zone.{Zone}
 use Rattle.walk.specs.declared.Settings.{Settings}
 use Rattle.walk.specs.declared.Sorting.{Sorting}
 use Rattle.walk.specs.declared.Sorting.TheVariants.{BreadthFirst, ByCommitTime, ByCommitTimeCutoff}
@@ -10,8 +11,6 @@ use Rattle.walk.specs.declared.CommitTimeOrder.TheVariants.{NewestFirst, OldestF
 use Rattle.walk.specs.declared.Parents.{Parents}
 use Rattle.walk.specs.declared.Parents.TheVariants.{All, First}
 use Rattle.walk.specs.declared.OpenAnswer.{OpenAnswer}
-use Rattle.walk.specs.declared.MaybeLevel.{MaybeLevel}
-use Rattle.walk.specs.declared.MaybeSeconds.{MaybeSeconds}
 use Rattle.walk.specs.declared.Outcome.TheVariants.{Commit}
 use Rattle.walk.specs.Given.{Given, outcome_number, open_number, seconds_value, zone_value}
 use Rattle.object.specs.Ids.{id_in, padded}
@@ -50,7 +49,7 @@ pub record PutsAnswer (w : ℕ) (a : Given) (id id' numbers numbers' : List ℕ)
   pub seconds_are : seconds' ≡ set (set seconds 0 (seconds_value a.info.time)) 1 (zone_value a.info.zone)
 
 -- the answer of a commit x that is handed out
-abbrev pub commit_given : Id → ℕ → MaybeLevel → MaybeSeconds → Zone → ℕ → ℕ → ℕ → Given
+abbrev pub commit_given : Id → ℕ → Option Level → Option Seconds → Option ℤ → ℕ → ℕ → ℕ → Given
 commit_given x parents g t z admitted struck waiting = record {
   outcome = Commit;
   info = record { id = padded x; parents = parents; generation = g; time = t; zone = z };

@@ -1,16 +1,12 @@
 -- A record and the numbers of an answer as words, each a number below 2 ^ 64. Assumes nothing.
-use Rattle.std.specs.Prelude.{ℕ, ◌%◌, ◌≤◌, ◌≡◌, refl, Bool, true, false, cond, ◌&&◌, List, [], ◌∷◌, length, get_or, replicate, eqb, leb, ℤ}
+use Rattle.std.specs.Prelude.{ℕ, ◌%◌, ◌≤◌, ◌≡◌, refl, Bool, true, false, cond, ◌&&◌, List, [], ◌∷◌, length, get_or, replicate, eqb, leb, ℤ, None, Option, Some}
+use Rattle.commitgraph.specs.declared.Level.{Level}
+use Rattle.date.specs.declared.Seconds.{Seconds}
 use Rattle.hash.specs.Bytes.{pick, set_down}
 use Rattle.hash.specs.declared.Kind.{Kind}
 use Rattle.hash.specs.declared.Kind.TheVariants.{Sha1, Sha256}
 use Rattle.revwalk.specs.declared.queue.Queue.{Queue}
 use Rattle.walk.specs.declared.OpenAnswer.{OpenAnswer}
-use Rattle.walk.specs.declared.MaybeLevel.{MaybeLevel}
-use Rattle.walk.specs.declared.MaybeLevel.TheVariants.{Generation, NoGeneration}
-use Rattle.walk.specs.declared.MaybeSeconds.{MaybeSeconds}
-use Rattle.walk.specs.declared.MaybeSeconds.TheVariants.{Time, NoTime}
-use Rattle.date.specs.declared.Zone.{Zone}
-use Rattle.date.specs.declared.Zone.TheVariants.{Minutes, NoZone}
 use Rattle.walk.specs.declared.Refusal.TheVariants.{Closed}
 use Rattle.walk.specs.Refusals.{number_of}
 use Rattle.walk.specs.Given.{Given, level_value}
@@ -116,17 +112,17 @@ pub record PutsWaiting (w : Waiting) (words words' : List ℕ) : Type 0 where
 unfoldable pub open_words : OpenAnswer → List ℕ
 open_words a = a.admitted ∷ a.struck ∷ a.waiting ∷ []
 
-abbrev pub has_level : MaybeLevel → ℕ
-has_level (Generation l) = 1
-has_level NoGeneration = 0
+abbrev pub has_level : Option Level → ℕ
+has_level (Some l) = 1
+has_level None = 0
 
-abbrev pub has_seconds : MaybeSeconds → ℕ
-has_seconds (Time s) = 1
-has_seconds NoTime = 0
+abbrev pub has_seconds : Option Seconds → ℕ
+has_seconds (Some s) = 1
+has_seconds None = 0
 
-abbrev pub has_zone : Zone → ℕ
-has_zone (Minutes m) = 1
-has_zone NoZone = 0
+abbrev pub has_zone : Option ℤ → ℕ
+has_zone (Some m) = 1
+has_zone None = 0
 
 -- the same numbers, how many ids stand in parents, whether the answer has a level, the level, whether it has seconds, and whether it has a zone
 unfoldable pub answer_words : Given → List ℕ

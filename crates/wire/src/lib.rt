@@ -9,15 +9,12 @@ ghost use Rattle.walk.specs.Given.{outcome_number, open_number, level_value, sec
 ghost use Rattle.wire.specs.Words.{kind_of, width_word, bit_of, words_of, record_of, record_words, queue_of, fixed_in, Encodes, PutsRecord, PutsWaiting, answer_words, has_level, has_seconds, has_zone, room_to_open, room_to_call};
 ghost use Rattle.wire.specs.Numbers.{time_order, sorting_of, parents_of, settings_of, PutsOpenAnswer, PutsAnswer, commit_given};
 
-use commitgraph::Layout;
-use date::{Seconds, Zone};
+use commitgraph::{Layout, Level};
+use date::Seconds;
 use hash::Kind;
 use revwalk::queue::Queue;
 use state::{Fixed, Record, Waiting};
-use walk::{
-    Answer, CommitTimeOrder, MaybeLevel, MaybeSeconds, OpenAnswer, OpenOutcome, Outcome, Parents,
-    Settings, Sorting,
-};
+use walk::{Answer, CommitTimeOrder, OpenAnswer, Outcome, Parents, Refusal, Settings, Sorting};
 
 // How many words a record has.
 const RECORD_WORDS: usize = 20;
@@ -128,10 +125,8 @@ pub fn put(out: &mut [u64], x: &[u64])
     if out.len() < x.len() {
         return;
     }
-    let mut k = 0;
-    while k < x.len() {
+    for k in 0..x.len() {
         out[k] = x[k];
-        k += 1;
     }
 }
 
@@ -345,12 +340,12 @@ fn wide(n: u8) -> u32
 }
 
 // The number of an opening's outcome: 0 where it is accepted, else document 01's number of the refusal.
-fn open_number(o: OpenOutcome) -> u32
+fn open_number(o: Result<(), Refusal>) -> u32
     ensures { result ≡ open_number o }
 {
     match o {
-        OpenOutcome::Accepted => 0,
-        OpenOutcome::NotOpened(r) => wide(walk::number(r)),
+        Ok(()) => 0,
+        Err(r) => wide(walk::number(r)),
     }
 }
 
@@ -375,41 +370,41 @@ pub fn put_open_answer(a: OpenAnswer, numbers: &mut [u64]) -> u32
     open_number(o)
 }
 
-fn has_level(g: MaybeLevel) -> u64
+fn has_level(g: Option<Level>) -> u64
     ensures { result ≡ has_level g }
 {
     match g {
-        MaybeLevel::Generation(_) => 1,
-        MaybeLevel::NoGeneration => 0,
+        Some(_) => 1,
+        None => 0,
     }
 }
 
 // A generation, 0 where there is none.
-fn level_value(g: MaybeLevel) -> u64
+fn level_value(g: Option<Level>) -> u64
     ensures { result ≡ level_value g }
 {
     match g {
-        MaybeLevel::Generation(l) => long32(l.0),
-        MaybeLevel::NoGeneration => 0,
+        Some(l) => long32(l.0),
+        None => 0,
     }
 }
 
-fn has_seconds(t: MaybeSeconds) -> u64
+fn has_seconds(t: Option<Seconds>) -> u64
     ensures { result ≡ has_seconds t }
 {
     match t {
-        MaybeSeconds::Time(_) => 1,
-        MaybeSeconds::NoTime => 0,
+        Some(_) => 1,
+        None => 0,
     }
 }
 
 // Seconds, 0 where there are none.
-fn seconds_value(t: MaybeSeconds) -> Seconds
+fn seconds_value(t: Option<Seconds>) -> Seconds
     ensures { result.0 ≡ seconds_value t }
 {
     match t {
-        MaybeSeconds::Time(s) => s,
-        MaybeSeconds::NoTime => Seconds(0),
+        Some(s) => s,
+        None => Seconds(0),
     }
 }
 
@@ -422,22 +417,22 @@ pub fn put_seconds(s: i64, out: &mut [i64])
     }
 }
 
-fn has_zone(z: Zone) -> u64
+fn has_zone(z: Option<i64>) -> u64
     ensures { result ≡ has_zone z }
 {
     match z {
-        Zone::Minutes(_) => 1,
-        Zone::NoZone => 0,
+        Some(_) => 1,
+        None => 0,
     }
 }
 
 // The minutes of a zone, 0 where there is none.
-fn zone_value(z: Zone) -> i64
+fn zone_value(z: Option<i64>) -> i64
     ensures { result ≡ zone_value z }
 {
     match z {
-        Zone::Minutes(m) => m,
-        Zone::NoZone => 0,
+        Some(m) => m,
+        None => 0,
     }
 }
 
@@ -511,9 +506,9 @@ pub fn put_commit(
     kind: Kind,
     x: &[u8],
     parents: usize,
-    g: MaybeLevel,
-    t: MaybeSeconds,
-    z: Zone,
+    g: Option<Level>,
+    t: Option<Seconds>,
+    z: Option<i64>,
     admitted: usize,
     struck: usize,
     waiting: usize,

@@ -1,4 +1,5 @@
 -- The function with the memo: what is recalled is so, and what is found out is noted. Assumes nothing.
+use Rattle.std.specs.Prelude.{◌≢◌, Ok, Err}
 use mathlib.Core.Path.{◌≡◌, refl, sym, ◌∙◌, ap, subst}
 use mathlib.Core.Logic.{◌⊎◌, inl, inr, ⊎_elim}
 use Prim.Native.Nat.{ℕ, zero, suc, ◌+◌, ◌-◌, ◌<◌, ◌≤◌}
@@ -13,16 +14,15 @@ use Rattle.hash.proofs.Tests.{by_cases, not_yes}
 use Rattle.date.specs.declared.Stamp.{Stamp}
 use Rattle.object.specs.Header.{header}
 use Rattle.object.specs.Ids.{id_in, id_room}
-use Rattle.object.specs.Read.{reading_of}
+use Rattle.object.specs.declared.ReadableHeader.{ReadableHeader}
+use Rattle.object.specs.Read.{reading_of, Reading, readable_as}
 use Rattle.object.specs.declared.ObjectId.{ObjectId}
-use Rattle.object.specs.declared.Reading.{Reading}
-use Rattle.object.specs.declared.Reading.TheVariants.{Readable, Bad, Crowded}
 use Rattle.odb.specs.Store.{standing_entries, store_is_ok}
 use Rattle.walk.specs.Reach.{links}
 use Rattle.walk.specs.Demand.{Readable as IsReadable}
 use Rattle.reading.specs.Body.{parent_id_at}
 use Rattle.reading.specs.Stored.{GivesBody}
-use Rattle.reading.proofs.StoredBodies.{stored-readable, stored-bad, stored-crowded}
+use Rattle.reading.proofs.StoredBodies.{stored-readable, stored-err}
 use Rattle.memo.specs.Cells.{code_of, recalled, noted}
 use Rattle.memo.specs.AtHand.{store_alone, EntryOf, ParentsIn}
 use Rattle.memo.proofs.Cells.{recall-known, note-holds, code_test, before_or_at}
@@ -65,21 +65,20 @@ module _ (width : ℕ) (s : List ℕ) {n : ℕ} (sn : n ≡ standing_entries wid
       (note-holds h k false d r (λ l. ap (λ (y : Id). readable_within d (store_alone width s) y) (o.is (omega arith)) ∙ sym q))
 
   -- the commit is not readable
-  pub read-not : {b m : List ℕ} → GivesBody width s x b → ((c : ℕ) (t : Stamp) → reading_of (header width b) ≡ Readable c t → ⊥) → Reads width s d x m m false
+  pub read-not : {b m : List ℕ} → GivesBody width s x b → ((h : ReadableHeader) → reading_of (header width b) ≢ Ok h) → Reads width s d x m m false
   read-not {b} {m} v z = record { right = λ ok h. (sym (within-unreadable (store_alone width s) x d (not_yes (λ e. bars ok (reading_of (header width b)) refl (readable-is (store_alone width s) x e)))), h) }
     where
       bars : store_is_ok width s ≡ true → (r : Reading) → reading_of (header width b) ≡ r → IsReadable (store_alone width s) x → ⊥
-      bars ok (Readable c t) e i = z c t e
-      bars ok Bad e i = stored-bad v ok [] e i
-      bars ok Crowded e i = stored-crowded v ok [] e i
+      bars ok (Ok r) e i = absurd (z r e)
+      bars ok (Err r) e i = stored-err v ok [] r e i
 
   -- it is
-  module _ (small : width ≤ id_room) {b : List ℕ} (v : GivesBody width s x b) (c : ℕ) (t : Stamp) (e : reading_of (header width b) ≡ Readable c t) where
+  module _ (small : width ≤ id_room) {b : List ℕ} (v : GivesBody width s x b) (c : ℕ) (t : Stamp) (e : reading_of (header width b) ≡ readable_as c t) where
     is-good : store_is_ok width s ≡ true → readable (store_alone width s) x ≡ true
     is-good ok = is-readable (store_alone width s) x (stored-readable v ok [] c t e)
 
     parents : store_is_ok width s ≡ true → ParentsIn width s x b c
-    parents ok = parents_in small v ok (Readable c t) e
+    parents ok = parents_in small v ok (readable_as c t) e
 
     pub read-still : {m m' : List ℕ} → d ≡ 0 → m' ≡ noted m n k false d true → Reads width s d x m m' true
     read-still z f = record { right = λ ok h. let q : true ≡ readable_within d (store_alone width s) x = sym (within-still (store_alone width s) x d z ∙ is-good ok) in (q, note-read f q h) }

@@ -8,7 +8,7 @@ ghost use Rattle.withinreach.specs.Remembered.{Reads};
 ghost use Rattle.hash.specs.Bytes.{width_of};
 
 use hash::Kind;
-use object::{ObjectId, Reading};
+use object::{ObjectId, ReadableHeader};
 
 // Whether every commit within d parent steps of a commit is readable, itself included. A commit that is absent is not.
 pub fn all_readable(kind: Kind, store: &[u8], memo: &mut [u8], d: usize, id: ObjectId) -> bool
@@ -22,15 +22,14 @@ pub fn all_readable(kind: Kind, store: &[u8], memo: &mut [u8], d: usize, id: Obj
         return known == 2;
     }
     let body = reading::stored_body(kind, store, x);
-    let Reading::Readable { parents, .. } = object::readable(kind, body) else {
+    let Ok(ReadableHeader { parents, .. }) = object::readable(kind, body) else {
         return false;
     };
     if d == 0 {
         memo::note(memo, n, k, false, d, true);
         return true;
     }
-    let mut i = 0;
-    while i < parents {
+    for i in 0..parents {
         if !all_readable(
             kind,
             store,
@@ -41,7 +40,6 @@ pub fn all_readable(kind: Kind, store: &[u8], memo: &mut [u8], d: usize, id: Obj
             memo::note(memo, n, k, false, d, false);
             return false;
         }
-        i += 1;
     }
     memo::note(memo, n, k, false, d, true);
     true

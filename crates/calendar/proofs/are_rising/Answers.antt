@@ -16,22 +16,22 @@ pub loop-k-init : goal.loop-k-init
 loop-k-init c = (search rules, refl)
 
 pub returns-then-not-is_fit : goal.returns-then-not-is_fit
-returns-then-not-is_fit c = let l = c in
-    let x = l.args in
-    let f : fits l.loop-k.free (first_month x.terms.now l.loop-k.k) (last_month x.terms.now l.loop-k.k) ≡ false =
-    sym (λ i. fits l.loop-k.free (c.month-first.ensures.0 i) (c.month-last.ensures.0 i)) ∙ sym c.is_fit.ensures ∙ c.if-not-is_fit.true in
-    sym (l.loop-k.invariant.1 ∙ unfit x.terms.now l.loop-k.free l.loop-k.k c.loop-k-test.true f)
+returns-then-not-is_fit c =
+    let x = c.args in
+    let f : fits c.loop-k.free (first_month x.terms.now c.loop-k.k) (last_month x.terms.now c.loop-k.k) ≡ false =
+    sym (λ i. fits c.loop-k.free (c.month-first.ensures.0 i) (c.month-last.ensures.0 i)) ∙ sym c.is_fit.ensures ∙ c.if-not-is_fit.true in
+    sym (c.loop-k.invariant.1 ∙ unfit x.terms.now c.loop-k.free c.loop-k.k c.loop-k-test.true f)
 
 pub loop-k-preserved : goal.loop-k-preserved
-loop-k-preserved c = let l = c in
-    let x = l.args in
-    let f : fits l.loop-k.free (first_month x.terms.now l.loop-k.k) (last_month x.terms.now l.loop-k.k) ≡ true =
-    sym (λ i. fits l.loop-k.free (c.month-first.ensures.0 i) (c.month-last.ensures.0 i)) ∙ sym c.is_fit.ensures ∙ c.if-not-is_fit.false in
-    let e : suc (last_month x.terms.now l.loop-k.k) ≡ c.month-last.result + 1 = omega (arith, c.month-last.ensures.0) in
-    (search rules, l.loop-k.invariant.1 ∙ fit x.terms.now l.loop-k.free l.loop-k.k c.loop-k-test.true f ∙ ap (λ (m : ℕ). rise m (drop ((l.loop-k.k + 1) * 2) x.terms.now)) e)
+loop-k-preserved c =
+    let x = c.args in
+    let f : fits c.loop-k.free (first_month x.terms.now c.loop-k.k) (last_month x.terms.now c.loop-k.k) ≡ true =
+    sym (λ i. fits c.loop-k.free (c.month-first.ensures.0 i) (c.month-last.ensures.0 i)) ∙ sym c.is_fit.ensures ∙ c.if-not-is_fit.false in
+    let e : suc (last_month x.terms.now c.loop-k.k) ≡ c.month-last.result + 1 = omega (arith, c.month-last.ensures.0) in
+    (search rules, c.loop-k.invariant.1 ∙ fit x.terms.now c.loop-k.free c.loop-k.k c.loop-k-test.true f ∙ ap (λ (m : ℕ). rise m (drop ((c.loop-k.k + 1) * 2) x.terms.now)) e)
 
 pub returns : goal.returns
-returns c = let l = c in
-    let s = l.args.terms.now in
-    let e : l.loop-k.k ≡ length s / 2 = omega (arith, l.loop-k.invariant.0, c.loop-k-test.false) in
-    sym (l.loop-k.invariant.1 ∙ rest s l.loop-k.free l.loop-k.k e ∙ ap (λ (k : ℕ). eqb (length s) (k * 2)) e)
+returns c =
+    let s = c.args.terms.now in
+    let e : c.loop-k.k ≡ length s / 2 = omega (arith, c.loop-k.invariant.0, c.loop-k-test.false) in
+    sym (c.loop-k.invariant.1 ∙ rest s c.loop-k.free c.loop-k.k e ∙ ap (λ (k : ℕ). eqb (length s) (k * 2)) e)

@@ -12,18 +12,18 @@ pub loop-low-init : goal.loop-low-init
 loop-low-init c = let x = c.args in all_left x.terms.now x.day
 
 pub loop-low-preserved-then-first_day-day : goal.loop-low-preserved-then-first_day-day
-loop-low-preserved-then-first_day-day c = let l = c in
-    let x = l.args in
-    let mid = l.loop-low.low + (l.loop-low.high - l.loop-low.low) / 2 in
+loop-low-preserved-then-first_day-day c =
+    let x = c.args in
+    let mid = c.loop-low.low + (c.loop-low.high - c.loop-low.low) / 2 in
     let e : first_day (tabled (first_month x.terms.now mid)) ≡ c.first_day.result = ap (λ (m : ℕ). first_day (tabled m)) (sym c.month.ensures.0) ∙ sym c.first_day.ensures in
-    upward l.loop-low.invariant mid (omega arith) (omega (arith, c.loop-low-test.true)) (omega (arith, e, c.if-first_day-day.true))
+    upward c.loop-low.invariant mid (omega arith) (omega (arith, c.loop-low-test.true)) (omega (arith, e, c.if-first_day-day.true))
 
 pub loop-low-preserved : goal.loop-low-preserved
-loop-low-preserved c = let l = c in
-    let x = l.args in
-    let mid = l.loop-low.low + (l.loop-low.high - l.loop-low.low) / 2 in
+loop-low-preserved c =
+    let x = c.args in
+    let mid = c.loop-low.low + (c.loop-low.high - c.loop-low.low) / 2 in
     let e : first_day (tabled (first_month x.terms.now mid)) ≡ c.first_day.result = ap (λ (m : ℕ). first_day (tabled m)) (sym c.month.ensures.0) ∙ sym c.first_day.ensures in
-    downward l.loop-low.invariant mid (omega arith) (omega (arith, c.loop-low-test.true)) (omega (arith, e, c.if-first_day-day.false))
+    downward c.loop-low.invariant mid (omega arith) (omega (arith, c.loop-low-test.true)) (omega (arith, e, c.if-first_day-day.false))
 
 pub returns : goal.returns
 returns c = one_left c.loop-low.invariant c.loop-low-test.false

@@ -8,13 +8,13 @@ use borrow.Author.Rules.{rules}
 use Rattle.commititer.proofs.after_author.Reads as reads
 use Rattle.commititer.proofs.after_author.Goals as goal
 
-pub returns-in-Good : goal.returns-in-Good
-returns-in-Good c = let x = c.args in
+pub returns-in-Some : goal.returns-in-Some
+returns-in-Some c = let x = c.args in
     let b = x.«data».now in
-    sym (author-good b (author_line (drop x.at b)) _ (sym c.author_line.ensures ∙ c.in-Good.is)).next
+    sym (author-good b (author_line (drop x.at b)) _ (sym c.author_line.ensures ∙ c.in-Some.is)).next
 
-pub returns-in-Bad : goal.returns-in-Bad
-returns-in-Bad c = let x = c.args in
+pub returns-in-None : goal.returns-in-None
+returns-in-None c = let x = c.args in
     let b = x.«data».now in
     c.no_more.ensures
-    ∙ sym (ap (place_of b) (author-bad b (author_line (drop x.at b)) (sym c.author_line.ensures ∙ c.in-Bad.is)))
+    ∙ sym (ap (place_of b) (author-bad b (author_line (drop x.at b)) (sym c.author_line.ensures ∙ c.in-None.is)))

@@ -1,14 +1,16 @@
 -- `commititer::after_token` meets its contract: the place says which line is asked, and nothing is read after the committer line, be it good or
 -- bad. Assumes nothing.
-use mathlib.Core.Path.{sym, ap, ◌∙◌}
+use mathlib.Core.Logic.{⊎_elim}
+use mathlib.Core.Path.{◌≡◌, sym, ap, ◌∙◌}
 use Rattle.hash.specs.Bytes.{width_of}
 use lib.ListN.{drop}
 use Rattle.object.specs.Header.{committer_line}
 use Rattle.commititer.specs.Token.{here, line_in, line_at, after_token}
 use Rattle.commititer.proofs.Told.{committer_last}
+use Rattle.commititer.specs.declared.Place.{Place}
 use Rattle.commititer.specs.declared.State.{State}
+use Rattle.commititer.specs.declared.State.TheVariants.{Committer, Done}
 use borrow.Author.Rules.{rules}
-use Rattle.commititer.proofs.after_token.Reads as reads
 use Rattle.commititer.proofs.after_token.Goals as goal
 
 pub returns-in-Tree : goal.returns-in-Tree
@@ -22,11 +24,6 @@ returns-in-Parents c = let x = c.args in
 pub returns-in-Committer : goal.returns-in-Committer
 unfolding after_token line_at line_in
 returns-in-Committer c = let x = c.args in
+    let at : State → Place = λ s. after_token (width_of x.kind) x.«data».now (here x.place.at s) in
     c.no_more.ensures
-    ∙ sym (committer_last x.«data».now (committer_line (drop x.place.at x.«data».now)))
-    ∙ sym (ap (λ (s : State). after_token (width_of x.kind) x.«data».now (here x.place.at s)) c.in-Committer.is)
-
-pub returns-in-Done : goal.returns-in-Done
-unfolding after_token line_at line_in
-returns-in-Done c = let x = c.args in
-    c.no_more-in-Done.ensures ∙ sym (ap (λ (s : State). after_token (width_of x.kind) x.«data».now (here x.place.at s)) c.in-Done.is)
+    ∙ ⊎_elim (λ (e : x.place.state ≡ Committer). sym (committer_last x.«data».now (committer_line (drop x.place.at x.«data».now))) ∙ sym (ap at e)) (λ (e : x.place.state ≡ Done). sym (ap at e)) c.in-Committer.is

@@ -10,15 +10,15 @@ use borrow.Author.Rules.{rules}
 use Rattle.commititer.proofs.after_tree.Reads as reads
 use Rattle.commititer.proofs.after_tree.Goals as goal
 
-pub returns-in-Good : goal.returns-in-Good
+pub returns-in-Some : goal.returns-in-Some
 unfolding tree_at after_token line_at line_in
-returns-in-Good c = let x = c.args in
+returns-in-Some c = let x = c.args in
     let b = x.«data».now in
-    sym (tree-good b (id_line (width_of x.kind) tree_word (drop x.at b)) _ (sym c.tree_line.ensures ∙ c.in-Good.is)).next
+    sym (tree-good b (id_line (width_of x.kind) tree_word (drop x.at b)) _ (sym c.tree_line.ensures ∙ c.in-Some.is)).next
 
-pub returns-in-Bad : goal.returns-in-Bad
+pub returns-in-None : goal.returns-in-None
 unfolding tree_at after_token line_at line_in
-returns-in-Bad c = let x = c.args in
+returns-in-None c = let x = c.args in
     let b = x.«data».now in
     c.no_more.ensures
-    ∙ sym (ap (place_of b) (tree-bad b (id_line (width_of x.kind) tree_word (drop x.at b)) (sym c.tree_line.ensures ∙ c.in-Bad.is)))
+    ∙ sym (ap (place_of b) (tree-bad b (id_line (width_of x.kind) tree_word (drop x.at b)) (sym c.tree_line.ensures ∙ c.in-None.is)))

@@ -13,11 +13,11 @@ use Rattle.object.proofs.tree_size.Reads as tree-size-reads
 use Rattle.commititer.proofs.parents_place.Goals as goal
 
 pub returns-in-Sha1 : goal.returns-in-Sha1
-returns-in-Sha1 c = let z = c in
-    let x = z.args in
-    place-held (width_of Sha1) x.k z.tree_size.ensures.0 c.parent_size.ensures.0 c.line_place-at.ensures ∙ sym (ap (λ (k : Kind). parents_place (width_of k) x.k) z.in-Sha1.is)
+returns-in-Sha1 c =
+    let x = c.args in
+    place-held (width_of Sha1) x.k c.tree_size.ensures.0 c.parent_size.ensures.0 c.line_place-at.ensures ∙ sym (ap (λ (k : Kind). parents_place (width_of k) x.k) c.in-Sha1.is)
 
 pub returns-in-Sha256 : goal.returns-in-Sha256
-returns-in-Sha256 c = let z = c in
-    let x = z.args in
-    place-held (width_of Sha256) x.k z.tree_size-in-Sha256.ensures.0 c.parent_size-in-Sha256.ensures.0 c.line_place-at-in-Sha256.ensures ∙ sym (ap (λ (k : Kind). parents_place (width_of k) x.k) z.in-Sha256.is)
+returns-in-Sha256 c =
+    let x = c.args in
+    place-held (width_of Sha256) x.k c.tree_size-in-Sha256.ensures.0 c.parent_size-in-Sha256.ensures.0 c.line_place-at-in-Sha256.ensures ∙ sym (ap (λ (k : Kind). parents_place (width_of k) x.k) c.in-Sha256.is)

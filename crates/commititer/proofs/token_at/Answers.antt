@@ -4,7 +4,6 @@ use Rattle.hash.specs.Bytes.{width_of}
 use Rattle.commititer.specs.Token.{here, line_in, line_at, token_at}
 use Rattle.commititer.specs.declared.State.{State}
 use borrow.Author.Rules.{rules}
-use Rattle.commititer.proofs.token_at.Reads as reads
 use Rattle.commititer.proofs.token_at.Goals as goal
 
 pub returns-in-Tree : goal.returns-in-Tree
@@ -23,4 +22,4 @@ returns-in-Committer c = let x = c.args in
 pub returns-in-Done : goal.returns-in-Done
 unfolding token_at line_at line_in
 returns-in-Done c = let x = c.args in
-    c.without_id.ensures ∙ sym (ap (λ (s : State). token_at (width_of x.kind) x.«data».now (here x.place.at s)) c.in-Done.is)
+    sym (ap (λ (s : State). token_at (width_of x.kind) x.«data».now (here x.place.at s)) c.in-Done.is)

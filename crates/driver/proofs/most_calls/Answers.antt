@@ -2,8 +2,8 @@
 use borrow.Author.Rules.{rules}
 use Rattle.driver.proofs.most_calls.Goals as goal
 
-pub returns-in-Accepted : goal.returns-in-Accepted
-returns-in-Accepted c = rw c.in-Accepted.is
+pub returns-in-Ok : goal.returns-in-Ok
+returns-in-Ok c = rw c.in-Ok.is
 
-pub returns-in-NotOpened : goal.returns-in-NotOpened
-returns-in-NotOpened c = rw c.in-NotOpened.is
+pub returns-in-Err : goal.returns-in-Err
+returns-in-Err c = rw c.in-Err.is

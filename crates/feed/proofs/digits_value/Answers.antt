@@ -18,14 +18,14 @@ pub loop-i-init : goal.loop-i-init
 loop-i-init c = (search rules, search rules, refl)
 
 pub returns-then-not-is_digit : goal.returns-then-not-is_digit
-returns-then-not-is_digit c = let l = c in
-    let b = l.args.b.now in
+returns-then-not-is_digit c =
+    let b = c.args.b.now in
     let d = sym c.is_digit.ensures ∙ c.if-not-is_digit.true in
-    sym (ap number_read (l.loop-i.invariant.2 ∙ at_none l.loop-i.value l.loop-i.i b (search rules) d))
+    sym (ap number_read (c.loop-i.invariant.2 ∙ at_none c.loop-i.value c.loop-i.i b (search rules) d))
 
 pub overflow_mul-value : goal.overflow_mul-value
-overflow_mul-value c = let l = c in
-    let h = ten_most l.loop-i.i 10 l.loop-i.value l.loop-i.invariant.1 (omega arith) in
+overflow_mul-value c =
+    let h = ten_most c.loop-i.i 10 c.loop-i.value c.loop-i.invariant.1 (omega arith) in
     omega arith
 
 pub digit_value-requires : goal.digit_value-requires
@@ -34,23 +34,22 @@ digit_value-requires c =
     digit_bounds (get_or c.args.b.now c.loop-i.i 0) told
 
 pub overflow_add-value : goal.overflow_add-value
-overflow_add-value c = let l = c in
-    let h = ten_most l.loop-i.i 10 l.loop-i.value l.loop-i.invariant.1 (omega arith) in
+overflow_add-value c =
+    let h = ten_most c.loop-i.i 10 c.loop-i.value c.loop-i.invariant.1 (omega arith) in
     omega arith
 
 pub loop-i-preserved : goal.loop-i-preserved
 loop-i-preserved c =
     let told : digit (get_or c.args.b.now c.loop-i.i 0) ≡ true = sym c.is_digit.ensures ∙ c.if-not-is_digit.false in
-    let l = c in
-    let b = l.args.b.now in
-    let i = l.loop-i.i in
-    let v = l.loop-i.value in
+    let b = c.args.b.now in
+    let i = c.loop-i.i in
+    let v = c.loop-i.value in
     let d = c.digit_value.ensures in
-    let m : v * 10 + c.digit_value.result < 10 ^ (i + 1) = rw add-one (ten_more i v c.digit_value.result l.loop-i.invariant.1 d.1) in
+    let m : v * 10 + c.digit_value.result < 10 ^ (i + 1) = rw add-one (ten_more i v c.digit_value.result c.loop-i.invariant.1 d.1) in
     let s = at-digit v i b (search rules) told in
-    (search rules, m, l.loop-i.invariant.2 ∙ s ∙ ap (λ (k : ℕ). decimal (v * 10 + k) (drop (i + 1) b)) (sym d.0))
+    (search rules, m, c.loop-i.invariant.2 ∙ s ∙ ap (λ (k : ℕ). decimal (v * 10 + k) (drop (i + 1) b)) (sym d.0))
 
 pub returns : goal.returns
-returns c = let l = c in
-    let b = l.args.b.now in
-    sym (ap number_read (l.loop-i.invariant.2 ∙ at-end l.loop-i.value l.loop-i.i b (search rules)))
+returns c =
+    let b = c.args.b.now in
+    sym (ap number_read (c.loop-i.invariant.2 ∙ at-end c.loop-i.value c.loop-i.i b (search rules)))

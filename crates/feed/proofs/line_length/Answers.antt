@@ -8,14 +8,14 @@ use borrow.Author.Rules.{rules}
 use Rattle.feed.proofs.line_length.Goals as goal
 
 pub returns-then-b-i-eq10 : goal.returns-then-b-i-eq10
-returns-then-b-i-eq10 c = let l = c in
-    let x = l.args in
-    length_first x.b.now l.loop-i.i (first-here 10 x.b.now l.loop-i.i (omega arith) c.if-b-i-eq10.true l.loop-i.invariant.1)
+returns-then-b-i-eq10 c =
+    let x = c.args in
+    length_first x.b.now c.loop-i.i (first-here 10 x.b.now c.loop-i.i (omega arith) c.if-b-i-eq10.true c.loop-i.invariant.1)
 
 pub loop-i-preserved : goal.loop-i-preserved
 loop-i-preserved c = (search rules, below_more _ _ c.loop-i.invariant.1 c.if-b-i-eq10.false)
 
 pub returns : goal.returns
-returns c = let l = c in
-    let x = l.args in
-    length_all x.b.now l.loop-i.i (first-nowhere 10 x.b.now (λ k h. l.loop-i.invariant.1 k (omega arith))) (omega arith)
+returns c =
+    let x = c.args in
+    length_all x.b.now c.loop-i.i (first-nowhere 10 x.b.now (λ k h. c.loop-i.invariant.1 k (omega arith))) (omega arith)

@@ -16,17 +16,17 @@ pub loop-i-init : goal.loop-i-init
 loop-i-init c = (search rules, start c.args.body.now)
 
 pub returns-then-fresh : goal.returns-then-fresh
-returns-then-fresh c = let l = c in
-    let b = l.args.body.now in
-    (search rules, at-empty b l.loop-i.i (omega arith) l.loop-i.fresh c.if-fresh.true (eq-eqb _ _ c.if-ends.true) ∙ sym l.loop-i.invariant.1)
+returns-then-fresh c =
+    let b = c.args.body.now in
+    (search rules, at-empty b c.loop-i.i (omega arith) c.loop-i.fresh c.if-fresh.true (eq-eqb _ _ c.if-ends.true) ∙ sym c.loop-i.invariant.1)
 
 pub loop-i-preserved : goal.loop-i-preserved
-loop-i-preserved c = let l = c in
-    let b = l.args.body.now in
-    let o : (eqb (get_or b l.loop-i.i 0) 10 && l.loop-i.fresh) ≡ false = ⊎_elim (λ w. not-fresh (eqb (get_or b l.loop-i.i 0) 10) l.loop-i.fresh w.if-fresh.false) (λ w. no_end (eqb (get_or b l.loop-i.i 0) 10) l.loop-i.fresh (ne_eqb _ _ w.if-ends.false)) c.if-ends.branch-raw in
-    (search rules, l.loop-i.invariant.1 ∙ at_other b l.loop-i.i (omega arith) l.loop-i.fresh o)
+loop-i-preserved c =
+    let b = c.args.body.now in
+    let o : (eqb (get_or b c.loop-i.i 0) 10 && c.loop-i.fresh) ≡ false = ⊎_elim (λ w. not-fresh (eqb (get_or b c.loop-i.i 0) 10) c.loop-i.fresh w.if-fresh.false) (λ w. no_end (eqb (get_or b c.loop-i.i 0) 10) c.loop-i.fresh (ne_eqb _ _ w.if-ends.false)) c.if-ends.branch-raw in
+    (search rules, c.loop-i.invariant.1 ∙ at_other b c.loop-i.i (omega arith) c.loop-i.fresh o)
 
 pub returns : goal.returns
-returns c = let l = c in
-    let b = l.args.body.now in
-    (search rules, at-end b l.loop-i.i l.loop-i.fresh (omega arith) ∙ sym l.loop-i.invariant.1)
+returns c =
+    let b = c.args.body.now in
+    (search rules, at-end b c.loop-i.i c.loop-i.fresh (omega arith) ∙ sym c.loop-i.invariant.1)

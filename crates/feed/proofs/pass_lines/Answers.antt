@@ -35,16 +35,15 @@ loop-p-smaller c =
 pub loop-p-preserved : goal.loop-p-preserved
 loop-p-preserved c =
     let long : c.line_length-n.result ≡ line_length (drop c.loop-p.p c.args.body.now) = c.line_length-n.ensures ∙ ap line_length (c.part-rest.ensures ∙ at_rest c.args.body.now c.loop-p.p (length c.args.body.now) (omega arith)) in
-    let l = c in
-    let b = l.args.body.now in
-    let p = l.loop-p.p in
-    let s = l.loop-p.lines in
+    let b = c.args.body.now in
+    let p = c.loop-p.p in
+    let s = c.loop-p.lines in
     let n = c.line_length-n.result in
     let r = c.part-rest.ensures ∙ at_rest b p (length b) (omega arith) in
     let t = c.pass_line-lines.ensures ∙ ap (pass_line s) (c.part.ensures ∙ front-part _ b p n r) in
-    l.loop-p.invariant ∙ passed-at s b p n long ∙ sym (ap (λ (q : Lines). pass_lines q (lines_of (drop (p + n + 1) b))) t)
+    c.loop-p.invariant ∙ passed-at s b p n long ∙ sym (ap (λ (q : Lines). pass_lines q (lines_of (drop (p + n + 1) b))) t)
 
 pub returns : goal.returns
-returns c = let l = c in
-    let b = l.args.body.now in
-    sym (l.loop-p.invariant ∙ no_bytes l.loop-p.lines (drop l.loop-p.p b) (drop_of_length-le b {i = l.loop-p.p} (omega arith)))
+returns c =
+    let b = c.args.body.now in
+    sym (c.loop-p.invariant ∙ no_bytes c.loop-p.lines (drop c.loop-p.p b) (drop_of_length-le b {i = c.loop-p.p} (omega arith)))

@@ -8,13 +8,13 @@ use Rattle.fsck.proofs.check_names.Goals as goal
 
 pub check_digests-requires : goal.check_digests-requires
 check_digests-requires c = let x = c.args in
-    (passes (files_input x.kind x.store.now x.graph.now) (fine_as (files_refusal x.kind x.store.now x.graph.now) (sym c.in-Fine.is ∙ c.check_input.ensures (any_settings x.kind) refl))).store-good
+    (passes (files_input x.kind x.store.now x.graph.now) (fine_as (files_refusal x.kind x.store.now x.graph.now) (sym c.in-Ok.is ∙ c.check_input.ensures (any_settings x.kind) refl))).store-good
 
-pub returns-in-Refused : goal.returns-in-Refused
-returns-in-Refused c = let x = c.args in
-    sym (after-refused x.kind x.store.now x.graph.now c.in-Refused.r (refused_as (files_refusal x.kind x.store.now x.graph.now) (sym c.in-Refused.is ∙ c.check_input.ensures (any_settings x.kind) refl)))
+pub returns-in-Err : goal.returns-in-Err
+returns-in-Err c = let x = c.args in
+    sym (after-refused x.kind x.store.now x.graph.now c.in-Err.r (refused_as (files_refusal x.kind x.store.now x.graph.now) (sym c.in-Err.is ∙ c.check_input.ensures (any_settings x.kind) refl)))
 
-pub returns-in-Fine : goal.returns-in-Fine
-returns-in-Fine c = let x = c.args in
+pub returns-in-Ok : goal.returns-in-Ok
+returns-in-Ok c = let x = c.args in
     c.check_digests.ensures
-    ∙ sym (after-fine x.kind x.store.now x.graph.now (fine_as (files_refusal x.kind x.store.now x.graph.now) (sym c.in-Fine.is ∙ c.check_input.ensures (any_settings x.kind) refl)))
+    ∙ sym (after-fine x.kind x.store.now x.graph.now (fine_as (files_refusal x.kind x.store.now x.graph.now) (sym c.in-Ok.is ∙ c.check_input.ensures (any_settings x.kind) refl)))

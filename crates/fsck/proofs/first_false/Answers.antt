@@ -12,34 +12,34 @@ use Rattle.fsck.proofs.Entries.{none_left, one-false, one-true}
 use Rattle.fsck.proofs.first_false.Goals as goal
 
 pub loop-k-init : goal.loop-k-init
-loop-k-init c = let s = c in
+loop-k-init c =
     let n = c.count-n.result in
-    let e : n ≡ entries s.args.store.now = c.count-n.ensures ∙ good-count (width_of s.args.kind) s.args.store.now s.requires in
-    (e, search rules, ap (first_false s.args.kind s.args.store.now 0) (omega (arith, e)))
+    let e : n ≡ entries c.args.store.now = c.count-n.ensures ∙ good-count (width_of c.args.kind) c.args.store.now c.requires in
+    (e, search rules, ap (first_false c.args.kind c.args.store.now 0) (omega (arith, e)))
 
 pub is_named-requires : goal.is_named-requires
 is_named-requires c = (c.requires, omega (arith, c.loop-k-test.true, c.loop-k.invariant.0))
 
 pub returns-then-not-is_named : goal.returns-then-not-is_named
-returns-then-not-is_named c = let s = c in
+returns-then-not-is_named c =
     let l = c.loop-k in
     let n = c.count-n.result in
-    sym (ap found_of (l.invariant.2 ∙ one-false s.args.kind s.args.store.now l.k (n - l.k) (omega (arith, c.loop-k-test.true)) (sym c.is_named.ensures ∙ c.if-not-is_named.true)))
+    sym (ap found_of (l.invariant.2 ∙ one-false c.args.kind c.args.store.now l.k (n - l.k) (omega (arith, c.loop-k-test.true)) (sym c.is_named.ensures ∙ c.if-not-is_named.true)))
 
 pub loop-k-preserved : goal.loop-k-preserved
-loop-k-preserved c = let s = c in
+loop-k-preserved c =
     let l = c.loop-k in
     let n = c.count-n.result in
     let e : n - l.k - 1 ≡ n - (l.k + 1) = omega arith in (
       l.invariant.0,
       search rules,
       l.invariant.2
-          ∙ one-true s.args.kind s.args.store.now l.k (n - l.k) (omega (arith, c.loop-k-test.true)) (sym c.is_named.ensures ∙ c.if-not-is_named.false)
-          ∙ ap (first_false s.args.kind s.args.store.now (l.k + 1)) e,
+          ∙ one-true c.args.kind c.args.store.now l.k (n - l.k) (omega (arith, c.loop-k-test.true)) (sym c.is_named.ensures ∙ c.if-not-is_named.false)
+          ∙ ap (first_false c.args.kind c.args.store.now (l.k + 1)) e,
     )
 
 pub returns : goal.returns
-returns c = let s = c in
+returns c =
     let l = c.loop-k in
     let n = c.count-n.result in
-    sym (ap found_of (l.invariant.2 ∙ none_left s.args.kind s.args.store.now l.k (n - l.k) (omega (arith, c.loop-k-test.false))))
+    sym (ap found_of (l.invariant.2 ∙ none_left c.args.kind c.args.store.now l.k (n - l.k) (omega (arith, c.loop-k-test.false))))

@@ -6,7 +6,7 @@ use Rattle.fsck.proofs.Entries.{name-told}
 use Rattle.fsck.proofs.is_named.Goals as goal
 
 pub returns : goal.returns
-returns c = let s = c in
+returns c =
     c.is_commit_id.ensures
-    ∙ (λ i. eq_id (commit_id s.args.kind (c.entry_bytes-body.ensures i)) (c.entry_id.ensures i))
-    ∙ name-told s.args.kind s.args.store.now s.args.k s.requires.0 s.requires.1
+    ∙ (λ i. eq_id (commit_id c.args.kind (c.entry_bytes-body.ensures i)) (c.entry_id.ensures i))
+    ∙ name-told c.args.kind c.args.store.now c.args.k c.requires.0 c.requires.1

@@ -3,5 +3,5 @@ use mathlib.Core.Path.{sym, ap, ◌∙◌}
 use Rattle.fsck.specs.Names.{checked_number}
 use Rattle.fsck.proofs.number.Goals as goal
 
-pub returns-in-Refused : goal.returns-in-Refused
-returns-in-Refused c = c.wide.ensures ∙ c.number.ensures ∙ sym (ap checked_number c.in-Refused.is)
+pub returns-in-Err : goal.returns-in-Err
+returns-in-Err c = c.wide.ensures ∙ c.number.ensures ∙ sym (ap checked_number c.in-Err.is)

@@ -17,6 +17,6 @@ pub returns-then-n-i : goal.returns-then-n-i
 returns-then-n-i c = let x = c.args in sym (set_down-not x.out.now x.i (chunk_row x.id x.offset) (omega arith))
 
 pub returns : goal.returns
-returns c = let s = c in
-    let x = s.args in
+returns c =
+    let x = c.args in
     then x.out.now x.i (x.i + 4) (u32 x.id) (u32 0 ++ u32 x.offset) c.put_word.ensures c.put_two.ensures refl (search rules)

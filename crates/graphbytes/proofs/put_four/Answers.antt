@@ -17,6 +17,6 @@ pub returns-then-n-i : goal.returns-then-n-i
 returns-then-n-i c = let x = c.args in sym (set_down-not x.out.now x.i (four_words x.a x.b x.c x.d) (omega arith))
 
 pub returns : goal.returns
-returns c = let s = c in
-    let x = s.args in
+returns c =
+    let x = c.args in
     then x.out.now x.i (x.i + 8) (u32 x.a ++ u32 x.b) (u32 x.c ++ u32 x.d) c.put_two.ensures c.put_two-2.ensures refl (search rules)

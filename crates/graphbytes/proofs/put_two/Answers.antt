@@ -7,4 +7,4 @@ use Rattle.graphbytes.proofs.Fill.{then}
 use Rattle.graphbytes.proofs.put_two.Goals as goal
 
 pub returns : goal.returns
-returns c = let s = c in let x = s.args in then x.out.now x.i (x.i + 4) (u32 x.a) (u32 x.b) c.put_word.ensures c.put_word-2.ensures refl (omega (arith, s.requires))
+returns c = let x = c.args in then x.out.now x.i (x.i + 4) (u32 x.a) (u32 x.b) c.put_word.ensures c.put_word-2.ensures refl (omega (arith, c.requires))

@@ -7,7 +7,5 @@ pub returns-then-numbers-eq0 : goal.returns-then-numbers-eq0
 returns-then-numbers-eq0 c = let x = c.args in no_room_measures (kind_of x.width) x.store.now x.levels.now x.numbers.now c.if-numbers-eq0.true
 
 pub returns : goal.returns
-returns c = let p = c in
-    let g = p in
-    let k = g in
-    made_measures k.kind_of.ensures k.if-numbers-eq0.false g.graph_length-w.ensures p.put_length.ensures
+returns c =
+    made_measures c.kind_of.ensures c.if-numbers-eq0.false c.graph_length-w.ensures c.put_length.ensures

@@ -3,5 +3,5 @@ use mathlib.Core.Path.{sym, ◌∙◌, ap}
 use Rattle.graphwire.specs.Wire.{written_number}
 use Rattle.graphwire.proofs.number.Goals as goal
 
-pub returns-in-Refused : goal.returns-in-Refused
-returns-in-Refused c = c.wide.ensures ∙ c.number.ensures ∙ sym (ap written_number c.in-Refused.is)
+pub returns-in-Err : goal.returns-in-Err
+returns-in-Err c = c.wide.ensures ∙ c.number.ensures ∙ sym (ap written_number c.in-Err.is)

@@ -8,7 +8,5 @@ returns-then-numbers-eq0 c = let x = c.args in
     no_room_writes (kind_of x.width) x.store.now x.levels.now x.out.now x.numbers.now c.if-numbers-eq0.true
 
 pub returns : goal.returns
-returns c = let p = c in
-    let g = p in
-    let k = g in
-    made_writes k.kind_of.ensures k.if-numbers-eq0.false g.write_graph-w.ensures p.put_length.ensures
+returns c =
+    made_writes c.kind_of.ensures c.if-numbers-eq0.false c.write_graph-w.ensures c.put_length.ensures

@@ -1,15 +1,12 @@
--- `hash::be32` meets its contract: where four bytes stand they are read at once, else one by one. Assumes nothing.
-use mathlib.Core.Path.{◌≡◌, ap}
-use Prim.Native.Nat.{ℕ, ◌+◌}
-use native.Mathlib.Omega.{arith}
+-- `hash::be32` meets its contract: where four bytes stand they are read at once, else those that are left. Assumes nothing.
+use Rattle.std.proofs.Common.{◌≡◌, refl, ◌∙◌, ap, ℕ, arith}
 use native.Mathlib.Nat.{add-zero}
-use lib.ListN.{get_or}
 use Rattle.hash.specs.Bytes.{u32_at}
+use Rattle.hash.proofs.Bytes.{u32_at-at}
 use Rattle.hash.proofs.be32.Goals as goal
 
 pub returns : goal.returns
 unfolding u32_at
-returns c = let p = c in
-    let x = p.args in
-    let e : get_or x.s.now (x.i + 0) 0 ≡ get_or x.s.now x.i 0 = ap (λ (k : ℕ). get_or x.s.now k 0) (add-zero x.i) in
-    omega (arith, e, c.word.ensures, c.byte_after-4.ensures, c.byte_after-3.ensures, c.byte_after-2.ensures, p.byte_after.ensures)
+returns c = let x = c.args in
+    let e : c.word.result ≡ u32_at c.part-rest.result.now 0 = c.word.ensures ∙ rw (c.byte_at.ensures, c.byte_at-2.ensures, c.byte_at-3.ensures, c.byte_at-4.ensures) refl in
+    e ∙ ap (λ l. u32_at l 0) c.part-rest.ensures ∙ u32_at-at x.s.now x.i 4 0 (omega arith) ∙ ap (u32_at x.s.now) (add-zero x.i)

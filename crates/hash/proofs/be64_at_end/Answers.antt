@@ -17,5 +17,5 @@ returns-then-s-i-le4 c = let x = c.args in
 
 pub returns : goal.returns
 unfolding u64_at
-returns c = let p = c in
-    omega (arith, c.long.ensures.0, c.be32-2.ensures, p.long-high.ensures.0, p.be32.ensures)
+returns c =
+    omega (arith, c.long.ensures.0, c.be32-2.ensures, c.long-high.ensures.0, c.be32.ensures)

@@ -10,22 +10,22 @@ pub loop-i-init : goal.loop-i-init
 loop-i-init c = (search rules, refl)
 
 pub returns-then-x-y : goal.returns-then-x-y
-returns-then-x-y c = let l = c in
-    let k = l in
+returns-then-x-y c =
+    let k = c in
     let x = k.args in
-    sym (l.loop-i.invariant.1 ∙ long-less x.a.now x.b.now l.loop-i.i (λ n. omega (arith, k.shared_slice_known-1.given n)) (λ n. omega (arith, k.shared_slice_known-2-1.given n)) (omega arith) (omega arith) (omega (arith, c.if-x-y.true, c.long_at-y.ensures, c.long_at-x.ensures)))
+    sym (c.loop-i.invariant.1 ∙ long-less x.a.now x.b.now c.loop-i.i (λ k. omega (arith, c.type_inv.a k)) (λ k. omega (arith, c.type_inv.b k)) (omega arith) (omega arith) (omega (arith, c.if-x-y.true, c.long_at-y.ensures, c.long_at-x.ensures)))
 
 pub returns-then-y-x : goal.returns-then-y-x
-returns-then-y-x c = let l = c in
-    let k = l in
+returns-then-y-x c =
+    let k = c in
     let x = k.args in
-    sym (l.loop-i.invariant.1 ∙ long_greater x.a.now x.b.now l.loop-i.i (λ n. omega (arith, k.shared_slice_known-1.given n)) (λ n. omega (arith, k.shared_slice_known-2-1.given n)) (omega arith) (omega arith) (omega (arith, c.if-y-x.true, c.long_at-y.ensures, c.long_at-x.ensures)))
+    sym (c.loop-i.invariant.1 ∙ long_greater x.a.now x.b.now c.loop-i.i (λ k. omega (arith, c.type_inv.a k)) (λ k. omega (arith, c.type_inv.b k)) (omega arith) (omega arith) (omega (arith, c.if-y-x.true, c.long_at-y.ensures, c.long_at-x.ensures)))
 
 pub loop-i-preserved : goal.loop-i-preserved
-loop-i-preserved c = let l = c in
-    let k = l in
+loop-i-preserved c =
+    let k = c in
     let x = k.args in
-    (search rules, l.loop-i.invariant.1 ∙ compare-long x.a.now x.b.now l.loop-i.i (λ n. omega (arith, k.shared_slice_known-1.given n)) (λ n. omega (arith, k.shared_slice_known-2-1.given n)) (omega arith) (omega arith) (omega (arith, c.if-y-x.false, c.if-x-y.false, c.long_at-y.ensures, c.long_at-x.ensures)))
+    (search rules, c.loop-i.invariant.1 ∙ compare-long x.a.now x.b.now c.loop-i.i (λ k. omega (arith, c.type_inv.a k)) (λ k. omega (arith, c.type_inv.b k)) (omega arith) (omega arith) (omega (arith, c.if-y-x.false, c.if-x-y.false, c.long_at-y.ensures, c.long_at-x.ensures)))
 
 pub returns : goal.returns
 returns c = c.compare_from.ensures ∙ sym c.loop-i.invariant.1

@@ -5,4 +5,4 @@ use Rattle.hash.proofs.long_at.Goals as goal
 
 pub returns : goal.returns
 unfolding u64_at
-returns c = let h = c in omega (arith, c.long-2.ensures.0, c.word_at-2.ensures, h.long.ensures.0, h.word_at.ensures)
+returns c = omega (arith, c.long-2.ensures.0, c.word_at-2.ensures, c.long.ensures.0, c.word_at.ensures)

@@ -41,36 +41,28 @@ pub long_at-requires-in-Sha256-2 : goal.long_at-requires-in-Sha256-2
 long_at-requires-in-Sha256-2 c = omega (arith, width_256 c.in-Sha256.is)
 
 pub returns-in-Sha1 : goal.returns-in-Sha1
-returns-in-Sha1 c = let d = c in
-    let v = d in
-    let u = v in
-    let t = u in
-    let l = t in
-    let k = l in
+returns-in-Sha1 c =
+    let k = c in
     let x = k.args in
     let e = k.width-w.ensures.0 in
     all_same
     (width_of x.kind)
     x.a.now
     x.b.now
-    (l.if-a-w.false ∙ e)
-    (l.if-b-w.false ∙ e)
+    (c.if-a-w.false ∙ e)
+    (c.if-b-w.false ∙ e)
     (width_least x.kind)
-    (λ n. omega (arith, k.shared_slice_known-1.given n))
-    (λ n. omega (arith, k.shared_slice_known-2-1.given n))
-    (sym t.word_at.ensures ∙ t.if-word_at.false ∙ t.word_at-2.ensures)
-    (sym u.word_at-3.ensures ∙ u.if-word_at-2.false ∙ u.word_at-4.ensures)
-    (sym v.long_at.ensures ∙ v.if-long_at.false ∙ v.long_at-2.ensures)
-    (sym d.word_at-5.ensures ∙ d.if-word_at-3.false ∙ d.word_at-6.ensures)
+    (λ k. omega (arith, c.type_inv.a k))
+    (λ k. omega (arith, c.type_inv.b k))
+    (sym c.word_at.ensures ∙ c.if-word_at.false ∙ c.word_at-2.ensures)
+    (sym c.word_at-3.ensures ∙ c.if-word_at-2.false ∙ c.word_at-4.ensures)
+    (sym c.long_at.ensures ∙ c.if-long_at.false ∙ c.long_at-2.ensures)
+    (sym c.word_at-5.ensures ∙ c.if-word_at-3.false ∙ c.word_at-6.ensures)
     (width_1 c.in-Sha1.is)
 
 pub returns-else-word_at-4 : goal.returns-else-word_at-4
-returns-else-word_at-4 c = let d = c in
-    let v = d in
-    let u = v in
-    let t = u in
-    let l = t in
-    let k = l in
+returns-else-word_at-4 c =
+    let k = c in
     let x = k.args in
     let e = k.width-w.ensures.0 in
     rw (c.long_at-in-Sha256.ensures, c.long_at-in-Sha256-2.ensures)
@@ -78,14 +70,14 @@ returns-else-word_at-4 c = let d = c in
     (width_of x.kind)
     x.a.now
     x.b.now
-    (l.if-a-w.false ∙ e)
-    (l.if-b-w.false ∙ e)
+    (c.if-a-w.false ∙ e)
+    (c.if-b-w.false ∙ e)
     (width_least x.kind)
-    (λ n. omega (arith, k.shared_slice_known-1.given n))
-    (λ n. omega (arith, k.shared_slice_known-2-1.given n))
-    (sym t.word_at.ensures ∙ t.if-word_at.false ∙ t.word_at-2.ensures)
-    (sym u.word_at-3.ensures ∙ u.if-word_at-2.false ∙ u.word_at-4.ensures)
-    (sym v.long_at.ensures ∙ v.if-long_at.false ∙ v.long_at-2.ensures)
-    (sym d.word_at-5.ensures ∙ d.if-word_at-3.false ∙ d.word_at-6.ensures)
+    (λ k. omega (arith, c.type_inv.a k))
+    (λ k. omega (arith, c.type_inv.b k))
+    (sym c.word_at.ensures ∙ c.if-word_at.false ∙ c.word_at-2.ensures)
+    (sym c.word_at-3.ensures ∙ c.if-word_at-2.false ∙ c.word_at-4.ensures)
+    (sym c.long_at.ensures ∙ c.if-long_at.false ∙ c.long_at-2.ensures)
+    (sym c.word_at-5.ensures ∙ c.if-word_at-3.false ∙ c.word_at-6.ensures)
     (width_256 c.in-Sha256.is)
     (sym c.word_at-in-Sha256.ensures ∙ c.if-word_at-4.false ∙ c.word_at-in-Sha256-2.ensures))

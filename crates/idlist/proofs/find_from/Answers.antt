@@ -14,51 +14,48 @@ loop-left-init c = let q = c.all_from-left.ensures in
     (rw (q.0, q.1) (whole (c.stands.ensures.yes c.if-not-stands.false)), q.2)
 
 pub overflow_mul-place : goal.overflow_mul-place
-overflow_mul-place c = let l = c in omega (arith, ends l.loop-left.left.mid l.loop-left.invariant.0 (l.loop-left.invariant.1 c.loop-left-test.true).1)
+overflow_mul-place c = omega (arith, ends c.loop-left.left.mid c.loop-left.invariant.0 (c.loop-left.invariant.1 c.loop-left-test.true).1)
 
 pub overflow_add-place : goal.overflow_add-place
-overflow_add-place c = let l = c in omega (arith, ends l.loop-left.left.mid l.loop-left.invariant.0 (l.loop-left.invariant.1 c.loop-left-test.true).1)
+overflow_add-place c = omega (arith, ends c.loop-left.left.mid c.loop-left.invariant.0 (c.loop-left.invariant.1 c.loop-left-test.true).1)
 
 pub order_at-requires : goal.order_at-requires
-order_at-requires c = let l = c in
-    (ends l.loop-left.left.mid l.loop-left.invariant.0 (l.loop-left.invariant.1 c.loop-left-test.true).1, c.head-here.ensures, l.head-key.ensures)
+order_at-requires c =
+    (ends c.loop-left.left.mid c.loop-left.invariant.0 (c.loop-left.invariant.1 c.loop-left-test.true).1, c.head-here.ensures, c.head-key.ensures)
 
 pub overflow_sub-key : goal.overflow_sub-key
 overflow_sub-key c = omega (arith, c.order_at.ensures.1 c.in-Less.is)
 
 pub above-left-requires : goal.above-left-requires
-above-left-requires c = let t = c in (t.loop-left.invariant.1 t.loop-left-test.true).1
+above-left-requires c = (c.loop-left.invariant.1 c.loop-left-test.true).1
 
 pub loop-left-smaller-in-Less : goal.loop-left-smaller-in-Less
-loop-left-smaller-in-Less c = let t = c in
-    omega (arith, t.loop-left.invariant.1 t.loop-left-test.true, c.above-left.ensures.0, c.above-left.ensures.1)
+loop-left-smaller-in-Less c =
+    omega (arith, c.loop-left.invariant.1 c.loop-left-test.true, c.above-left.ensures.0, c.above-left.ensures.1)
 
 pub loop-left-preserved-in-Less : goal.loop-left-preserved-in-Less
-loop-left-preserved-in-Less c = let t = c in
-    let l = t in
+loop-left-preserved-in-Less c =
     let a = c.above-left.ensures in
-    (up l.loop-left.left.mid l.loop-left.invariant.0 (l.loop-left.invariant.1 t.loop-left-test.true) (told _ _ _ refl c.order_at.ensures.0 c.in-Less.is) (a.0, a.1), a.2)
+    (up c.loop-left.left.mid c.loop-left.invariant.0 (c.loop-left.invariant.1 c.loop-left-test.true) (told _ _ _ refl c.order_at.ensures.0 c.in-Less.is) (a.0, a.1), a.2)
 
 pub returns-in-Equal : goal.returns-in-Equal
-returns-in-Equal c = let t = c in
-    let l = t in
-    found l.loop-left.left.mid l.loop-left.invariant.0 (l.loop-left.invariant.1 t.loop-left-test.true) (told _ _ _ refl c.order_at.ensures.0 c.in-Equal.is)
+returns-in-Equal c =
+    found c.loop-left.left.mid c.loop-left.invariant.0 (c.loop-left.invariant.1 c.loop-left-test.true) (told _ _ _ refl c.order_at.ensures.0 c.in-Equal.is)
 
 pub overflow_sub-here : goal.overflow_sub-here
 overflow_sub-here c = omega (arith, c.order_at.ensures.2 c.in-Greater.is)
 
 pub below-left-requires : goal.below-left-requires
-below-left-requires c = let t = c in (t.loop-left.invariant.1 t.loop-left-test.true).0
+below-left-requires c = (c.loop-left.invariant.1 c.loop-left-test.true).0
 
 pub loop-left-smaller : goal.loop-left-smaller
-loop-left-smaller c = let t = c in
-    omega (arith, t.loop-left.invariant.1 t.loop-left-test.true, c.below-left.ensures.0, c.below-left.ensures.1)
+loop-left-smaller c =
+    omega (arith, c.loop-left.invariant.1 c.loop-left-test.true, c.below-left.ensures.0, c.below-left.ensures.1)
 
 pub loop-left-preserved : goal.loop-left-preserved
-loop-left-preserved c = let t = c in
-    let l = t in
+loop-left-preserved c =
     let a = c.below-left.ensures in
-    (down l.loop-left.left.mid l.loop-left.invariant.0 (l.loop-left.invariant.1 t.loop-left-test.true) (told _ _ _ refl c.order_at.ensures.0 c.in-Greater.is) (a.0, a.1), a.2)
+    (down c.loop-left.left.mid c.loop-left.invariant.0 (c.loop-left.invariant.1 c.loop-left-test.true) (told _ _ _ refl c.order_at.ensures.0 c.in-Greater.is) (a.0, a.1), a.2)
 
 pub returns : goal.returns
 returns c = missed c.loop-left.invariant.0 c.loop-left-test.false

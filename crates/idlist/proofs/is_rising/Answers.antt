@@ -68,10 +68,9 @@ loop-k-preserved c =
     x.base + x.stride * c.loop-k.k - x.stride ≡ x.base + x.stride * (c.loop-k.k - 1) = let x = c.args in omega (arith, one-before x.stride c.loop-k.k (λ e. omega (arith, c.loop-k.invariant.0))) in
     let told : let x = c.args in
     c.is_lower.result ≡ rises_at (record { bytes = x.bytes.now; width = c.width-w.result; base = x.base; stride = x.stride }) c.loop-k.k = rw prior_place at c.is_lower.ensures ∙ rises-at _ c.loop-k.k c.loop-k.invariant.0 in
-    let l = c in
-    let x = l.args in
-    let z : l.loop-k.k + 1 - 1 ≡ l.loop-k.k = omega arith in
-    (search rules, rw (add-one l.loop-k.k) (rising-more _ l.loop-k.k l.loop-k.invariant.1 (sym told ∙ c.if-not-is_lower.false)), rw z c.head-head.ensures)
+    let x = c.args in
+    let z : c.loop-k.k + 1 - 1 ≡ c.loop-k.k = omega arith in
+    (search rules, rw (add-one c.loop-k.k) (rising-more _ c.loop-k.k c.loop-k.invariant.1 (sym told ∙ c.if-not-is_lower.false)), rw z c.head-head.ensures)
 
 pub returns : goal.returns
 returns c = rw (sym c.width-w.ensures.0)

@@ -7,17 +7,17 @@ use Rattle.idlist.proofs.Heads.{lower-head, higher-head}
 use Rattle.idlist.proofs.order_at.Goals as goal
 
 pub returns-then-here-key : goal.returns-then-here-key
-returns-then-here-key c = let s = c in
-    let x = s.args in (
-      sym (lower-head x.bytes.now x.place x.id.now (λ n. omega (arith, c.shared_slice_known-1.given n)) (λ n. omega (arith, c.shared_slice_known-2-1.given n)) s.requires.0 s.requires.1 s.requires.2 c.if-here-key.true),
+returns-then-here-key c =
+    let x = c.args in (
+      sym (lower-head x.bytes.now x.place x.id.now (λ n. omega (arith, c.shared_slice_known-1.given n)) (λ n. omega (arith, c.shared_slice_known-2-1.given n)) c.requires.0 c.requires.1 c.requires.2 c.if-here-key.true),
       λ e. omega (arith, c.if-here-key.true),
       λ e. let z : ◌≡◌ {A = ℕ} 0 1 = cc e in absurd (omega arith),
     )
 
 pub returns-then-key-here : goal.returns-then-key-here
-returns-then-key-here c = let s = c in
-    let x = s.args in (
-      sym (higher-head x.bytes.now x.place x.id.now (λ n. omega (arith, c.shared_slice_known-1.given n)) (λ n. omega (arith, c.shared_slice_known-2-1.given n)) s.requires.0 s.requires.1 s.requires.2 c.if-key-here.true),
+returns-then-key-here c =
+    let x = c.args in (
+      sym (higher-head x.bytes.now x.place x.id.now (λ n. omega (arith, c.shared_slice_known-1.given n)) (λ n. omega (arith, c.shared_slice_known-2-1.given n)) c.requires.0 c.requires.1 c.requires.2 c.if-key-here.true),
       λ e. let z : ◌≡◌ {A = ℕ} 0 1 = cc e in absurd (omega arith),
       λ e. omega (arith, c.if-key-here.true),
     )

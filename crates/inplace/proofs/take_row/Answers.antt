@@ -5,22 +5,15 @@ use Rattle.hash.proofs.Tests.{clash}
 use Rattle.inplace.proofs.InPlace.{put_as}
 use Rattle.inplace.proofs.take_row.Goals as goal
 
-pub returns-in-Taken : goal.returns-in-Taken
-returns-in-Taken c = let w = c in
-    let o = w in
-    let u = o in
-    let t = u in
-    let i = t in
-    let a = i in
-    let v = a in
-    let x = c.args in
-    let y = rw a.in-Taken.is at v.take_plain.ensures in
+pub returns-in-Some : goal.returns-in-Some
+returns-in-Some c = let x = c.args in
+    let row = c.in-Some.row in
+    let y = rw c.in-Some.is at c.take_plain.ensures in
     record {
       still = λ e. clash refl e;
-      taken = λ e. (a.in-Taken.after, a.in-Taken.n, a.in-Taken.level, a.in-Taken.s, y.right, put_as x.«record» x.settings x.graph.now x.position _ a.in-Taken.level a.in-Taken.s a.in-Taken.after i.id_at.ensures t.level_shown.ensures u.time_given.ensures o.put_commit.ensures, w.put_waiting.ensures);
+      taken = λ e. (row.after, row.parents, row.level, row.seconds, y.right, put_as x.«record» x.settings x.graph.now x.position _ row.level row.seconds row.after c.id_at.ensures c.level_shown.ensures c.time_given.ensures c.put_commit.ensures, c.put_waiting.ensures);
     }
 
-pub returns-in-Elsewhere : goal.returns-in-Elsewhere
-returns-in-Elsewhere c = let y = rw c.in-Elsewhere.is at c.take_plain.ensures in
-    let s = y.right in
+pub returns-in-None : goal.returns-in-None
+returns-in-None c = let s = (rw c.in-None.is at c.take_plain.ensures).right in
     record { still = λ e. ((λ i. record { memory = s.0 i; levels = s.1 i; parents = s.2 i }), refl, refl, refl, refl); taken = λ e. clash e refl }

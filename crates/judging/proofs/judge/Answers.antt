@@ -3,5 +3,5 @@ use mathlib.Core.Path.{refl}
 use Rattle.judging.proofs.Judging.{judge_bare}
 use Rattle.judging.proofs.judge.Goals as goal
 
-pub returns-in-NoGraph : goal.returns-in-NoGraph
-returns-in-NoGraph c = let x = c.args in judge_bare x.graph.now x.store.now x.id.now x.body.now x.n x.seconds.0 _ _ c.in-NoGraph.is refl refl
+pub returns-in-None : goal.returns-in-None
+returns-in-None c = let x = c.args in judge_bare x.graph.now x.store.now x.id.now x.body.now x.n x.seconds.0 _ _ c.in-None.is refl refl

@@ -11,9 +11,7 @@ pub loop-i-init : goal.loop-i-init
 loop-i-init c = (omega arith, refl, clear_none _)
 
 pub loop-i-preserved : goal.loop-i-preserved
-loop-i-preserved c = let u = c in
-    let l = u in
-    (search rules, u.put.auto.s ∙ l.loop-i.invariant.1, clear_next l.loop-i.i l.loop-i.invariant.2 u.put.ensures)
+loop-i-preserved c = (search rules, c.put.auto.s ∙ c.loop-i.invariant.1, clear_next c.loop-i.i c.loop-i.invariant.2 c.put.ensures)
 
 pub shape_of-levels : goal.shape_of-levels
 shape_of-levels c = c.loop-i.invariant.1

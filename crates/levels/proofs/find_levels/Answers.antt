@@ -8,12 +8,9 @@ pub returns-then-not-is_good : goal.returns-then-not-is_good
 returns-then-not-is_good c = let x = c.args in torn-store (width_of x.kind) x.store.now x.levels.now (sym c.is_good.ensures ∙ c.if-not-is_good.true)
 
 pub search_levels-requires : goal.search_levels-requires
-search_levels-requires c = let g = c in
-    let x = g.args in
-    good-rises (width_of x.kind) x.store.now (sym g.is_good.ensures ∙ c.if-not-is_good.false)
+search_levels-requires c = let x = c.args in
+    good-rises (width_of x.kind) x.store.now (sym c.is_good.ensures ∙ c.if-not-is_good.false)
 
 pub returns : goal.returns
-returns c = let k = c in
-    let g = k in
-    let x = g.args in
-    good-store (width_of x.kind) x.store.now x.levels.now _ k.count-n.result _ (sym g.is_good.ensures ∙ k.if-not-is_good.false) k.count-n.ensures c.search_levels.ensures
+returns c = let x = c.args in
+    good-store (width_of x.kind) x.store.now x.levels.now _ c.count-n.result _ (sym c.is_good.ensures ∙ c.if-not-is_good.false) c.count-n.ensures c.search_levels.ensures

@@ -16,17 +16,13 @@ pub loop-i-init : goal.loop-i-init
 loop-i-init c = (omega arith, omega arith, λ h d. sym (most-none _))
 
 pub loop-i-preserved : goal.loop-i-preserved
-loop-i-preserved c = let l = c in
-    let x = l.args in
-    let a = c in
-    let w = a in
-    let p = w in (
-      search rules,
-      subst (λ (z : ℕ). z < 4294967296) (sym c.larger_of-m.ensures) (larger_lt l.loop-i.m a.above-l.result 4294967296 l.loop-i.invariant.1 (omega (arith, a.above-l.ensures, w.word-v.ensures.1))),
-      λ h d. c.larger_of-m.ensures
-          ∙ most-next (level_on (store_graph (width_of x.kind) x.store.now x.n) x.levels.now x.k) l.loop-i.i l.loop-i.m a.above-l.result (l.loop-i.invariant.2 h d)
-          (a.above-l.ensures ∙ ap (λ (z : ℕ). z - tag) (w.word-v.ensures.0 ∙ ap (λ (z : ℕ). get_or x.levels.now z 0) (p.parent_at-p.ensures l.requires (omega (arith, p.loop-i-test.true)) (omega (arith, p.loop-i-test.true, d))))),
-    )
+loop-i-preserved c = let x = c.args in (
+  search rules,
+  subst (λ (z : ℕ). z < 4294967296) (sym c.larger_of-m.ensures) (larger_lt c.loop-i.m c.above-l.result 4294967296 c.loop-i.invariant.1 (omega (arith, c.above-l.ensures, c.word-v.ensures.1))),
+  λ h d. c.larger_of-m.ensures
+      ∙ most-next (level_on (store_graph (width_of x.kind) x.store.now x.n) x.levels.now x.k) c.loop-i.i c.loop-i.m c.above-l.result (c.loop-i.invariant.2 h d)
+      (c.above-l.ensures ∙ ap (λ (z : ℕ). z - tag) (c.word-v.ensures.0 ∙ ap (λ (z : ℕ). get_or x.levels.now z 0) (c.parent_at-p.ensures c.requires (omega (arith, c.loop-i-test.true)) (omega (arith, c.loop-i-test.true, d))))),
+)
 
 pub returns : goal.returns
 returns c = let x = c.args in

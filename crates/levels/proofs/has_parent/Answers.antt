@@ -4,6 +4,7 @@ use mathlib.Core.Path.{ap, ◌∙◌}
 use mathlib.Core.List.{List}
 use Prim.Native.Nat.{ℕ}
 use Rattle.hash.specs.Bytes.{width_of}
+use Rattle.object.specs.Header.{is_some}
 use Rattle.object.specs.Read.{parent_at}
 use Rattle.odb.specs.Lookup.{entry_body}
 use Rattle.levels.proofs.Lines.{has-line, no_line}
@@ -18,6 +19,6 @@ returns c = let x = c.args in
     let b = entry_body w x.store.now x.k in
     λ h.
     c.is_parent_line.ensures
-    ∙ ap (λ (y : List ℕ). (parent_at w y c.line_place-at.result).good) c.entry_bytes.ensures
-    ∙ ap (λ (i : ℕ). (parent_at w b i).good) c.line_place-at.ensures
+    ∙ ap (λ (y : List ℕ). is_some (parent_at w y c.line_place-at.result)) c.entry_bytes.ensures
+    ∙ ap (λ (i : ℕ). is_some (parent_at w b i)) c.line_place-at.ensures
     ∙ has-line w b x.j (omega (arith, c.if-j-gt256.false)) h

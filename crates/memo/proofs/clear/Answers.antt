@@ -14,7 +14,7 @@ loop-i-init c = (refl, zero-first c.args.memo.now)
 
 -- src/lib.rt:73:5
 pub loop-i-preserved : goal.loop-i-preserved
-loop-i-preserved c = let l = c in (simp length-set l.loop-i.invariant.0, zero-next l.loop-i.i l.loop-i.invariant.1 (omega arith))
+loop-i-preserved c = (simp length-set c.loop-i.invariant.0, zero-next c.loop-i.i c.loop-i.invariant.1 (omega arith))
 
 -- src/lib.rt:69:1
 pub shape_of-memo : goal.shape_of-memo

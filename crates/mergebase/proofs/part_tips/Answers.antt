@@ -1,43 +1,12 @@
--- `part_tips` meets its contract: by the three answers of the first search, which begins in cleared memory. Assumes nothing.
-use mathlib.Core.Path.{◌∙◌}
-use Rattle.mergebase.proofs.Partings.{tips-whole, tips-stuck, tips-none}
+-- `part_tips` meets its contract: by what the first search comes to, which begins in cleared memory. Assumes nothing.
+use Rattle.std.proofs.lemmas.Result.{err_from_is_err_and}
+use Rattle.mergebase.proofs.Partings.{tips-whole, tips-short}
 use Rattle.mergebase.proofs.part_tips.Goals as goal
 
-pub shape_of-names-in-Whole : goal.shape_of-names-in-Whole
-shape_of-names-in-Whole c = c.part_from.auto.names ∙ c.search_from.auto.names
+pub returns : goal.returns
+returns c = tips-whole c.clear.ensures c.search_from.ensures _ c.in_ok-n.was c.search_from.auto.line c.part_from.ensures
 
-pub shape_of-marks-in-Whole : goal.shape_of-marks-in-Whole
-shape_of-marks-in-Whole c = c.part_from.auto.marks ∙ c.search_from.auto.marks ∙ c.clear.auto.marks
-
-pub shape_of-levels : goal.shape_of-levels
-shape_of-levels c = c.part_from.auto.levels
-
-pub shape_of-line-in-Whole : goal.shape_of-line-in-Whole
-shape_of-line-in-Whole c = c.part_from.auto.line ∙ c.search_from.auto.line
-
-pub returns-in-Whole : goal.returns-in-Whole
-returns-in-Whole c = tips-whole c.clear.ensures c.search_from.ensures _ c.in-Whole.is c.search_from.auto.line c.part_from.ensures
-
-pub shape_of-names-in-Unreadable : goal.shape_of-names-in-Unreadable
-shape_of-names-in-Unreadable c = c.search_from.auto.names
-
-pub shape_of-marks-in-Unreadable : goal.shape_of-marks-in-Unreadable
-shape_of-marks-in-Unreadable c = c.search_from.auto.marks ∙ c.clear.auto.marks
-
-pub shape_of-line-in-Unreadable : goal.shape_of-line-in-Unreadable
-shape_of-line-in-Unreadable c = c.search_from.auto.line
-
-pub returns-in-Unreadable : goal.returns-in-Unreadable
-returns-in-Unreadable c = tips-stuck c.clear.ensures c.search_from.ensures c.in-Unreadable.is
-
-pub shape_of-names-in-NoRoom : goal.shape_of-names-in-NoRoom
-shape_of-names-in-NoRoom c = c.search_from.auto.names
-
-pub shape_of-marks-in-NoRoom : goal.shape_of-marks-in-NoRoom
-shape_of-marks-in-NoRoom c = c.search_from.auto.marks ∙ c.clear.auto.marks
-
-pub shape_of-line-in-NoRoom : goal.shape_of-line-in-NoRoom
-shape_of-line-in-NoRoom c = c.search_from.auto.line
-
-pub returns-in-NoRoom : goal.returns-in-NoRoom
-returns-in-NoRoom c = tips-none c.clear.ensures c.search_from.ensures c.in-NoRoom.is
+pub returns-in_err-n : goal.returns-in_err-n
+returns-in_err-n c =
+    let p = err_from_is_err_and c.from_residual.result c.from_residual.ensures.1 in
+    rw (p.1, p.2) (tips-short c.clear.ensures c.search_from.ensures _ c.in_err-n.was)

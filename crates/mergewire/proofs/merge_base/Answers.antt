@@ -12,13 +12,9 @@ returns-then-not-can_part c = let x = c.args in
     c.kind_of-kind.ensures c.can_part.ensures c.if-not-can_part.true
 
 pub returns : goal.returns
-returns c = let p = c in
-    let k = p in
-    let j = k in
-    let i = j in
-    let t = i in
-    let x = t.args in
-    let l = k.merge_base-r.new in
+returns c =
+    let x = c.args in
+    let l = c.merge_base-said.new in
     made-says {store = x.store.now} {one = x.one.now} {other = x.other.now} {l = lengths_of (length x.names.now) (length x.marks.now) (length x.levels.now) (length x.times.now) (length x.line.now) (length x.parents.now)}
     {m = lent x.names.now x.marks.now x.line.now} {m' = lent l.names l.marks l.line} {levels = x.levels.now} {levels' = l.levels} {id = x.id.now} {numbers = x.numbers.now}
-    t.kind_of-kind.ensures t.can_part.ensures (i.if-not-can_part.false) i.id_of.ensures j.id_of-2.ensures k.merge_base-r.ensures p.put_base.ensures
+    c.kind_of-kind.ensures c.can_part.ensures c.if-not-can_part.false c.id_of.ensures c.id_of-2.ensures c.merge_base-said.ensures c.put_base.ensures

@@ -1,5 +1,5 @@
 -- `first_forcing` meets its contract: no parent before i does, and the first that does ends the search. Assumes nothing.
-use mathlib.Core.Path.{◌∙◌}
+use mathlib.Core.Path.{◌≡◌, ◌∙◌}
 use Prim.Native.Nat.{◌-◌, ◌≤◌}
 use mathlib.Core.Bool.{false}
 use native.Mathlib.Omega.{arith}
@@ -38,4 +38,6 @@ shape_of-memo c = c.loop-i.invariant.1.long
 
 -- src/lib.rt:106:1
 pub returns : goal.returns
-returns c = found_as c.id_slice-x.ensures (first_ended (width-most c.args.kind) c.stored_body-body.ensures c.parent_count-count.ensures c.loop-i.invariant.1 (let h = c.loop-i.invariant.0 in omega (arith, h)))
+returns c =
+    let e : c.parent_count-count.result ≡ c.loop-i.i = let h = c.loop-i.invariant.0 in omega (arith, h) in
+    rw e (found_as c.id_slice-x.ensures (first_ended (width-most c.args.kind) c.stored_body-body.ensures c.parent_count-count.ensures c.loop-i.invariant.1 (let h = c.loop-i.invariant.0 in omega (arith, h))))

@@ -1,10 +1,8 @@
 -- `object::count_parents` meets its contract: n parent lines were passed, and the lines that are left are counted from there.
 -- Assumes nothing.
 use Prim.Native.Nat.{◌-◌}
-use native.Mathlib.Omega.{arith}
-use borrow.Author.Tests.{not-true, not-false}
 use Rattle.object.specs.Header.{most}
-use Rattle.object.proofs.Parents.{Counted, counted_none, counted-line, counted-all, counted-full, parent-fits}
+use Rattle.object.proofs.Parents.{Counted}
 use Rattle.hash.specs.Bytes.{width_of}
 use borrow.Author.Rules.{rules}
 use Rattle.object.proofs.count_parents.Given as goal

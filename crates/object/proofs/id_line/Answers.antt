@@ -27,4 +27,4 @@ returns-then-is_id_line c =
     let x = c.args in c.decoded.ensures ∙ sym (line-digits (width_of x.kind) x.word.now x.body.now x.at there)
 
 pub returns-else-is_id_line : goal.returns-else-is_id_line
-returns-else-is_id_line c = let x = c.args in c.no_id.ensures ∙ ap id_read (sym (is_none (id_line (width_of x.kind) x.word.now (drop x.at x.body.now)) (sym c.is_id_line.ensures ∙ c.if-is_id_line.false)))
+returns-else-is_id_line c = let x = c.args in ap id_read (sym (is_none (id_line (width_of x.kind) x.word.now (drop x.at x.body.now)) (sym c.is_id_line.ensures ∙ c.if-is_id_line.false)))

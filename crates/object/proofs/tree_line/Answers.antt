@@ -1,4 +1,5 @@
 -- `object::tree_line` meets its contract: it is the line with an id whose word is `tree `, and a good one is 46 bytes long. Assumes nothing.
+use Rattle.std.specs.Prelude.{Some}
 use mathlib.Core.Path.{sym, ◌∙◌}
 use native.Mathlib.Omega.{arith}
 use Rattle.object.specs.Header.{tree_word}
@@ -7,7 +8,6 @@ use Rattle.object.proofs.Lines.{good-place, bad-place, line-fits}
 use Rattle.hash.specs.Bytes.{width_of}
 use Prim.Native.Nat.{ℕ, ◌+◌}
 use mathlib.Core.Path.{ap}
-use Rattle.object.specs.declared.Line.TheVariants.{Good as GoodLine}
 use borrow.Author.Rules.{rules}
 use Rattle.object.proofs.tree_line.Goals as goal
 
@@ -16,7 +16,7 @@ overflow_add-result c = let x = c.args in omega (arith, line-fits (width_of x.ki
 
 pub returns-then-is_id_line : goal.returns-then-is_id_line
 unfolding tree_at
-returns-then-is_id_line c = let x = c.args in ap (λ (n : ℕ). GoodLine (x.at + n)) c.tree_size.ensures.0 ∙ sym (good-place (width_of x.kind) tree_word x.body.now x.at (sym c.is_id_line.ensures ∙ c.if-is_id_line.true))
+returns-then-is_id_line c = let x = c.args in ap (λ (n : ℕ). Some (x.at + n)) c.tree_size.ensures.0 ∙ sym (good-place (width_of x.kind) tree_word x.body.now x.at (sym c.is_id_line.ensures ∙ c.if-is_id_line.true))
 
 pub returns-else-is_id_line : goal.returns-else-is_id_line
 unfolding tree_at

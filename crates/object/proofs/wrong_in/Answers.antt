@@ -11,9 +11,9 @@ pub loop-i-init : goal.loop-i-init
 loop-i-init c = tested_start _ _ _
 
 pub overflow_add-wrong : goal.overflow_add-wrong
-overflow_add-wrong c = let l = c in
-    let x = l.args in
-    omega (arith, l.requires.w_bound, l.loop-i.invariant.within, l.loop-i.invariant.few, c.wrong_digit-wrong.ensures, at_most (get_or x.body.now (x.at + l.loop-i.i) 0))
+overflow_add-wrong c =
+    let x = c.args in
+    omega (arith, c.requires.w_bound, c.loop-i.invariant.within, c.loop-i.invariant.few, c.wrong_digit-wrong.ensures, at_most (get_or x.body.now (x.at + c.loop-i.i) 0))
 
 pub loop-i-preserved : goal.loop-i-preserved
 loop-i-preserved c = tested_more c.loop-i.invariant (search rules) c.wrong_digit-wrong.ensures

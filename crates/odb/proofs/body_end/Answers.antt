@@ -8,5 +8,5 @@ use Rattle.odb.proofs.body_end.Goals as goal
 
 pub returns : goal.returns
 unfolding body_end
-returns c = let s = c in
-    c.wide.ensures.0 ∙ c.be32.ensures ∙ ap (λ (i : ℕ). u32_at s.args.store.now (i + entry_size s.args.w * s.args.k + s.args.w)) s.requires.0
+returns c =
+    c.wide.ensures.0 ∙ c.be32.ensures ∙ ap (λ (i : ℕ). u32_at c.args.store.now (i + entry_size c.args.w * c.args.k + c.args.w)) c.requires.0

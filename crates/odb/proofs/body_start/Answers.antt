@@ -12,7 +12,7 @@ unfolding body_start
 returns-then-k-eq0 c = rw c.if-k-eq0.true
 
 pub body_end-requires : goal.body_end-requires
-body_end-requires c = let s = c in (s.requires.0, omega (arith, (one-before (entry_size s.args.w) s.args.k c.if-k-eq0.false)))
+body_end-requires c = (c.requires.0, omega (arith, (one-before (entry_size c.args.w) c.args.k c.if-k-eq0.false)))
 
 pub returns : goal.returns
 returns c = c.body_end.ensures ∙ sym (start-next _ _ _ c.if-k-eq0.false)

@@ -6,8 +6,8 @@ use Rattle.odb.proofs.count.Goals as goal
 
 pub returns-then-stands : goal.returns-then-stands
 unfolding standing_entries
-returns-then-stands c = let t = c in c.entries_said.ensures.0 ∙ rw (sym (rw t.width.ensures.0 at t.stands.ensures) ∙ c.if-stands.true)
+returns-then-stands c = c.entries_said.ensures.0 ∙ rw (sym (rw c.width.ensures.0 at c.stands.ensures) ∙ c.if-stands.true)
 
 pub returns-else-stands : goal.returns-else-stands
 unfolding standing_entries
-returns-else-stands c = let t = c in rw (sym (rw t.width.ensures.0 at t.stands.ensures) ∙ c.if-stands.false)
+returns-else-stands c = rw (sym (rw c.width.ensures.0 at c.stands.ensures) ∙ c.if-stands.false)

@@ -17,21 +17,21 @@ unfolding ends_rise body_start
 loop-k-init c = (search rules, refl, refl)
 
 pub body_end-end-requires : goal.body_end-end-requires
-body_end-end-requires c = let s = c in
-    (s.requires.0, omega (arith, s.requires.1, apart (entry_size s.args.w) c.loop-k-test.true))
+body_end-end-requires c =
+    (c.requires.0, omega (arith, c.requires.1, apart (entry_size c.args.w) c.loop-k-test.true))
 
 pub returns-then-end-last : goal.returns-then-end-last
-returns-then-end-last c = let l = c in
-    let x = l.args in
-    end_falls x.w x.store.now l.loop-k.k x.n _ c.loop-k-test.true (omega (arith, c.if-end-last.true, c.body_end-end.ensures, l.loop-k.invariant.2))
+returns-then-end-last c =
+    let x = c.args in
+    end_falls x.w x.store.now c.loop-k.k x.n _ c.loop-k-test.true (omega (arith, c.if-end-last.true, c.body_end-end.ensures, c.loop-k.invariant.2))
 
 pub loop-k-preserved : goal.loop-k-preserved
 unfolding body_start
-loop-k-preserved c = let l = c in
-    let x = l.args in
-    (search rules, rw (add-one l.loop-k.k) (ends-step x.w x.store.now l.loop-k.k l.loop-k.invariant.1 (omega (arith, c.if-end-last.false, c.body_end-end.ensures, l.loop-k.invariant.2))), rw (add-one l.loop-k.k) c.body_end-end.ensures)
+loop-k-preserved c =
+    let x = c.args in
+    (search rules, rw (add-one c.loop-k.k) (ends-step x.w x.store.now c.loop-k.k c.loop-k.invariant.1 (omega (arith, c.if-end-last.false, c.body_end-end.ensures, c.loop-k.invariant.2))), rw (add-one c.loop-k.k) c.body_end-end.ensures)
 
 pub returns : goal.returns
-returns c = let l = c in
-    let z : l.args.n ≡ l.loop-k.k = omega (arith, l.loop-k.invariant.0) in
-    rw (z, l.loop-k.invariant.1, l.loop-k.invariant.2)
+returns c =
+    let z : c.args.n ≡ c.loop-k.k = omega (arith, c.loop-k.invariant.0) in
+    rw (z, c.loop-k.invariant.1, c.loop-k.invariant.2)

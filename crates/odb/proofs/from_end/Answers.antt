@@ -8,6 +8,6 @@ use borrow.Author.Rules.{rules}
 use Rattle.odb.proofs.from_end.Goals as goal
 
 pub returns-then-store-back : goal.returns-then-store-back
-returns-then-store-back c = let s = c in
-    let z : length s.args.store.now - s.args.back ≡ 0 = omega arith in
+returns-then-store-back c =
+    let z : length c.args.store.now - c.args.back ≡ 0 = omega arith in
     (rw z (c.wide.ensures.0 ∙ c.be32.ensures), c.wide.ensures.1)

@@ -12,10 +12,10 @@ pub find_entry-requires : goal.find_entry-requires
 find_entry-requires c = (c.entries_start-base.ensures.0, c.count-n.ensures, c.if-id-w.false ∙ c.width-w.ensures.0)
 
 pub entry_body-requires : goal.entry_body-requires
-entry_body-requires c = rw (c.width-w.ensures.0, c.entries_start-base.ensures.0) (refl, stood_within _ _ _ (c.find_entry.ensures.hit _ c.in-At.is).0.stands)
+entry_body-requires c = rw (c.width-w.ensures.0, c.entries_start-base.ensures.0) (refl, stood_within _ _ _ (c.find_entry.ensures.hit _ c.in-Some.is).0.stands)
 
-pub returns-in-At : goal.returns-in-At
-returns-in-At c = rw (c.entry_body.ensures, c.width-w.ensures.0) (located_at _ c.find_entry.ensures c.in-At.is)
+pub returns-in-Some : goal.returns-in-Some
+returns-in-Some c = rw (c.entry_body.ensures, c.width-w.ensures.0) (located_at _ c.find_entry.ensures c.in-Some.is)
 
-pub returns-in-Absent : goal.returns-in-Absent
-returns-in-Absent c = located_none c.find_entry.ensures c.in-Absent.is
+pub returns-in-None : goal.returns-in-None
+returns-in-None c = located_none c.find_entry.ensures c.in-None.is

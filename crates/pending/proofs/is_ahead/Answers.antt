@@ -6,9 +6,8 @@ use Rattle.pending.proofs.is_ahead.Goals as goal
 
 pub returns : goal.returns
 unfolding ahead
-returns c = let a = c in
-    let b = a in
-    let x = b.args in
+returns c =
+    let x = c.args in
     c.less.ensures
-    ∙ ap (λ (p : Pair). lt_pair p (pair_of a.pair_of-2.result)) b.pair_of.ensures
-    ∙ ap (lt_pair (pair_at x.levels.now x.times.now x.b)) a.pair_of-2.ensures
+    ∙ ap (λ (p : Pair). lt_pair p (pair_of c.pair_of-2.result)) c.pair_of.ensures
+    ∙ ap (lt_pair (pair_at x.levels.now x.times.now x.b)) c.pair_of-2.ensures

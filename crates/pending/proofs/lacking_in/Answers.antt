@@ -8,21 +8,21 @@ pub loop-i-init : goal.loop-i-init
 loop-i-init c = refl
 
 pub returns-then-line-i : goal.returns-then-line-i
-returns-then-line-i c = let l = c in
-    let x = l.args in
-    sym (l.loop-i.invariant ∙ fresh-past (stale_at x.marks.now) x.line.now l.loop-i.i x.to c.if-line-i.true)
+returns-then-line-i c =
+    let x = c.args in
+    sym (c.loop-i.invariant ∙ fresh-past (stale_at x.marks.now) x.line.now c.loop-i.i x.to c.if-line-i.true)
 
 pub returns-then-not-is_stale : goal.returns-then-not-is_stale
-returns-then-not-is_stale c = let l = c in
-    let x = l.args in
-    sym (l.loop-i.invariant ∙ fresh-here (stale_at x.marks.now) x.line.now l.loop-i.i x.to c.loop-i-test.true c.if-line-i.false (sym c.is_stale.ensures ∙ c.if-not-is_stale.true))
+returns-then-not-is_stale c =
+    let x = c.args in
+    sym (c.loop-i.invariant ∙ fresh-here (stale_at x.marks.now) x.line.now c.loop-i.i x.to c.loop-i-test.true c.if-line-i.false (sym c.is_stale.ensures ∙ c.if-not-is_stale.true))
 
 pub loop-i-preserved : goal.loop-i-preserved
-loop-i-preserved c = let l = c in
-    let x = l.args in
-    l.loop-i.invariant ∙ fresh-next (stale_at x.marks.now) x.line.now l.loop-i.i x.to c.loop-i-test.true c.if-line-i.false (sym c.is_stale.ensures ∙ c.if-not-is_stale.false)
+loop-i-preserved c =
+    let x = c.args in
+    c.loop-i.invariant ∙ fresh-next (stale_at x.marks.now) x.line.now c.loop-i.i x.to c.loop-i-test.true c.if-line-i.false (sym c.is_stale.ensures ∙ c.if-not-is_stale.false)
 
 pub returns : goal.returns
-returns c = let l = c in
-    let x = l.args in
-    sym (l.loop-i.invariant ∙ fresh-end (stale_at x.marks.now) x.line.now l.loop-i.i x.to c.loop-i-test.false)
+returns c =
+    let x = c.args in
+    sym (c.loop-i.invariant ∙ fresh-end (stale_at x.marks.now) x.line.now c.loop-i.i x.to c.loop-i-test.false)

@@ -8,9 +8,9 @@ use Rattle.pending.proofs.RunsMerged.{merging-none, merging-older, merging-young
 use Rattle.pending.proofs.merge.Goals as goal
 
 pub loop-b-init : goal.loop-b-init
-loop-b-init c = let s = c in
-    let x = s.args in
-    merging-none (ahead x.levels.now x.times.now) x.line.now x.low x.high x.start x.end s.requires.0 s.requires.1 s.requires.2 s.requires.3
+loop-b-init c =
+    let x = c.args in
+    merging-none (ahead x.levels.now x.times.now) x.line.now x.low x.high x.start x.end c.requires.0 c.requires.1 c.requires.2 c.requires.3
 
 pub is_older_first-requires : goal.is_older_first-requires
 is_older_first-requires c = record { older = search rules; younger = search rules; some = inr c.loop-b-test.true }
@@ -32,21 +32,19 @@ loop-b-smaller c = let f = c.is_older_first.ensures in
     c.if-is_older_first.branch-raw
 
 pub loop-b-preserved : goal.loop-b-preserved
-loop-b-preserved c = let l = c in
-    let s = l in
-    let x = s.args in
+loop-b-preserved c =
+    let x = c.args in
     let t = c.loop-b-test.true in
     let f = c.is_older_first.ensures in
     ⊎_elim
-    (λ w. rw (w.line-is, w.a-is, w.b-is) (merging-older (ahead x.levels.now x.times.now) x.line.now x.low x.high x.start x.end s.requires.0 s.requires.1 s.requires.2 s.requires.3 l.loop-b.line l.loop-b.o l.loop-b.a l.loop-b.b l.loop-b.invariant t (f.from-older w.if-is_older_first.true) (f.older w.if-is_older_first.true)))
-    (λ w. rw (w.line-is, w.a-is, w.b-is) (merging-younger (ahead x.levels.now x.times.now) x.line.now x.low x.high x.start x.end s.requires.0 s.requires.1 s.requires.2 s.requires.3 l.loop-b.line l.loop-b.o l.loop-b.a l.loop-b.b l.loop-b.invariant t (f.younger w.if-is_older_first.false)))
+    (λ w. rw (w.line-is, w.a-is, w.b-is) (merging-older (ahead x.levels.now x.times.now) x.line.now x.low x.high x.start x.end c.requires.0 c.requires.1 c.requires.2 c.requires.3 c.loop-b.line c.loop-b.o c.loop-b.a c.loop-b.b c.loop-b.invariant t (f.from-older w.if-is_older_first.true) (f.older w.if-is_older_first.true)))
+    (λ w. rw (w.line-is, w.a-is, w.b-is) (merging-younger (ahead x.levels.now x.times.now) x.line.now x.low x.high x.start x.end c.requires.0 c.requires.1 c.requires.2 c.requires.3 c.loop-b.line c.loop-b.o c.loop-b.a c.loop-b.b c.loop-b.invariant t (f.younger w.if-is_older_first.false)))
     c.if-is_older_first.branch-raw
 
 pub shape_of-line : goal.shape_of-line
 shape_of-line c = c.loop-b.invariant.long
 
 pub returns : goal.returns
-returns c = let l = c in
-    let s = l in
-    let x = s.args in
-    merging-all (ahead x.levels.now x.times.now) x.line.now x.low x.high x.start x.end s.requires.0 s.requires.1 s.requires.2 s.requires.3 l.loop-b.line l.loop-b.o l.loop-b.a l.loop-b.b l.loop-b.invariant c.loop-b-test.false
+returns c =
+    let x = c.args in
+    merging-all (ahead x.levels.now x.times.now) x.line.now x.low x.high x.start x.end c.requires.0 c.requires.1 c.requires.2 c.requires.3 c.loop-b.line c.loop-b.o c.loop-b.a c.loop-b.b c.loop-b.invariant c.loop-b-test.false

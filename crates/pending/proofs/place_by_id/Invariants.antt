@@ -1,5 +1,4 @@
 -- `place_by_id` meets its contract: the slots in front of place i have ids below the new one's, so it goes in among the rest. Assumes nothing.
-use Prim.Native.Nat.{◌-◌}
 use Rattle.pending.specs.Pending.{not_above}
 use Rattle.pending.proofs.Inserts.{Passed}
 use Rattle.hash.specs.Bytes.{width_of}
@@ -7,6 +6,3 @@ use Rattle.pending.proofs.place_by_id.Given as goal
 
 abbrev pub invariant-loop-i : goal.invariant-loop-i
 invariant-loop-i l = Passed (not_above (width_of l.kind) l.names) l.line l.from l.to l.slot l.i
-
-abbrev pub decreases-loop-i : goal.decreases-loop-i
-decreases-loop-i l = l.to - l.i

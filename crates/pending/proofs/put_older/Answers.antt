@@ -3,6 +3,6 @@ use Rattle.pending.proofs.Pushing.{enters-older}
 use Rattle.pending.proofs.put_older.Goals as goal
 
 pub returns : goal.returns
-returns c = let s = c in
-    let x = s.args in
-    enters-older x.levels.now x.times.now x.p x.line.now s.requires.0 x.slot c.shift_in.new.line s.requires.1 c.shift_in.ensures
+returns c =
+    let x = c.args in
+    enters-older x.levels.now x.times.now x.p x.line.now c.requires.0 x.slot c.shift_in.new.line c.requires.1 c.shift_in.ensures

@@ -3,6 +3,6 @@ use Rattle.pending.proofs.Pushing.{settles}
 use Rattle.pending.proofs.settle.Goals as goal
 
 pub returns : goal.returns
-returns c = let s = c in
-    let x = s.args in
-    settles x.levels.now x.times.now x.p x.line.now s.requires.right s.requires c.merge.new.line c.merge.ensures c.young_place-place.result c.young_place-place.ensures.0 c.young_place-place.ensures.1
+returns c =
+    let x = c.args in
+    settles x.levels.now x.times.now x.p x.line.now c.requires.right c.requires c.merge.new.line c.merge.ensures c.young_place-place.result c.young_place-place.ensures.0 c.young_place-place.ensures.1

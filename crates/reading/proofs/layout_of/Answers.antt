@@ -2,5 +2,5 @@
 use borrow.Author.Rules.{rules}
 use Rattle.reading.proofs.layout_of.Goals as goal
 
-pub returns-in-NoGraph : goal.returns-in-NoGraph
-returns-in-NoGraph c = rw c.in-NoGraph.is
+pub returns-in-None : goal.returns-in-None
+returns-in-None c = rw c.in-None.is

@@ -6,11 +6,11 @@ use Rattle.reading.proofs.Whole.{row-good, row-bad}
 use borrow.Author.Rules.{rules}
 use Rattle.reading.proofs.row_commit.Goals as goal
 
-pub returns-in-Good : goal.returns-in-Good
-returns-in-Good c = let x = c.args in
+pub returns-in-Some : goal.returns-in-Some
+returns-in-Some c = let x = c.args in
     row-good x.position (pair_in _ x.graph.now x.l x.position) (parents_in _ x.graph.now x.l x.position)
-    (sym c.in-Good.is ∙ c.parents.ensures) c.level.ensures c.seconds.ensures
+    (sym c.in-Some.is ∙ c.parents.ensures) c.level.ensures c.seconds.ensures
 
-pub returns-in-Corrupt : goal.returns-in-Corrupt
-returns-in-Corrupt c = let x = c.args in
-    row-bad x.position (pair_in _ x.graph.now x.l x.position) (parents_in _ x.graph.now x.l x.position) (sym c.in-Corrupt.is ∙ c.parents.ensures)
+pub returns-in-None : goal.returns-in-None
+returns-in-None c = let x = c.args in
+    row-bad x.position (pair_in _ x.graph.now x.l x.position) (parents_in _ x.graph.now x.l x.position) (sym c.in-None.is ∙ c.parents.ensures)

@@ -8,8 +8,7 @@ use Rattle.hash.specs.Bytes.{width_of}
 use Rattle.refill.proofs.read_slot.Goals as goal
 
 pub returns : goal.returns
-returns c = let s = c in
-    let i = s in
-    let x = i.args in
-    let id = i.id_of.ensures ∙ ap (id_of (width_of x.kind) x.names.now) i.wide.ensures in
-    rereads_slot c.set_seconds.ensures (λ o g. seconds-right s.seconds_for-s.ensures o g ∙ ap (seconds_for (world_of (width_of x.kind) x.store.now g)) id)
+returns c =
+    let x = c.args in
+    let id = c.id_of.ensures ∙ ap (id_of (width_of x.kind) x.names.now) c.wide.ensures in
+    rereads_slot c.set_seconds.ensures (λ o g. seconds-right c.seconds_for-s.ensures o g ∙ ap (seconds_for (world_of (width_of x.kind) x.store.now g)) id)

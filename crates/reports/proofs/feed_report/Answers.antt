@@ -15,8 +15,8 @@ use Rattle.reports.proofs.feed_report.Goals as goal
 pub report_of-requires : goal.report_of-requires
 report_of-requires c = low-feeds c.drive.ensures
 
-pub returns-in-Refused : goal.returns-in-Refused
-returns-in-Refused c = let x = c.args in fault_says x.reader c.in-Refused.r (fault_is (embargo_fault (input_of x.store.now x.graph.now x.tips.now x.hidden.now x.excluded.now x.settings) x.embargoed.now) _ (sym (c.check_embargoed.ensures x.settings refl) ∙ c.in-Refused.is)) c.refused_report.ensures
+pub returns-in-Err : goal.returns-in-Err
+returns-in-Err c = let x = c.args in fault_says x.reader c.in-Err.r (fault_is (embargo_fault (input_of x.store.now x.graph.now x.tips.now x.hidden.now x.excluded.now x.settings) x.embargoed.now) _ (sym (c.check_embargoed.ensures x.settings refl) ∙ c.in-Err.is)) c.refused_report.ensures
 
-pub returns-in-Fine : goal.returns-in-Fine
-returns-in-Fine c = let x = c.args in feed-says c.drive.ensures c.withheld.ensures (none_is (embargo_fault (input_of x.store.now x.graph.now x.tips.now x.hidden.now x.excluded.now x.settings) x.embargoed.now) (sym (c.check_embargoed.ensures x.settings refl) ∙ c.in-Fine.is)) c.report_of.ensures
+pub returns-in-Ok : goal.returns-in-Ok
+returns-in-Ok c = let x = c.args in feed-says c.drive.ensures c.withheld.ensures (none_is (embargo_fault (input_of x.store.now x.graph.now x.tips.now x.hidden.now x.excluded.now x.settings) x.embargoed.now) (sym (c.check_embargoed.ensures x.settings refl) ∙ c.in-Ok.is)) c.report_of.ensures

@@ -18,16 +18,12 @@ returns-then-not-can_feed c = let x = c.args in
     no_room-says (reader_of x.outside) x.embargoed.now (input_of x.store.now x.graph.now x.tips.now x.hidden.now x.excluded.now (settings_of x.width x.sorting x.limited x.cutoff x.first)) (lent_of x.names.now x.marks.now x.levels.now x.times.now x.line.now x.parents.now) x.numbers.now x.difference.now c.can_feed.ensures c.if-not-can_feed.true
 
 pub returns : goal.returns
-returns c = let p = c in
-    let o = p in
-    let t = o in
-    let r = t in
-    let s = r in
-    let x = s.args in
-    let l = o.feed_report-r.new in
-    let told : to_z w64 (of_z w64 x.cutoff) ≡ x.cutoff = to_z-of_z s.ranges.cutoff in
-    let e = t.settings_of-settings.ensures ∙ ap (λ (z : ℤ). settings_of x.width x.sorting x.limited z x.first) told in
+returns c =
+    let x = c.args in
+    let l = c.feed_report-r.new in
+    let told : to_z w64 (of_z w64 x.cutoff) ≡ x.cutoff = to_z-of_z c.ranges.cutoff in
+    let e = c.settings_of-settings.ensures ∙ ap (λ (z : ℤ). settings_of x.width x.sorting x.limited z x.first) told in
     made-says {m = lent_of x.names.now x.marks.now x.levels.now x.times.now x.line.now x.parents.now}
     {m' = lent_of l.names l.marks l.levels l.times l.line l.parents}
-    o.reader_of-reader.ensures (ap (input_of x.store.now x.graph.now x.tips.now x.hidden.now x.excluded.now) e)
-    r.can_feed.ensures (t.if-not-can_feed.false) o.feed_report-r.ensures p.put_feed.ensures
+    c.reader_of-reader.ensures (ap (input_of x.store.now x.graph.now x.tips.now x.hidden.now x.excluded.now) e)
+    c.can_feed.ensures (c.if-not-can_feed.false) c.feed_report-r.ensures c.put_feed.ensures

@@ -4,8 +4,8 @@ use Rattle.reportwire.specs.Feed.{reported_number}
 use borrow.Author.Rules.{rules}
 use Rattle.reportwire.proofs.number.Goals as goal
 
-pub returns-in-Whole : goal.returns-in-Whole
-returns-in-Whole c = sym (ap reported_number c.in-Whole.is)
+pub returns-in-Ok : goal.returns-in-Ok
+returns-in-Ok c = sym (ap reported_number c.in-Ok.is)
 
-pub returns-in-Refused : goal.returns-in-Refused
-returns-in-Refused c = c.wide.ensures ∙ c.number.ensures ∙ sym (ap reported_number c.in-Refused.is)
+pub returns-in-Err : goal.returns-in-Err
+returns-in-Err c = c.wide.ensures ∙ c.number.ensures ∙ sym (ap reported_number c.in-Err.is)

@@ -4,7 +4,7 @@ ghost use Rattle.revwalk.specs.Order.{at, seq_of, sooner, ahead, goes};
 ghost use Rattle.revwalk.specs.Sift.{Rose, Chosen, Sank};
 ghost use Rattle.revwalk.specs.Queue.{Unrooted, Pushes, PopsOf};
 
-use super::{Popped, Queue, none};
+use super::{Popped, Queue};
 use crate::seconds_of;
 use date::Seconds;
 
@@ -38,13 +38,14 @@ fn to_queue_key(seconds: Seconds, newest: bool) -> QueueKey
 }
 
 // Whether a slot with key a is handed out strictly before one with key b, of two keys of one order.
+#[tactic(auto, using(date::proofs::Orders::less))]
 fn is_sooner(a: QueueKey, b: QueueKey) -> bool
     ensures { result ≡ sooner a.newest a.seconds.0 b.seconds.0 }
 {
     if a.newest {
-        date::before(b.seconds, a.seconds)
+        b.seconds < a.seconds
     } else {
-        date::before(a.seconds, b.seconds)
+        a.seconds < b.seconds
     }
 }
 
@@ -76,6 +77,7 @@ fn sift_up(line: &mut [u32], times: &[i64], cap: usize, newest: bool, hole: usiz
     ensures { Rose (goes newest times.now cap) cap hole x line.old line.new }
 {
     let mut i = hole;
+    // From the hole to the place above it: these places are no range.
     while 0 < i {
         let p = (i - 1) / 2;
         let y = line[p];
@@ -109,6 +111,7 @@ fn sink(line: &mut [u32], times: &[i64], cap: usize, newest: bool, n: usize) -> 
     ensures { Sank (goes newest times.now cap) cap n line.old line.new result }
 {
     let mut i = 0;
+    // From the hole to one of the two places below it: these places are no range.
     while i < n / 2 {
         let c = first_child(line, times, cap, newest, n, 2 * i + 1);
         line[i] = line[c];
@@ -140,10 +143,11 @@ pub(super) fn push(q: Queue, line: &mut [u32], times: &[i64], slot: u32) -> Queu
     }
     line[cap + s] = next;
     sift_up(line, times, cap, q.newest, n, slot);
-    let mut grown = q;
-    grown.count = n + 1;
-    grown.next = next + 1;
-    grown
+    Queue {
+        count: n + 1,
+        next: next + 1,
+        ..q
+    }
 }
 
 // Takes the root out of a heap of m + 1 slots: the hole goes down to a leaf, and the last slot goes in there and up to its place.
@@ -160,22 +164,22 @@ fn take_root(line: &mut [u32], times: &[i64], cap: usize, newest: bool, m: usize
 }
 
 // Hands out the slot at the root, of a queue by time.
-pub fn pop(q: Queue, line: &mut [u32], times: &[i64]) -> Popped
+pub fn pop(q: Queue, line: &mut [u32], times: &[i64]) -> Option<Popped>
     ensures { PopsOf true q times.now line.old line.new result }
 {
     let cap = q.cap;
     let n = q.count;
     if !q.timed {
-        return none(q);
+        return None;
     }
     if line.len() / 2 < cap {
-        return none(q);
+        return None;
     }
     if cap < n {
-        return none(q);
+        return None;
     }
     if n == 0 {
-        return none(q);
+        return None;
     }
     let top = line[0];
     let m = n - 1;
@@ -185,13 +189,10 @@ pub fn pop(q: Queue, line: &mut [u32], times: &[i64]) -> Popped
     } else {
         take_root(line, times, cap, false, m);
     }
-    let mut rest = q;
-    rest.count = m;
-    Popped {
-        found: true,
+    Some(Popped {
         slot: top,
-        queue: rest,
-    }
+        queue: Queue { count: m, ..q },
+    })
 }
 
 // The slot at place i of the heap, 0 past the end.

@@ -3,7 +3,7 @@ ghost use Rattle.std.specs.Prelude.{◌≡◌, List, false, ◌+◌, ◌<◌, �
 ghost use Rattle.hashtable.specs.Table.{wrap};
 ghost use Rattle.revwalk.specs.Queue.{ring_at, Pushes, PutsBack, PopsOf};
 
-use super::{Popped, Queue, none};
+use super::{Popped, Queue};
 
 // The place that is i places after head.
 fn place(cap: usize, head: usize, i: usize) -> usize
@@ -33,9 +33,7 @@ pub(super) fn push(q: Queue, line: &mut [u32], slot: u32) -> Queue
     }
     let p = place(cap, head, n);
     line[p] = slot;
-    let mut grown = q;
-    grown.count = n + 1;
-    grown
+    Queue { count: n + 1, ..q }
 }
 
 // Puts a slot in front of all that wait: the place before head is the one cap - 1 places after it.
@@ -58,41 +56,41 @@ pub(super) fn put_front(q: Queue, line: &mut [u32], slot: u32) -> Queue
     let last = cap - 1;
     let p = place(cap, head, last);
     line[p] = slot;
-    let mut grown = q;
-    grown.head = p;
-    grown.count = n + 1;
-    grown
+    Queue {
+        head: p,
+        count: n + 1,
+        ..q
+    }
 }
 
 // Hands out the slot at head, of a queue that is not by time.
-pub fn pop(q: Queue, line: &[u32]) -> Popped
+pub fn pop(q: Queue, line: &[u32]) -> Option<Popped>
     ensures { (times : List ℤ) → PopsOf false q times line.now line.now result }
 {
     let cap = q.cap;
     let head = q.head;
     let n = q.count;
     if q.timed {
-        return none(q);
+        return None;
     }
     if line.len() / 2 < cap {
-        return none(q);
+        return None;
     }
     if n == 0 {
-        return none(q);
+        return None;
     }
     if cap <= head {
-        return none(q);
+        return None;
     }
     let p = place(cap, head, 1);
-    let slot = line[head];
-    let mut rest = q;
-    rest.head = p;
-    rest.count = n - 1;
-    Popped {
-        found: true,
-        slot: slot,
-        queue: rest,
-    }
+    Some(Popped {
+        slot: line[head],
+        queue: Queue {
+            head: p,
+            count: n - 1,
+            ..q
+        },
+    })
 }
 
 // The i-th of the slots that wait, 0 where there is no such place.

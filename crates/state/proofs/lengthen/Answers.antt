@@ -12,7 +12,6 @@ pub returns-then-admitted-gt-MOST : goal.returns-then-admitted-gt-MOST
 returns-then-admitted-gt-MOST c = λ r. waits-not (λ sh l m b. omega (arith, c.if-admitted-gt-MOST.true))
 
 pub returns : goal.returns
-returns c = let p = c in
-    let t = p in
-    let x = t.args in
-    λ r. waits_pushed {r = waiting_in r x.w} x.times.now x.slot x.s.0 t.set_time.ensures p.push-longer.ensures
+returns c =
+    let x = c.args in
+    λ r. waits_pushed {r = waiting_in r x.w} x.times.now x.slot x.s.0 c.set_time.ensures c.push-longer.ensures

@@ -20,11 +20,9 @@ pub returns-then-admitted-gt-MOST : goal.returns-then-admitted-gt-MOST
 returns-then-admitted-gt-MOST c = record { own = λ f r. waits-not (λ sh l m b. omega (arith, c.if-admitted-gt-MOST.true)); other = λ f. (refl, refl, refl) }
 
 pub returns : goal.returns
-returns c = let p = c in
-    let t = p in
-    let i = t in
-    let x = i.args in
+returns c =
+    let x = c.args in
     record {
-      own = λ f r. waits_pushed {r = waiting_in r x.w} x.times.now x.slot x.s.0 (t.set_seconds.ensures ∙ ap (λ (b : Bool). cond b (set x.times.now x.slot x.s.0) x.times.now) (sym f)) p.push-longer.ensures;
-      other = λ f. clash (not-false _ i.if-not-q.false) f;
+      own = λ f r. waits_pushed {r = waiting_in r x.w} x.times.now x.slot x.s.0 (c.set_seconds.ensures ∙ ap (λ (b : Bool). cond b (set x.times.now x.slot x.s.0) x.times.now) (sym f)) c.push-longer.ensures;
+      other = λ f. clash (not-false _ c.if-not-q.false) f;
     }

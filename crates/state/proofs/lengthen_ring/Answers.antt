@@ -19,10 +19,9 @@ pub returns-then-admitted-gt-MOST : goal.returns-then-admitted-gt-MOST
 returns-then-admitted-gt-MOST c = record { own = λ f r s. waits-not (λ sh l m b. omega (arith, c.if-admitted-gt-MOST.true)); other = λ f. (refl, refl) }
 
 pub returns : goal.returns
-returns c = let p = c in
-    let i = p in
-    let x = i.args in
+returns c =
+    let x = c.args in
     record {
-      own = λ f r s. waits_pushed {r = waiting_in r x.w} x.times.now x.slot s (ap (λ (b : Bool). cond b (set x.times.now x.slot s) x.times.now) (sym f)) p.push-longer.ensures;
-      other = λ f. clash f i.if-q.false;
+      own = λ f r s. waits_pushed {r = waiting_in r x.w} x.times.now x.slot s (ap (λ (b : Bool). cond b (set x.times.now x.slot s) x.times.now) (sym f)) c.push-longer.ensures;
+      other = λ f. clash f c.if-q.false;
     }

@@ -3,6 +3,5 @@ use Rattle.state.proofs.Queueing.{waits_of}
 use Rattle.state.proofs.wait.Goals as goal
 
 pub returns : goal.returns
-returns c = let l = c in
-    let w = l in
-    rw c.with_waiting.ensures (waits_of {w = w.waiting_of.result} w.waiting_of.ensures (l.lengthen-longer.ensures w.args.r))
+returns c =
+    rw c.with_waiting.ensures (waits_of {w = c.waiting_of.result} c.waiting_of.ensures (c.lengthen-longer.ensures c.args.r))

@@ -4,11 +4,11 @@ use Rattle.swatch.proofs.Calls.{few-parents}
 use Rattle.swatch.proofs.list_call.Goals as goal
 
 pub returns : goal.returns
-returns c = let t = c in
+returns c =
     record {
-      given = t.step-o.result;
-      says = rw t.breadth_all.ensures at t.step-o.ensures;
+      given = c.step-o.result;
+      says = rw c.breadth_all.ensures at c.step-o.ensures;
       same_record = refl;
       left_is = c.calls_after.ensures;
-      line = c.answer.ensures (few-parents t.step-o.ensures.of_paper);
+      line = c.answer.ensures (few-parents c.step-o.ensures.of_paper);
     }

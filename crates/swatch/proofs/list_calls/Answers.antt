@@ -12,10 +12,10 @@ pub loop-left-init : goal.loop-left-init
 loop-left-init c = loop_start
 
 pub loop-left-smaller : goal.loop-left-smaller
-loop-left-smaller c = let t = c in omega (arith, t.list_call-t.ensures.left_is, left_less t.list_call-t.ensures.given.answer.outcome t.loop-left.left t.loop-left-test.true)
+loop-left-smaller c = omega (arith, c.list_call-t.ensures.left_is, left_less c.list_call-t.ensures.given.answer.outcome c.loop-left.left c.loop-left-test.true)
 
 pub loop-left-preserved : goal.loop-left-preserved
-loop-left-preserved c = let t = c in loop_next t.loop-left.invariant t.loop-left-test.true t.list_call-t.ensures
+loop-left-preserved c = loop_next c.loop-left.invariant c.loop-left-test.true c.list_call-t.ensures
 
 pub shape_of-names : goal.shape_of-names
 unfolding lengths_of

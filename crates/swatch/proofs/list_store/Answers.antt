@@ -16,12 +16,12 @@ overflow_add-calls c =
     let none = c.nothing-none.ensures in
     omega (arith, c.capacity-calls.ensures [] breadth_all refl, no_lists_places x.store.now x.tips.now none, few-places x.store.now x.tips.now, low)
 
-pub returns-in-NotOpened : goal.returns-in-NotOpened
-returns-in-NotOpened c = store-refused (no_lists_open c.nothing-none.ensures c.breadth_all.ensures c.open-o.ensures) c.in-NotOpened.is c.refusal.ensures
+pub returns-in-Err : goal.returns-in-Err
+returns-in-Err c = store-refused (no_lists_open c.nothing-none.ensures c.breadth_all.ensures c.open-o.ensures) c.in-Err.is c.refusal.ensures
 
-pub returns-in-Accepted : goal.returns-in-Accepted
-returns-in-Accepted c =
+pub returns-in-Ok : goal.returns-in-Ok
+returns-in-Ok c =
     let none = c.nothing-none.ensures in
     let x = c.args in
     let n : _ ≡ _ = ap (λ (j : ℕ). j + 2) (c.capacity-calls.ensures [] breadth_all refl ∙ no_lists_places x.store.now x.tips.now none) in
-    store-accepted (no_lists_open none c.breadth_all.ensures c.open-o.ensures) c.in-Accepted.is n (no_lists_calls none c.list_calls.ensures)
+    store-accepted (no_lists_open none c.breadth_all.ensures c.open-o.ensures) c.in-Ok.is n (no_lists_calls none c.list_calls.ensures)

@@ -11,10 +11,10 @@ use Rattle.tally.proofs.count.Reads as count-reads
 use Rattle.tally.proofs.add_commit.Goals as goal
 
 pub plus-requires : goal.plus-requires
-plus-requires c = (c.requires.0.feeds, subst LowFeeds (sym c.feeds_of.ensures) (low_read _ _ c.requires.1 c.in-Read.is))
+plus-requires c = (c.requires.0.feeds, subst LowFeeds (sym c.feeds_of.ensures) (low_read _ _ c.requires.1 c.in-Ok.is))
 
-pub returns-in-Read : goal.returns-in-Read
-returns-in-Read c = let t = c.args.t in c.count.ensures ∙ ap (counted t Commit) (c.plus.ensures ∙ ap (plus t.feeds) c.feeds_of.ensures) ∙ ap (fed_by t Commit) (sym c.in-Read.is)
+pub returns-in-Ok : goal.returns-in-Ok
+returns-in-Ok c = let t = c.args.t in c.count.ensures ∙ ap (counted t Commit) (c.plus.ensures ∙ ap (plus t.feeds) c.feeds_of.ensures) ∙ ap (fed_by t Commit) (sym c.in-Ok.is)
 
-pub returns-in-Faulty : goal.returns-in-Faulty
-returns-in-Faulty c = c.count-in-Faulty.ensures ∙ ap (fed_by c.args.t Commit) (sym c.in-Faulty.is)
+pub returns-in-Err : goal.returns-in-Err
+returns-in-Err c = c.count-in-Err.ensures ∙ ap (fed_by c.args.t Commit) (sym c.in-Err.is)

@@ -11,8 +11,8 @@ count-requires c = c.requires
 pub one_outside-requires : goal.one_outside-requires
 one_outside-requires c = c.requires
 
-pub returns-in-Term : goal.returns-in-Term
-returns-in-Term c = let x = c.args in (c.count.ensures ∙ ap (placed x.t) (sym c.in-Term.is), λ f. c.bump.ensures f ∙ ap (counts_at x.counts.now) (sym c.in-Term.is))
+pub returns-in-Some : goal.returns-in-Some
+returns-in-Some c = let x = c.args in (c.count.ensures ∙ ap (placed x.t) (sym c.in-Some.is), λ f. c.bump.ensures f ∙ ap (counts_at x.counts.now) (sym c.in-Some.is))
 
-pub returns-in-Outside : goal.returns-in-Outside
-returns-in-Outside c = let x = c.args in (c.one_outside.ensures ∙ ap (placed x.t) (sym c.in-Outside.is), λ f. ap (counts_at x.counts.now) (sym c.in-Outside.is))
+pub returns-in-None : goal.returns-in-None
+returns-in-None c = let x = c.args in (c.one_outside.ensures ∙ ap (placed x.t) (sym c.in-None.is), λ f. ap (counts_at x.counts.now) (sym c.in-None.is))

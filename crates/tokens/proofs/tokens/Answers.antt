@@ -6,8 +6,8 @@ use Rattle.commititer.specs.declared.Place.{Place}
 use Rattle.commititer.proofs.Forward.{left, moves-on}
 use Rattle.tokens.proofs.tokens.Goals as goal
 
-pub loop-read-smaller : goal.loop-read-smaller
-loop-read-smaller g c =
+pub loop-token-smaller : goal.loop-token-smaller
+loop-token-smaller g c =
     let b = c.args.body.now in
-    let p = c.loop-read.place in
-    subst (λ (r : Place). left b r < left b p) (sym c.place_after-place.ensures) (moves-on (width_of c.args.kind) b p (sym c.is_done.ensures ∙ c.loop-read-test.true))
+    let p = c.loop-token.place in
+    subst (λ (r : Place). left b r < left b p) (sym c.place_after-place.ensures) (moves-on (width_of c.args.kind) b p (sym c.is_done.ensures ∙ c.loop-token-test.true))

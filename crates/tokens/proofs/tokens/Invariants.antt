@@ -2,5 +2,5 @@
 use Rattle.commititer.proofs.Forward.{left}
 use Rattle.tokens.proofs.tokens.Given as goal
 
-abbrev pub decreases-loop-read : goal.decreases-loop-read
-decreases-loop-read g l = left l.body l.place
+abbrev pub decreases-loop-token : goal.decreases-loop-token
+decreases-loop-token g l = left l.body l.place

@@ -1,21 +1,13 @@
 -- `trace_checked` meets its contract: a cleared memo holds nothing false. Assumes nothing.
-use mathlib.Core.Path.{◌∙◌}
+use mathlib.Core.Path.{refl}
 use Rattle.walk.specs.Opening.{list_ids}
 use Rattle.trace.proofs.Answering.{answer-unreadable, answer-played}
 use Rattle.hash.specs.Bytes.{width_of}
 use Rattle.trace.proofs.trace_checked.Goals as goal
 
 -- src/lib.rt:112:9
-pub shape_of-memo-then-not-all_readable : goal.shape_of-memo-then-not-all_readable
-shape_of-memo-then-not-all_readable c = c.all_readable.auto.memo ∙ c.clear.auto.memo
-
--- src/lib.rt:112:9
 pub returns-then-not-all_readable : goal.returns-then-not-all_readable
-returns-then-not-all_readable c = let x = c.args in answer-unreadable c.clear.ensures c.all_readable.ensures (list_ids (width_of x.kind) x.list.now) c.if-not-all_readable.true c.say.ensures
-
--- src/lib.rt:107:1
-pub shape_of-memo : goal.shape_of-memo
-shape_of-memo c = c.play.auto.memo ∙ c.clear-2.auto.memo ∙ c.all_readable.auto.memo ∙ c.clear.auto.memo
+returns-then-not-all_readable c = let x = c.args in answer-unreadable c.clear.ensures c.all_readable.ensures (list_ids (width_of x.kind) x.list.now) c.if-not-all_readable.true refl
 
 -- src/lib.rt:107:1
 pub returns : goal.returns

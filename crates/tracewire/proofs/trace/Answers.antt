@@ -9,4 +9,4 @@ returns-then-not-can_trace c = let x = c.args in no_room-says (kind_of x.width) 
 
 -- src/lib.rt:88:1
 pub returns : goal.returns
-returns c = let x = c.args in made-says {store = x.store.now} {start = x.start.now} {list = x.list.now} {m = x.memo.now} {m' = c.trace-r.new.memo} {id = x.id.now} {numbers = x.numbers.now} c.kind_of-kind.ensures c.can_trace.ensures c.if-not-can_trace.false c.id_of.ensures c.moves_of.ensures c.trace-r.ensures c.put_traced.ensures
+returns c = let x = c.args in made-says {store = x.store.now} {start = x.start.now} {list = x.list.now} {m = x.memo.now} {m' = c.trace-said.new.memo} {id = x.id.now} {numbers = x.numbers.now} c.kind_of-kind.ensures c.can_trace.ensures c.if-not-can_trace.false c.id_of.ensures c.moves_of.ensures c.trace-said.ensures c.put_traced.ensures

@@ -4,5 +4,5 @@ use Rattle.walk.specs.Given.{open_number}
 use borrow.Author.Rules.{rules}
 use Rattle.wire.proofs.open_number.Goals as goal
 
-pub returns-in-NotOpened : goal.returns-in-NotOpened
-returns-in-NotOpened c = c.wide.ensures ∙ c.number.ensures ∙ sym (ap open_number c.in-NotOpened.is)
+pub returns-in-Err : goal.returns-in-Err
+returns-in-Err c = c.wide.ensures ∙ c.number.ensures ∙ sym (ap open_number c.in-Err.is)

@@ -16,27 +16,27 @@ pub loop-k-init : goal.loop-k-init
 loop-k-init c = let x = c.args in (search rules, paste-zero x.out.now 0 x.x.now)
 
 pub bounds-out-k : goal.bounds-out-k
-bounds-out-k c = let l = c in
-    let x = l.args in
-    let n : length l.loop-k.out ≡ length x.out.now = ap length l.loop-k.invariant.1 ∙ length-paste x.out.now 0 x.x.now l.loop-k.k (omega arith) (omega arith) in
+bounds-out-k c =
+    let x = c.args in
+    let n : length c.loop-k.out ≡ length x.out.now = ap length c.loop-k.invariant.1 ∙ length-paste x.out.now 0 x.x.now c.loop-k.k (omega arith) (omega arith) in
     omega (arith, n)
 
 pub loop-k-preserved : goal.loop-k-preserved
-loop-k-preserved c = let l = c in
-    let x = l.args in
-    let z : l.loop-k.k ≡ 0 + l.loop-k.k = omega arith in
-    let n : suc l.loop-k.k ≡ l.loop-k.k + 1 = omega arith in
-    (search rules, rw l.loop-k.invariant.1 (ap (λ (j : ℕ). set (paste x.out.now 0 x.x.now l.loop-k.k) j (get_or x.x.now l.loop-k.k 0)) z ∙ paste-suc x.out.now 0 x.x.now l.loop-k.k 0 (omega arith) (omega arith) ∙ ap (paste x.out.now 0 x.x.now) n))
+loop-k-preserved c =
+    let x = c.args in
+    let z : c.loop-k.k ≡ 0 + c.loop-k.k = omega arith in
+    let n : suc c.loop-k.k ≡ c.loop-k.k + 1 = omega arith in
+    (search rules, rw c.loop-k.invariant.1 (ap (λ (j : ℕ). set (paste x.out.now 0 x.x.now c.loop-k.k) j (get_or x.x.now c.loop-k.k 0)) z ∙ paste-suc x.out.now 0 x.x.now c.loop-k.k 0 (omega arith) (omega arith) ∙ ap (paste x.out.now 0 x.x.now) n))
 
 pub shape_of-out : goal.shape_of-out
-shape_of-out c = let l = c in
-    let x = l.args in
-    ap length l.loop-k.invariant.1 ∙ length-paste x.out.now 0 x.x.now l.loop-k.k (omega arith) (omega arith)
+shape_of-out c =
+    let x = c.args in
+    ap length c.loop-k.invariant.1 ∙ length-paste x.out.now 0 x.x.now c.loop-k.k (omega arith) (omega arith)
 
 pub returns : goal.returns
-returns c = let l = c in
-    let x = l.args in
-    let k : l.loop-k.k ≡ length x.x.now = omega arith in
-    l.loop-k.invariant.1 ∙ ap (paste x.out.now 0 x.x.now) k
+returns c =
+    let x = c.args in
+    let k : c.loop-k.k ≡ length x.x.now = omega arith in
+    c.loop-k.invariant.1 ∙ ap (paste x.out.now 0 x.x.now) k
     ∙ ap (λ (y : List ℕ). y ++ drop (0 + length x.x.now) x.out.now) (take_all (length x.x.now) x.x.now (omega arith))
     ∙ sym (set_down-fits x.out.now 0 x.x.now (omega arith))

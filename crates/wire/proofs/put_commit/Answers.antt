@@ -15,33 +15,29 @@ use Rattle.wire.proofs.put_commit.Goals as goal
 pub returns : goal.returns
 unfolding answer_words
 returns c = let x = c.args in
-    let v = c in
-    let z = v.seconds_value-s.result.0 in
+    let z = c.seconds_value-s.result.0 in
     let told : to_z w64 (of_z w64 z) ≡ z = to_z-of_z {w = w64} {z = z} (record { sfits = c.struct_told-1.given.0.1 }) in
-    let u = c in
-    let m = u.zone_value.result in
-    let told2 : to_z w64 (of_z w64 m) ≡ m = to_z-of_z {w = w64} {z = m} (record { sfits = u.zone_value.type_inv }) in
-    let first = c.put_seconds.ensures ∙ ap (set x.seconds.now 0) (told ∙ v.seconds_value-s.ensures) in
-    let p = c in
-    let h = p in
-    let l = h in
+    let m = c.zone_value.result in
+    let told2 : to_z w64 (of_z w64 m) ≡ m = to_z-of_z {w = w64} {z = m} (record { sfits = c.zone_value.type_inv }) in
+    let first = c.put_seconds.ensures ∙ ap (set x.seconds.now 0) (told ∙ c.seconds_value-s.ensures) in
+    let l = c in
     record {
       result = refl;
       id-is = c.put_id.ensures;
       numbers_are =
-          p.put.ensures
+          c.put.ensures
           ∙ ap (set_down x.numbers.now 0) (λ k.
           l.long.ensures k
           ∷ l.long-2.ensures k
           ∷ l.long-3.ensures k
           ∷ l.long-4.ensures k
-          ∷ h.has_level.ensures k
-          ∷ h.level_value.ensures k
-          ∷ h.has_seconds.ensures k
-          ∷ h.has_zone.ensures k
+          ∷ c.has_level.ensures k
+          ∷ c.level_value.ensures k
+          ∷ c.has_seconds.ensures k
+          ∷ c.has_zone.ensures k
           ∷ []);
       seconds_are =
           c.put_zone.ensures
           ∙ ap (λ (l : List ℤ). set l 1 (to_z w64 (of_z w64 m))) first
-          ∙ ap (set (set x.seconds.now 0 (seconds_value x.t)) 1) (told2 ∙ u.zone_value.ensures);
+          ∙ ap (set (set x.seconds.now 0 (seconds_value x.t)) 1) (told2 ∙ c.zone_value.ensures);
     }

@@ -6,9 +6,9 @@ use borrow.Author.Rules.{rules}
 use Rattle.wire.proofs.put_record.Goals as goal
 
 pub returns-then-n-ne-CLOSED : goal.returns-then-n-ne-CLOSED
-returns-then-n-ne-CLOSED c = let e = c in
+returns-then-n-ne-CLOSED c =
     let z = ne_eqb c.args.n 12 c.if-n-ne-CLOSED.true in
-    record { is = rw z e.encode.ensures.is; back = λ g h. e.encode.ensures.back h }
+    record { is = rw z c.encode.ensures.is; back = λ g h. c.encode.ensures.back h }
 
 pub returns-else-n-ne-CLOSED : goal.returns-else-n-ne-CLOSED
 returns-else-n-ne-CLOSED c = let z = eq-eqb c.args.n 12 c.if-n-ne-CLOSED.false in

@@ -9,8 +9,8 @@ use Rattle.wire.proofs.settings_of.Goals as goal
 
 pub returns : goal.returns
 unfolding settings_of
-returns c = let s = c in
-    let x = s.args in
-    let told : to_z w64 (of_z w64 x.cutoff) ≡ x.cutoff = to_z-of_z s.ranges.cutoff in
+returns c =
+    let x = c.args in
+    let told : to_z w64 (of_z w64 x.cutoff) ≡ x.cutoff = to_z-of_z c.ranges.cutoff in
     let e = c.sorting_of.ensures ∙ ap (sorting_of x.sorting x.limited) told in
     λ k. record { sorting = e k; parents = c.parents_of.ensures k; kind = c.kind_of.ensures k }

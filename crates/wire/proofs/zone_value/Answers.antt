@@ -6,8 +6,8 @@ use Rattle.walk.specs.Given.{zone_value}
 use borrow.Author.Rules.{rules}
 use Rattle.wire.proofs.zone_value.Goals as goal
 
-pub returns-in-Minutes : goal.returns-in-Minutes
-returns-in-Minutes c = to_z-of_z {w = w64} {z = c.in-Minutes.m} (record { sfits = c.in-Minutes.known_told-1-own.given.0.1 }) ∙ sym (ap zone_value c.in-Minutes.is)
+pub returns-in-Some : goal.returns-in-Some
+returns-in-Some c = to_z-of_z {w = w64} {z = c.in-Some.m} (record { sfits = c.in-Some.known_told-1-own.given.0.1 }) ∙ sym (ap zone_value c.in-Some.is)
 
-pub returns-in-NoZone : goal.returns-in-NoZone
-returns-in-NoZone c = sym (ap zone_value c.in-NoZone.is)
+pub returns-in-None : goal.returns-in-None
+returns-in-None c = sym (ap zone_value c.in-None.is)

@@ -7,9 +7,6 @@ use Rattle.bodyvisit.proofs.taking.visit_parents_here.Goals as goal
 pub loop-k-init : goal.loop-k-init
 loop-k-init c = (record { for_names = refl; for_marks = refl; for_times = refl; for_line = refl }, refl, body-start)
 
-pub overflow_add-k : goal.overflow_add-k
-overflow_add-k c = omega (arith, c.loop-k-test.true, c.ranges.n)
-
 pub loop-k-smaller : goal.loop-k-smaller
 loop-k-smaller c = omega (arith, c.loop-k-test.true)
 

@@ -15,17 +15,17 @@ pub loop-b-init : goal.loop-b-init
 loop-b-init c = (search rules, λ j l. absurd (omega arith))
 
 pub parts_at-requires : goal.parts_at-requires
-parts_at-requires c = let s = c in
-    let g = s.args.graph.now in
-    (s.requires.0, s.requires.1, s.requires.2, s.requires.3, s.requires.4, s.requires.5, c.loop-b-test.true, omega (arith, entries_le g s.requires.6 c.loop-b.b 255 (omega arith) (omega arith), graph-count g, s.requires.3))
+parts_at-requires c =
+    let g = c.args.graph.now in
+    (c.requires.0, c.requires.1, c.requires.2, c.requires.3, c.requires.4, c.requires.5, c.loop-b-test.true, omega (arith, entries_le g c.requires.6 c.loop-b.b 255 (omega arith) (omega arith), graph-count g, c.requires.3))
 
 pub returns-then-not-parts_at : goal.returns-then-not-parts_at
 returns-then-not-parts_at c = (λ e. clash e refl, λ e. c.parts_at.ensures.1 c.if-not-parts_at.true)
 
 pub loop-b-preserved : goal.loop-b-preserved
-loop-b-preserved c = let l = c in
-    let x = l.args in
-    (search rules, parts_more x.w x.graph.now l.loop-b.b l.loop-b.invariant.1 (c.parts_at.ensures.0 c.if-not-parts_at.false))
+loop-b-preserved c =
+    let x = c.args in
+    (search rules, parts_more x.w x.graph.now c.loop-b.b c.loop-b.invariant.1 (c.parts_at.ensures.0 c.if-not-parts_at.false))
 
 pub returns : goal.returns
 returns c = (λ e j l. c.loop-b.invariant.1 j (omega arith), λ e. clash refl e)

@@ -5,10 +5,10 @@ use Rattle.commitgraph.proofs.Table.{found, absent}
 use Rattle.commitgraph.proofs.chunks.find_chunk.Goals as goal
 
 pub returns-then-i-count : goal.returns-then-i-count
-returns-then-i-count c = let f = c in
-    let p = found _ _ _ f.find_row-i.result f.chunk_count-count.ensures.0 f.find_row-i.ensures c.if-i-count.true in
+returns-then-i-count c =
+    let p = found _ _ _ c.find_row-i.result c.chunk_count-count.ensures.0 c.find_row-i.ensures c.if-i-count.true in
     (c.row_offset.ensures ∙ p.0, c.row_size.ensures ∙ p.1)
 
 pub returns : goal.returns
-returns c = let f = c in
-    absent _ _ _ f.find_row-i.result f.chunk_count-count.ensures.0 f.find_row-i.ensures c.if-i-count.false
+returns c =
+    absent _ _ _ c.find_row-i.result c.chunk_count-count.ensures.0 c.find_row-i.ensures c.if-i-count.false

@@ -1,7 +1,7 @@
 -- `chunks::find_row` meets its contract. The loop's invariant: none of the first i rows has the id. Assumes nothing.
+use Rattle.std.specs.Prelude.{None}
 use borrow.Author.Rules.{rules}
 use mathlib.Core.Path.{◌≡◌, refl, sym, ◌∙◌}
-use mathlib.Core.Option.{none}
 use Prim.Native.Nat.{◌≤◌, ◌-◌}
 use native.Mathlib.Omega.{arith}
 use Rattle.commitgraph.specs.Graph.{chunk_in}
@@ -13,12 +13,12 @@ unfolding chunk_in
 loop-i-init c = (search rules, refl)
 
 pub returns-then-row_id-id : goal.returns-then-row_id-id
-returns-then-row_id-id c = let l = c in
-    first_of_lem _ _ l.loop-i.i _ c.loop-i-test.true l.loop-i.invariant.1 (sym c.row_id.ensures ∙ c.if-row_id-id.true)
+returns-then-row_id-id c =
+    first_of_lem _ _ c.loop-i.i _ c.loop-i-test.true c.loop-i.invariant.1 (sym c.row_id.ensures ∙ c.if-row_id-id.true)
 
 pub loop-i-preserved : goal.loop-i-preserved
-loop-i-preserved c = let l = c in
-    (search rules, first_past _ _ l.loop-i.i l.loop-i.invariant.1 (λ e. c.if-row_id-id.false (c.row_id.ensures ∙ e)))
+loop-i-preserved c =
+    (search rules, first_past _ _ c.loop-i.i c.loop-i.invariant.1 (λ e. c.if-row_id-id.false (c.row_id.ensures ∙ e)))
 
 pub returns : goal.returns
 returns c = let x = c.args in

@@ -5,9 +5,9 @@ use Rattle.commitgraph.proofs.Table.{found, absent}
 use Rattle.commitgraph.proofs.chunks.find_start.Goals as goal
 
 pub returns-then-i-count : goal.returns-then-i-count
-returns-then-i-count c = let f = c in
-    c.row_offset.ensures ∙ (found _ _ _ f.find_row-i.result f.requires.0 f.find_row-i.ensures c.if-i-count.true).0
+returns-then-i-count c =
+    c.row_offset.ensures ∙ (found _ _ _ c.find_row-i.result c.requires.0 c.find_row-i.ensures c.if-i-count.true).0
 
 pub returns : goal.returns
-returns c = let f = c in
-    (absent _ _ _ f.find_row-i.result f.requires.0 f.find_row-i.ensures c.if-i-count.false).0
+returns c =
+    (absent _ _ _ c.find_row-i.result c.requires.0 c.find_row-i.ensures c.if-i-count.false).0

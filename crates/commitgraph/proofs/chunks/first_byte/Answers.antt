@@ -8,6 +8,6 @@ use Rattle.commitgraph.proofs.chunks.first_byte.Goals as goal
 
 pub returns : goal.returns
 unfolding first_byte
-returns c = let s = c in
-    let x = s.args in
-    (c.wide_byte.ensures.0 ∙ c.byte_at.ensures ∙ ap (λ (i : ℕ). get_or x.graph.now (i + x.w * x.k) 0) s.requires.0, c.wide_byte.ensures.1)
+returns c =
+    let x = c.args in
+    (c.wide_byte.ensures.0 ∙ c.byte_at.ensures ∙ ap (λ (i : ℕ). get_or x.graph.now (i + x.w * x.k) 0) c.requires.0, c.wide_byte.ensures.1)

@@ -13,16 +13,16 @@ use Rattle.commitgraph.proofs.chunks.ids_fit.Goals as goal
 
 pub returns-then-not-is_rising : goal.returns-then-not-is_rising
 returns-then-not-is_rising c =
-    let rise : let x = c.args in c.is_rising.result ≡ rising (graph_ids (width_of x.kind) x.graph.now) (graph_count x.graph.now) = let s = c in
-    let x = s.args in
-    ids-told (width_of x.kind) x.graph.now x.ids x.count (omega (arith, width_least x.kind)) s.requires.2 s.requires.3 s.requires.4 (rw c.width-w.ensures.0 at c.is_rising.ensures) in
+    let rise : let x = c.args in c.is_rising.result ≡ rising (graph_ids (width_of x.kind) x.graph.now) (graph_count x.graph.now) =
+    let x = c.args in
+    ids-told (width_of x.kind) x.graph.now x.ids x.count (omega (arith, width_least x.kind)) c.requires.2 c.requires.3 c.requires.4 (rw c.width-w.ensures.0 at c.is_rising.ensures) in
     let x = c.args in
     sym (not-rising (width_of x.kind) x.graph.now (sym rise ∙ c.if-not-is_rising.true))
 
 pub fan_parts-requires : goal.fan_parts-requires
-fan_parts-requires c = let s = c in
+fan_parts-requires c =
     let v = c.width-w.ensures in
-    (s.requires.0, s.requires.1, s.requires.2, s.requires.3, rw v.0 s.requires.4, omega (arith, v.1), s.requires.5)
+    (c.requires.0, c.requires.1, c.requires.2, c.requires.3, rw v.0 c.requires.4, omega (arith, v.1), c.requires.5)
 
 pub returns : goal.returns
 returns c =

@@ -38,9 +38,8 @@ unfolding graph_ok chunks_ok
 returns-then-not-fan_rises c =
     let table-good : table_ok c.width-w.result c.args.graph.now ≡ true = sym c.has_table.ensures ∙ c.if-not-has_table.false in
     let sizes-good : sized c.width-w.result c.args.graph.now ≡ true = sym c.has_sizes.ensures ∙ c.if-not-has_sizes.false in
-    let p = c in
     let f = c.fan_rises.ensures.1 c.if-not-fan_rises.true in
-    rw (sym p.width-w.ensures.0, table-good, sizes-good, f)
+    rw (sym c.width-w.ensures.0, table-good, sizes-good, f)
 
 pub ids_fit-requires : goal.ids_fit-requires
 unfolding places_of
@@ -51,15 +50,13 @@ ids_fit-requires c =
     let fan_start : c.places-l.result.fan ≡ chunk_start c.args.graph.now OIDF = ap (λ (l : Layout). l.fan) c.places-l.ensures in
     let ids-start : c.places-l.result.ids ≡ chunk_start c.args.graph.now OIDL = ap (λ (l : Layout). l.ids) c.places-l.ensures in
     let n_read : c.places-l.result.count ≡ graph_count c.args.graph.now = ap (λ (l : Layout). l.count) c.places-l.ensures in
-    let p = c in
     let e = fan_start in
-    (e, rw e inside.fan, ids-start, n_read, rw (ids-start, n_read, sym p.width-w.ensures.0) inside.ids, c.fan_rises.ensures.0 c.if-not-fan_rises.false)
+    (e, rw e inside.fan, ids-start, n_read, rw (ids-start, n_read, sym c.width-w.ensures.0) inside.ids, c.fan_rises.ensures.0 c.if-not-fan_rises.false)
 
 pub returns : goal.returns
 unfolding graph_ok chunks_ok
 returns c =
     let table-good : table_ok c.width-w.result c.args.graph.now ≡ true = sym c.has_table.ensures ∙ c.if-not-has_table.false in
     let sizes-good : sized c.width-w.result c.args.graph.now ≡ true = sym c.has_sizes.ensures ∙ c.if-not-has_sizes.false in
-    let p = c in
-    let v = p.width-w.ensures.0 in
+    let v = c.width-w.ensures.0 in
     rw (sym v, table-good, sizes-good) (rw (sym v) at c.ids_fit.ensures)

@@ -9,14 +9,13 @@ use Rattle.commitgraph.proofs.chunks.places.Goals as goal
 
 pub returns : goal.returns
 unfolding places_of
-returns c = let e = c in
-    let f = e in
+returns c =
     λ j. record {
-      fan = f.find_start-fan.ensures j;
-      ids = e.find_start-ids.ensures j;
-      rows = e.find_start-rows.ensures j;
-      edge = e.find_chunk-edge.ensures.0 j;
-      edges = (ap (λ (n : ℕ). n / 4) e.find_chunk-edge.ensures.1) j;
-      count = (c.last_entry-count.ensures.0 ∙ count_at f.args.graph.now _ f.find_start-fan.ensures) j;
+      fan = c.find_start-fan.ensures j;
+      ids = c.find_start-ids.ensures j;
+      rows = c.find_start-rows.ensures j;
+      edge = c.find_chunk-edge.ensures.0 j;
+      edges = (ap (λ (n : ℕ). n / 4) c.find_chunk-edge.ensures.1) j;
+      count = (c.last_entry-count.ensures.0 ∙ count_at c.args.graph.now _ c.find_start-fan.ensures) j;
       levels = false;
     }

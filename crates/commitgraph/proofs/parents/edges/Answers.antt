@@ -12,26 +12,26 @@ pub loop-i-init : goal.loop-i-init
 loop-i-init c = (search rules, left-start _ _ _)
 
 pub returns-then-l-from : goal.returns-then-l-from
-returns-then-l-from c = let a = c in
-    let x = a.args in
-    sym (left_out x.graph.now x.l x.from a.loop-i.i (search rules) c.if-l-from.true) ∙ a.loop-i.invariant.1
+returns-then-l-from c =
+    let x = c.args in
+    sym (left_out x.graph.now x.l x.from c.loop-i.i (search rules) c.if-l-from.true) ∙ c.loop-i.invariant.1
 
 pub returns-then-l-wide : goal.returns-then-l-wide
-returns-then-l-wide c = let a = c in
-    let x = a.args in
-    sym (left-high x.graph.now x.l x.from a.loop-i.i (search rules) (omega (arith, c.edge-v.ensures))) ∙ a.loop-i.invariant.1
+returns-then-l-wide c =
+    let x = c.args in
+    sym (left-high x.graph.now x.l x.from c.loop-i.i (search rules) (omega (arith, c.edge-v.ensures))) ∙ c.loop-i.invariant.1
 
 pub returns-then-v-ge-TOP : goal.returns-then-v-ge-TOP
-returns-then-v-ge-TOP c = let a = c in
-    let x = a.args in
+returns-then-v-ge-TOP c =
+    let x = c.args in
     let e = c.edge-v.ensures in
-    sym (left-last x.graph.now x.l x.from a.loop-i.i (search rules) (search rules) (omega (arith, e)) (omega (arith, e))) ∙ a.loop-i.invariant.1
+    sym (left-last x.graph.now x.l x.from c.loop-i.i (search rules) (search rules) (omega (arith, e)) (omega (arith, e))) ∙ c.loop-i.invariant.1
 
 pub loop-i-preserved : goal.loop-i-preserved
-loop-i-preserved c = let a = c in
-    let x = a.args in
+loop-i-preserved c =
+    let x = c.args in
     let e = c.edge-v.ensures in
-    (search rules, sym (left-more x.graph.now x.l x.from a.loop-i.i (search rules) (search rules) (omega (arith, e)) (omega (arith, e))) ∙ a.loop-i.invariant.1)
+    (search rules, sym (left-more x.graph.now x.l x.from c.loop-i.i (search rules) (search rules) (omega (arith, e)) (omega (arith, e))) ∙ c.loop-i.invariant.1)
 
 pub returns : goal.returns
 returns c = let x = c.args in

@@ -11,32 +11,32 @@ returns-then-id-w c = let x = c.args in
     rw (sym c.width-w.ensures.0) (looks_width c.width-w.result x.graph.now x.l x.id.now (omega arith) c.if-id-w.true)
 
 pub returns-then-l-hi : goal.returns-then-l-hi
-returns-then-l-hi c = let h = c in
-    let w = h.width-w in
-    let x = h.args in
-    let b = h.first_byte-b.ensures in
+returns-then-l-hi c =
+    let w = c.width-w in
+    let x = c.args in
+    let b = c.first_byte-b.ensures in
     rw (sym w.ensures.0)
-    (looks-over w.result x.graph.now x.l x.id.now h.first_byte-b.result (omega (arith, w.ensures.1)) b.0 b.1 (omega (arith, h.ids_below-hi.ensures)))
+    (looks-over w.result x.graph.now x.l x.id.now c.first_byte-b.result (omega (arith, w.ensures.1)) b.0 b.1 (omega (arith, c.ids_below-hi.ensures)))
 
-pub returns-in-At : goal.returns-in-At
-returns-in-At c = let h = c in
-    let w = h.width-w in
-    let x = h.args in
+pub returns-in-Some : goal.returns-in-Some
+returns-in-Some c =
+    let w = c.width-w in
+    let x = c.args in
     let g = x.graph.now in
     let id = x.id.now in
-    let b = h.first_byte-b.ensures in
+    let b = c.first_byte-b.ensures in
     rw (sym w.ensures.0)
-    (looks-hit w.result g x.l id h.first_byte-b.result (omega (arith, w.ensures.1)) b.0 b.1 h.if-id-w.false c.in-At.p
-    (omega (arith, h.ids_below-hi.ensures))
-    (search_of w.result g x.l h.first_byte-b.result id c.find_between.ensures h.ids_below-lo.ensures h.ids_below-hi.ensures c.in-At.is))
+    (looks-hit w.result g x.l id c.first_byte-b.result (omega (arith, w.ensures.1)) b.0 b.1 c.if-id-w.false c.in-Some.p
+    (omega (arith, c.ids_below-hi.ensures))
+    (search_of w.result g x.l c.first_byte-b.result id c.find_between.ensures c.ids_below-lo.ensures c.ids_below-hi.ensures c.in-Some.is))
 
-pub returns-in-Absent : goal.returns-in-Absent
-returns-in-Absent c = let h = c in
-    let w = h.width-w in
-    let x = h.args in
+pub returns-in-None : goal.returns-in-None
+returns-in-None c =
+    let w = c.width-w in
+    let x = c.args in
     let g = x.graph.now in
     let id = x.id.now in
-    let b = h.first_byte-b.ensures in
+    let b = c.first_byte-b.ensures in
     rw (sym w.ensures.0)
-    (looks-miss w.result g x.l id h.first_byte-b.result (omega (arith, w.ensures.1)) b.0 b.1 h.if-id-w.false
-    (search_of w.result g x.l h.first_byte-b.result id c.find_between.ensures h.ids_below-lo.ensures h.ids_below-hi.ensures c.in-Absent.is))
+    (looks-miss w.result g x.l id c.first_byte-b.result (omega (arith, w.ensures.1)) b.0 b.1 c.if-id-w.false
+    (search_of w.result g x.l c.first_byte-b.result id c.find_between.ensures c.ids_below-lo.ensures c.ids_below-hi.ensures c.in-None.is))

@@ -11,7 +11,7 @@ use borrow.Author.Rules.{rules}
 use Rattle.commitgraph.proofs.rows.lookup_near.Goals as goal
 
 pub returns-then-same_id : goal.returns-then-same_id
-returns-then-same_id c = let s = c in
-    let x = s.args in
-    let same = and_both (sym s.same_id.ensures ∙ c.if-same_id.true) in
-    looks_at _ _ _ _ x.near (omega (arith, width_least x.kind)) (eqb-true _ _ same.0) s.if-near-l.true (sym s.id_at.ensures ∙ eq_id_eq _ _ same.1)
+returns-then-same_id c =
+    let x = c.args in
+    let same = and_both (sym c.same_id.ensures ∙ c.if-same_id.true) in
+    looks_at _ _ _ _ x.near (omega (arith, width_least x.kind)) (eqb-true _ _ same.0) c.if-near-l.true (sym c.id_at.ensures ∙ eq_id_eq _ _ same.1)

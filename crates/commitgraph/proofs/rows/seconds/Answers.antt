@@ -13,10 +13,10 @@ use Rattle.commitgraph.proofs.rows.seconds.Goals as goal
 
 pub returns : goal.returns
 unfolding seconds_in
-returns c = let r = c in
-    let x = r.args in
+returns c =
+    let x = c.args in
     let w = width_of x.kind in
     let row = row_in w x.graph.now x.l x.p in
-    let high = field w 8 row (omega arith) c.be32.ensures r.numbers-part.ensures in
-    let low = field w 12 row (omega arith) c.be32-2.ensures r.numbers-part.ensures in
+    let high = field w 8 row (omega arith) c.be32.ensures c.numbers-part.ensures in
+    let low = field w 12 row (omega arith) c.be32-2.ensures c.numbers-part.ensures in
     to_z_pos w64 {n = c.wide-high.result * 4294967296 + c.wide-low.result} (search rules) ∙ ap pos (omega (arith, high, low))

@@ -19,7 +19,7 @@ returns-then-n-i c = let x = c.args in
     ∙ ap filled (sym (at_second x.head.now x.body.now x.i 64 c.if-n-i.true))
 
 pub overflow_sub-k : goal.overflow_sub-k
-overflow_sub-k c = let p = c in let x = p.args in rw p.part-x.ensures (length_at_le x.head.now x.i 64)
+overflow_sub-k c = let x = c.args in rw c.part-x.ensures (length_at_le x.head.now x.i 64)
 
 pub returns : goal.returns
 returns c = let x = c.args in

@@ -17,13 +17,13 @@ pub shape_of-line-then-n-k : goal.shape_of-line-then-n-k
 shape_of-line-then-n-k c = c.loop-k.invariant.1
 
 pub returns-then-n-k : goal.returns-then-n-k
-returns-then-n-k c = let l = c in l.loop-k.invariant.2 ∙ ap (λ (z : ℕ). cleared z l.args.line.now) (omega arith)
+returns-then-n-k c = c.loop-k.invariant.2 ∙ ap (λ (z : ℕ). cleared z c.args.line.now) (omega arith)
 
 pub loop-k-preserved : goal.loop-k-preserved
-loop-k-preserved c = let l = c in let o = l.args.line.now in (search rules, simp length-set l.loop-k.invariant.1, rw (l.loop-k.invariant.2, add-one) (cleared_more l.loop-k.k o (omega arith)))
+loop-k-preserved c = let o = c.args.line.now in (search rules, simp length-set c.loop-k.invariant.1, rw (c.loop-k.invariant.2, add-one) (cleared_more c.loop-k.k o (omega arith)))
 
 pub shape_of-line : goal.shape_of-line
 shape_of-line c = c.loop-k.invariant.1
 
 pub returns : goal.returns
-returns c = let l = c in l.loop-k.invariant.2 ∙ cleared-all l.loop-k.k l.args.n l.args.line.now (omega arith) (omega arith)
+returns c = c.loop-k.invariant.2 ∙ cleared-all c.loop-k.k c.args.n c.args.line.now (omega arith) (omega arith)

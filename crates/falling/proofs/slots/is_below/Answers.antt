@@ -5,9 +5,8 @@ use Rattle.falling.specs.Cells.{slot_pair}
 use Rattle.falling.proofs.slots.is_below.Goals as goal
 
 pub returns : goal.returns
-returns c = let a = c in
-    let b = a in
-    let x = b.args in
+returns c =
+    let x = c.args in
     c.less.ensures
-    ∙ ap (λ (p : Pair). lt_pair p (pair_of a.pair_of-2.result)) b.pair_of.ensures
-    ∙ ap (lt_pair (slot_pair x.levels.now x.times.now x.a)) a.pair_of-2.ensures
+    ∙ ap (λ (p : Pair). lt_pair p (pair_of c.pair_of-2.result)) c.pair_of.ensures
+    ∙ ap (lt_pair (slot_pair x.levels.now x.times.now x.a)) c.pair_of-2.ensures

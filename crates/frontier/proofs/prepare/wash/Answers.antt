@@ -21,7 +21,7 @@ shape_of-marks-then-cap-slot c = c.loop-slot.invariant.1
 
 -- src/prepare.rt:15:13
 pub returns-then-cap-slot : goal.returns-then-cap-slot
-returns-then-cap-slot c = let l = c in l.loop-slot.invariant.2 ∙ ap (λ (n : ℕ). washed n l.args.marks.now) (omega arith)
+returns-then-cap-slot c = c.loop-slot.invariant.2 ∙ ap (λ (n : ℕ). washed n c.args.marks.now) (omega arith)
 
 -- src/prepare.rt:17:23
 pub overflow_mul-marks : goal.overflow_mul-marks
@@ -29,9 +29,9 @@ overflow_mul-marks c = omega (arith, c.slice_known-1.given c.loop-slot.slot)
 
 -- src/prepare.rt:13:5
 pub loop-slot-preserved : goal.loop-slot-preserved
-loop-slot-preserved c = let l = c in
-    let o = l.args.marks.now in
-    (search rules, simp length-set l.loop-slot.invariant.1, rw (l.loop-slot.invariant.2, add-one) (washed-more l.loop-slot.slot o (omega arith)))
+loop-slot-preserved c =
+    let o = c.args.marks.now in
+    (search rules, simp length-set c.loop-slot.invariant.1, rw (c.loop-slot.invariant.2, add-one) (washed-more c.loop-slot.slot o (omega arith)))
 
 -- src/prepare.rt:9:1
 pub shape_of-marks : goal.shape_of-marks
@@ -39,4 +39,4 @@ shape_of-marks c = c.loop-slot.invariant.1
 
 -- src/prepare.rt:9:1
 pub returns : goal.returns
-returns c = let l = c in l.loop-slot.invariant.2 ∙ washed-all l.loop-slot.slot l.args.cap l.args.marks.now (omega arith) (omega arith)
+returns c = c.loop-slot.invariant.2 ∙ washed-all c.loop-slot.slot c.args.cap c.args.marks.now (omega arith) (omega arith)

@@ -1,46 +1,38 @@
--- `turns::turns` meets its contract: the memory reads as the painting after the turns that were taken, and once none is due more change nothing. The number of turns left falls. Assumes nothing.
--- HEAD-END
+-- `turns::turns` meets its contract: the memory reads as the painting after the turns that were taken, and once none is due more change nothing. Assumes nothing.
+use Rattle.std.proofs.lemmas.Result.{err_from_is_err_and}
+use mathlib.Core.Path.{sym, ◌∙◌}
 use native.Mathlib.Omega.{arith}
-use Rattle.frontier.proofs.TurnLaws.{taking_first, taking_next, taking_last, taking_left}
+use Rattle.frontier.proofs.TurnLaws.{taking_first, taking_next, taking_stop, taking_last}
 use Rattle.hash.specs.Bytes.{width_of}
 use Rattle.frontier.proofs.turns.turns.Goals as goal
 
--- src/turns.rt:98:5
-pub loop-due-init : goal.loop-due-init
-loop-due-init c = let x = c.args in taking_first (width_of x.kind) x.cache x.graph.now x.store.now x.cap _ _ x.most c.is_due-due.ensures
+pub loop-i-init : goal.loop-i-init
+loop-i-init c = let x = c.args in taking_first (width_of x.kind) x.cache x.graph.now x.store.now x.cap _ _
 
--- src/turns.rt:100:9
-pub overflow_sub-left : goal.overflow_sub-left
-overflow_sub-left c = omega (arith, taking_left c.loop-due.invariant c.loop-due-test.true)
+pub returns-then-not-any_lacking : goal.returns-then-not-any_lacking
+returns-then-not-any_lacking c = taking_last c.loop-i.invariant (omega arith) (λ z. sym c.any_lacking.ensures ∙ c.if-not-any_lacking.true)
 
--- src/turns.rt:98:5
-pub loop-due-smaller : goal.loop-due-smaller
-loop-due-smaller c = omega (arith, taking_left c.loop-due.invariant c.loop-due-test.true)
+pub returns-in_err-q : goal.returns-in_err-q
+returns-in_err-q c = let p = err_from_is_err_and c.from_residual.result c.from_residual.ensures.1 in
+    rw (p.1, p.2) (taking_stop c.loop-i.invariant c.loop-i-test.true (sym c.any_lacking.ensures ∙ c.if-not-any_lacking.false) c.in_err-q.ensures)
 
--- src/turns.rt:98:5
-pub loop-due-preserved : goal.loop-due-preserved
-loop-due-preserved c = taking_next c.loop-due.invariant c.loop-due-test.true (record { names = c.turn_next-r.auto.names; marks = c.turn_next-r.auto.marks; levels = c.turn_next-r.auto.levels; times = c.turn_next-r.auto.times; line = c.turn_next-r.auto.line }) c.turn_next-r.ensures c.is_due-due-in-loop-due.ensures
+pub loop-i-preserved : goal.loop-i-preserved
+loop-i-preserved c = taking_next c.loop-i.invariant (sym c.any_lacking.ensures ∙ c.if-not-any_lacking.false) (record { names = c.turn.auto.names; marks = c.turn.auto.marks; levels = c.turn.auto.levels; times = c.turn.auto.times; line = c.turn.auto.line }) c.in_ok-q.ensures
 
--- src/turns.rt:80:1
 pub shape_of-names : goal.shape_of-names
-shape_of-names c = c.loop-due.invariant.long.names
+shape_of-names c = c.loop-i.invariant.long.names
 
--- src/turns.rt:80:1
 pub shape_of-marks : goal.shape_of-marks
-shape_of-marks c = c.loop-due.invariant.long.marks
+shape_of-marks c = c.loop-i.invariant.long.marks
 
--- src/turns.rt:80:1
 pub shape_of-levels : goal.shape_of-levels
-shape_of-levels c = c.loop-due.invariant.long.levels
+shape_of-levels c = c.loop-i.invariant.long.levels
 
--- src/turns.rt:80:1
 pub shape_of-times : goal.shape_of-times
-shape_of-times c = c.loop-due.invariant.long.times
+shape_of-times c = c.loop-i.invariant.long.times
 
--- src/turns.rt:80:1
 pub shape_of-line : goal.shape_of-line
-shape_of-line c = c.loop-due.invariant.long.line
+shape_of-line c = c.loop-i.invariant.long.line
 
--- src/turns.rt:80:1
 pub returns : goal.returns
-returns c = taking_last c.loop-due.invariant c.loop-due-test.false
+returns c = taking_last c.loop-i.invariant (omega arith) (λ z. absurd (omega arith))

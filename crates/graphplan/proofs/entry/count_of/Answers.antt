@@ -11,9 +11,8 @@ use Rattle.graphplan.proofs.entry.count_of.Goals as goal
 
 pub returns : goal.returns
 unfolding lines_in
-returns c = let z = c in
-    let x = z.args in
+returns c = let x = c.args in
     let w = width_of x.kind in
     c.count_parents.ensures
-    ∙ ap (λ (y : List ℕ). length (parent_lines w most (drop z.tree_size.result y)).ids) z.entry_bytes.ensures
-    ∙ ap (λ (i : ℕ). length (parent_lines w most (drop i (entry_body w x.store.now x.k))).ids) z.tree_size.ensures.0
+    ∙ ap (λ (y : List ℕ). length (parent_lines w most (drop c.tree_size.result y)).ids) c.entry_bytes.ensures
+    ∙ ap (λ (i : ℕ). length (parent_lines w most (drop i (entry_body w x.store.now x.k))).ids) c.tree_size.ensures.0

@@ -13,6 +13,5 @@ pub overflow_add-o-3 : goal.overflow_add-o-3
 overflow_add-o-3 c = omega (arith, times-most c.width.result 32 c.args.n 1048576 c.width.ensures.2 c.requires.2, c.requires.1)
 
 pub returns : goal.returns
-returns c = let s = c in
-    let x = s.args in
-    front_laid x.out.now c.version.result (hash_version x.kind) c.width.result (width_of x.kind) x.chunks x.o x.n s.requires.0 c.set_down.ensures c.put_chunk.ensures c.put_chunk-2.ensures c.put_chunk-3.ensures c.version.ensures c.width.ensures.0
+returns c = let x = c.args in
+    front_laid x.out.now c.version.result (hash_version x.kind) c.width.result (width_of x.kind) x.chunks x.o x.n c.requires.0 c.set_down.ensures c.put_chunk.ensures c.put_chunk-2.ensures c.put_chunk-3.ensures c.version.ensures c.width.ensures.0

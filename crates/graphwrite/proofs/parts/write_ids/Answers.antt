@@ -13,35 +13,29 @@ use Rattle.graphplan.proofs.Wides.{wide-ids, id-part, ids-many}
 use Rattle.graphwrite.proofs.parts.write_ids.Goals as goal
 
 pub loop-k-init : goal.loop-k-init
-loop-k-init c = let s = c in let x = s.args in (omega arith, omega arith, refl, fill_none x.out.now x.from (ids_in (rows_of (width_of x.kind) x.store.now)) (omega (arith, s.requires.1)))
+loop-k-init c = let x = c.args in (omega arith, omega arith, refl, fill_none x.out.now x.from (ids_in (rows_of (width_of x.kind) x.store.now)) (omega (arith, c.requires.1)))
 
 pub overflow_add-p : goal.overflow_add-p
-overflow_add-p c = let l = c in
-    let s = l in
-    let x = s.args in
+overflow_add-p c = let x = c.args in
     let w = width_of x.kind in
     let t = c.loop-k-test.true in
-    let f : l.loop-k.p + l.width-w.result ≤ length x.out.now = omega (arith, l.loop-k.invariant.1, l.width-w.ensures.0, apart w t, s.requires.1) in
+    let f : c.loop-k.p + c.width-w.result ≤ length x.out.now = omega (arith, c.loop-k.invariant.1, c.width-w.ensures.0, apart w t, c.requires.1) in
     search rules
 
 pub loop-k-preserved : goal.loop-k-preserved
-loop-k-preserved c = let l = c in
-    let s = l in
-    let x = s.args in
+loop-k-preserved c = let x = c.args in
     let w = width_of x.kind in
     let t = c.loop-k-test.true in
-    let g = ids-many w x.store.now x.n s.requires.0 in (
+    let g = ids-many w x.store.now x.n c.requires.0 in (
       omega arith,
-      omega (arith, l.loop-k.invariant.1, l.width-w.ensures.0),
-      c.set_down.auto.out ∙ l.loop-k.invariant.2,
-      fill_next w l.loop-k.p _ (wide-ids w x.store.now x.n s.requires.0) (omega (arith, g)) (omega (arith, ap (λ (y : ℕ). w * y) g, s.requires.1)) l.loop-k.invariant.3 c.set_down.ensures l.loop-k.invariant.1 (c.entry_id.ensures ∙ id-part w x.store.now x.n s.requires.0 l.loop-k.k t),
+      omega (arith, c.loop-k.invariant.1, c.width-w.ensures.0),
+      c.set_down.auto.out ∙ c.loop-k.invariant.2,
+      fill_next w c.loop-k.p _ (wide-ids w x.store.now x.n c.requires.0) (omega (arith, g)) (omega (arith, ap (λ (y : ℕ). w * y) g, c.requires.1)) c.loop-k.invariant.3 c.set_down.ensures c.loop-k.invariant.1 (c.entry_id.ensures ∙ id-part w x.store.now x.n c.requires.0 c.loop-k.k t),
     )
 
 pub shape_of-out : goal.shape_of-out
 shape_of-out c = c.loop-k.invariant.2
 
 pub returns : goal.returns
-returns c = let l = c in
-    let s = l in
-    let x = s.args in
-    fill_all l.loop-k.invariant.3 (omega (arith, ids-many (width_of x.kind) x.store.now x.n s.requires.0, c.loop-k-test.false))
+returns c = let x = c.args in
+    fill_all c.loop-k.invariant.3 (omega (arith, ids-many (width_of x.kind) x.store.now x.n c.requires.0, c.loop-k-test.false))

@@ -10,16 +10,13 @@ use Rattle.graphbytes.proofs.Lists.{edge_last, edge_more}
 use Rattle.graphwrite.proofs.rows.edge_of.Goals as goal
 
 pub overflow_add-result : goal.overflow_add-result
-overflow_add-result c = let s = c in
-    let x = s.args in
-    omega (arith, number_read (width_of x.kind) x.store.now x.n x.k s.requires.0 s.requires.1 x.j c.parent_at-v.result (omega (arith, s.requires.2, s.requires.5)) c.parent_at-v.ensures, number-low (width_of x.kind) x.store.now x.n x.k s.requires.0 s.requires.1 x.j (omega (arith, s.requires.2, s.requires.5)), s.requires.0.many, few-entries (width_of x.kind) x.store.now (width_least x.kind) s.requires.0.small)
+overflow_add-result c = let x = c.args in
+    omega (arith, number_read (width_of x.kind) x.store.now x.n x.k c.requires.0 c.requires.1 x.j c.parent_at-v.result (omega (arith, c.requires.2, c.requires.5)) c.parent_at-v.ensures, number-low (width_of x.kind) x.store.now x.n x.k c.requires.0 c.requires.1 x.j (omega (arith, c.requires.2, c.requires.5)), c.requires.0.many, few-entries (width_of x.kind) x.store.now (width_least x.kind) c.requires.0.small)
 
 pub returns-then-j-c : goal.returns-then-j-c
-returns-then-j-c c = let s = c in
-    let x = s.args in
-    edge_last (row_of (width_of x.kind) x.store.now x.k).parents x.j c.parent_at-v.result (omega (arith, s.requires.2, s.requires.3)) s.requires.4 (omega (arith, s.requires.2, s.requires.5)) (c.if-j-c.true ∙ s.requires.2) (number_read (width_of x.kind) x.store.now x.n x.k s.requires.0 s.requires.1 x.j c.parent_at-v.result (omega (arith, s.requires.2, s.requires.5)) c.parent_at-v.ensures)
+returns-then-j-c c = let x = c.args in
+    edge_last (row_of (width_of x.kind) x.store.now x.k).parents x.j c.parent_at-v.result (omega (arith, c.requires.2, c.requires.3)) c.requires.4 (omega (arith, c.requires.2, c.requires.5)) (c.if-j-c.true ∙ c.requires.2) (number_read (width_of x.kind) x.store.now x.n x.k c.requires.0 c.requires.1 x.j c.parent_at-v.result (omega (arith, c.requires.2, c.requires.5)) c.parent_at-v.ensures)
 
 pub returns : goal.returns
-returns c = let s = c in
-    let x = s.args in
-    edge_more (row_of (width_of x.kind) x.store.now x.k).parents x.j c.parent_at-v.result (omega (arith, s.requires.2, s.requires.3)) s.requires.4 (omega (arith, s.requires.2, s.requires.5)) (λ z. c.if-j-c.false (z ∙ sym s.requires.2)) (number_read (width_of x.kind) x.store.now x.n x.k s.requires.0 s.requires.1 x.j c.parent_at-v.result (omega (arith, s.requires.2, s.requires.5)) c.parent_at-v.ensures)
+returns c = let x = c.args in
+    edge_more (row_of (width_of x.kind) x.store.now x.k).parents x.j c.parent_at-v.result (omega (arith, c.requires.2, c.requires.3)) c.requires.4 (omega (arith, c.requires.2, c.requires.5)) (λ z. c.if-j-c.false (z ∙ sym c.requires.2)) (number_read (width_of x.kind) x.store.now x.n x.k c.requires.0 c.requires.1 x.j c.parent_at-v.result (omega (arith, c.requires.2, c.requires.5)) c.parent_at-v.ensures)

@@ -10,11 +10,10 @@ use Rattle.graphbytes.proofs.Lists.{first-none, first_some}
 use Rattle.graphwrite.proofs.rows.first_of.Goals as goal
 
 pub returns-then-c-eq0 : goal.returns-then-c-eq0
-returns-then-c-eq0 c = let s = c in let x = s.args in first-none (row_of (width_of x.kind) x.store.now x.k).parents (sym s.requires.2 ∙ c.if-c-eq0.true)
+returns-then-c-eq0 c = let x = c.args in first-none (row_of (width_of x.kind) x.store.now x.k).parents (sym c.requires.2 ∙ c.if-c-eq0.true)
 
 pub returns : goal.returns
-returns c = let s = c in
-    let x = s.args in
+returns c = let x = c.args in
     let ps = (row_of (width_of x.kind) x.store.now x.k).parents in
-    let z : 0 < length ps = omega (arith, s.requires.2, c.if-c-eq0.false) in
-    number_read (width_of x.kind) x.store.now x.n x.k s.requires.0 s.requires.1 0 c.parent_at.result z c.parent_at.ensures ∙ first_some ps z
+    let z : 0 < length ps = omega (arith, c.requires.2, c.if-c-eq0.false) in
+    number_read (width_of x.kind) x.store.now x.n x.k c.requires.0 c.requires.1 0 c.parent_at.result z c.parent_at.ensures ∙ first_some ps z

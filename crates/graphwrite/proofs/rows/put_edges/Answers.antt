@@ -14,58 +14,49 @@ use Rattle.graphbytes.proofs.Lists.{edges_none, edges-long}
 use Rattle.graphwrite.proofs.rows.put_edges.Goals as goal
 
 pub returns-then-c-le2 : goal.returns-then-c-le2
-returns-then-c-le2 c = let s = c in
-    let x = s.args in
+returns-then-c-le2 c = let x = c.args in
     let d : c.count_of-c.result ≡ length (row_of (width_of x.kind) x.store.now x.k).parents = c.count_of-c.ensures ∙ sym (parents-count (width_of x.kind) x.store.now x.k) in
-    edges_none x.out.now x.p (row_of (width_of x.kind) x.store.now x.k).parents (omega (arith, d, c.if-c-le2.true)) (omega (arith, s.requires.2))
+    edges_none x.out.now x.p (row_of (width_of x.kind) x.store.now x.k).parents (omega (arith, d, c.if-c-le2.true)) (omega (arith, c.requires.2))
 
 pub loop-j-init : goal.loop-j-init
-loop-j-init c = let s = c in let x = s.args in (omega arith, omega (arith, c.if-c-le2.false), omega arith, refl, fill_none x.out.now x.p (words (edges_of (row_of (width_of x.kind) x.store.now x.k).parents)) (omega (arith, s.requires.2)))
+loop-j-init c = let x = c.args in (omega arith, omega (arith, c.if-c-le2.false), omega arith, refl, fill_none x.out.now x.p (words (edges_of (row_of (width_of x.kind) x.store.now x.k).parents)) (omega (arith, c.requires.2)))
 
 pub edge_of-requires : goal.edge_of-requires
-edge_of-requires c = let l = c in
-    let s = c in
-    let x = s.args in
+edge_of-requires c = let x = c.args in
     let ps = (row_of (width_of x.kind) x.store.now x.k).parents in
     let d : c.count_of-c.result ≡ length ps = c.count_of-c.ensures ∙ sym (parents-count (width_of x.kind) x.store.now x.k) in
-    (s.requires.0, s.requires.1, d, c.if-c-le2.false, l.loop-j.invariant.0, c.loop-j-test.true)
+    (c.requires.0, c.requires.1, d, c.if-c-le2.false, c.loop-j.invariant.0, c.loop-j-test.true)
 
 pub overflow_add-q : goal.overflow_add-q
-overflow_add-q c = let l = c in
-    let s = c in
-    let x = s.args in
+overflow_add-q c = let x = c.args in
     let ps = (row_of (width_of x.kind) x.store.now x.k).parents in
     let d : c.count_of-c.result ≡ length ps = c.count_of-c.ensures ∙ sym (parents-count (width_of x.kind) x.store.now x.k) in
     let g = edges-long ps (omega (arith, d, c.if-c-le2.false)) in
-    let f : l.loop-j.q + 4 ≤ length x.out.now = omega (arith, l.loop-j.invariant.0, l.loop-j.invariant.2, g, d, s.requires.2, c.loop-j-test.true) in
+    let f : c.loop-j.q + 4 ≤ length x.out.now = omega (arith, c.loop-j.invariant.0, c.loop-j.invariant.2, g, d, c.requires.2, c.loop-j-test.true) in
     search rules
 
 pub loop-j-preserved : goal.loop-j-preserved
-loop-j-preserved c = let l = c in
-    let s = c in
-    let x = s.args in
+loop-j-preserved c = let x = c.args in
     let ps = (row_of (width_of x.kind) x.store.now x.k).parents in
     let d : c.count_of-c.result ≡ length ps = c.count_of-c.ensures ∙ sym (parents-count (width_of x.kind) x.store.now x.k) in
     let t = c.loop-j-test.true in
     let g = edges-long ps (omega (arith, d, c.if-c-le2.false)) in
     let n = length_words (edges_of ps) in
-    let i : l.loop-j.j - 1 < length (edges_of ps) = omega (arith, l.loop-j.invariant.0, g, d, t) in (
+    let i : c.loop-j.j - 1 < length (edges_of ps) = omega (arith, c.loop-j.invariant.0, g, d, t) in (
       omega arith,
       omega (arith, t),
-      omega (arith, l.loop-j.invariant.0, l.loop-j.invariant.2),
-      c.put_word.auto.out ∙ l.loop-j.invariant.3,
-      fill_step 4 l.loop-j.q _ (wide-words (edges_of ps)) (omega (arith, i, n)) (omega (arith, n, s.requires.2)) l.loop-j.invariant.4 c.put_word.ensures l.loop-j.invariant.2 (ap u32 c.edge_of.ensures ∙ sym (nth_words (edges_of ps) (l.loop-j.j - 1) i)) (omega (arith, l.loop-j.invariant.0)),
+      omega (arith, c.loop-j.invariant.0, c.loop-j.invariant.2),
+      c.put_word.auto.out ∙ c.loop-j.invariant.3,
+      fill_step 4 c.loop-j.q _ (wide-words (edges_of ps)) (omega (arith, i, n)) (omega (arith, n, c.requires.2)) c.loop-j.invariant.4 c.put_word.ensures c.loop-j.invariant.2 (ap u32 c.edge_of.ensures ∙ sym (nth_words (edges_of ps) (c.loop-j.j - 1) i)) (omega (arith, c.loop-j.invariant.0)),
     )
 
 pub shape_of-out : goal.shape_of-out
 shape_of-out c = c.loop-j.invariant.3
 
 pub returns : goal.returns
-returns c = let l = c in
-    let s = c in
-    let x = s.args in
+returns c = let x = c.args in
     let ps = (row_of (width_of x.kind) x.store.now x.k).parents in
     let d : c.count_of-c.result ≡ length ps = c.count_of-c.ensures ∙ sym (parents-count (width_of x.kind) x.store.now x.k) in
     let g = edges-long ps (omega (arith, d, c.if-c-le2.false)) in
     let n = length_words (edges_of ps) in
-    (fill_all l.loop-j.invariant.4 (omega (arith, n, g, d, c.loop-j-test.false)), omega (arith, l.loop-j.invariant.2, l.loop-j.invariant.1, g, d, c.loop-j-test.false))
+    (fill_all c.loop-j.invariant.4 (omega (arith, n, g, d, c.loop-j-test.false)), omega (arith, c.loop-j.invariant.2, c.loop-j.invariant.1, g, d, c.loop-j-test.false))

@@ -21,52 +21,42 @@ use Rattle.graphplan.proofs.StoreLinks.{edges_step}
 use Rattle.graphwrite.proofs.rows.write_rows.Goals as goal
 
 pub loop-k-init : goal.loop-k-init
-loop-k-init c = let s = c in let x = s.args in let rs = rows_of (width_of x.kind) x.store.now in (omega arith, omega arith, sym (edges_before_none rs), refl, fill_none x.out.now x.from (data_from 0 rs) (omega (arith, s.requires.2)))
+loop-k-init c = let x = c.args in let rs = rows_of (width_of x.kind) x.store.now in (omega arith, omega arith, sym (edges_before_none rs), refl, fill_none x.out.now x.from (data_from 0 rs) (omega (arith, c.requires.2)))
 
 pub put_row-e-requires : goal.put_row-e-requires
-put_row-e-requires c = let l = c in
-    let s = c in
-    let x = s.args in
+put_row-e-requires c = let x = c.args in
     let w = width_of x.kind in
     let t = c.loop-k-test.true in
-    (s.requires.0, s.requires.1, t, omega (arith, edges-up_to w x.store.now l.loop-k.k (omega (arith, l.loop-k.invariant.0, s.requires.0.many)), edges_few w x.store.now l.loop-k.k, few-entries w x.store.now (width_least x.kind) s.requires.0.small, s.requires.0.many, l.loop-k.invariant.2, t), omega (arith, l.loop-k.invariant.1, l.loop-k.invariant.3, apart (row_size w) t, s.requires.2))
+    (c.requires.0, c.requires.1, t, omega (arith, edges-up_to w x.store.now c.loop-k.k (omega (arith, c.loop-k.invariant.0, c.requires.0.many)), edges_few w x.store.now c.loop-k.k, few-entries w x.store.now (width_least x.kind) c.requires.0.small, c.requires.0.many, c.loop-k.invariant.2, t), omega (arith, c.loop-k.invariant.1, c.loop-k.invariant.3, apart (row_size w) t, c.requires.2))
 
 pub overflow_add-e : goal.overflow_add-e
-overflow_add-e c = let l = c in
-    let s = c in
-    let x = s.args in
+overflow_add-e c = let x = c.args in
     let w = width_of x.kind in
-    omega (arith, edges-up_to w x.store.now l.loop-k.k (omega (arith, l.loop-k.invariant.0, s.requires.0.many)), edges_few w x.store.now l.loop-k.k, few-entries w x.store.now (width_least x.kind) s.requires.0.small, s.requires.0.many, l.loop-k.invariant.2, c.put_row-e.ensures.1, entry-edges w x.store.now l.loop-k.k, count-few (length (lines_in w (entry_body w x.store.now l.loop-k.k)).ids) (lines_few w (entry_body w x.store.now l.loop-k.k)))
+    omega (arith, edges-up_to w x.store.now c.loop-k.k (omega (arith, c.loop-k.invariant.0, c.requires.0.many)), edges_few w x.store.now c.loop-k.k, few-entries w x.store.now (width_least x.kind) c.requires.0.small, c.requires.0.many, c.loop-k.invariant.2, c.put_row-e.ensures.1, entry-edges w x.store.now c.loop-k.k, count-few (length (lines_in w (entry_body w x.store.now c.loop-k.k)).ids) (lines_few w (entry_body w x.store.now c.loop-k.k)))
 
 pub overflow_add-p : goal.overflow_add-p
-overflow_add-p c = let l = c in
-    let s = c in
-    let x = s.args in
+overflow_add-p c = let x = c.args in
     let w = width_of x.kind in
     let t = c.loop-k-test.true in
-    let f : l.loop-k.p + (l.width-size.result + 16) ≤ length x.out.now = omega (arith, l.loop-k.invariant.1, l.width-size.ensures.0, apart (row_size w) t, s.requires.2) in
+    let f : c.loop-k.p + (c.width-size.result + 16) ≤ length x.out.now = omega (arith, c.loop-k.invariant.1, c.width-size.ensures.0, apart (row_size w) t, c.requires.2) in
     search rules
 
 pub loop-k-preserved : goal.loop-k-preserved
-loop-k-preserved c = let l = c in
-    let s = c in
-    let x = s.args in
+loop-k-preserved c = let x = c.args in
     let w = width_of x.kind in
     let t = c.loop-k-test.true in
-    let g = data-many w x.store.now x.n s.requires.0 in (
+    let g = data-many w x.store.now x.n c.requires.0 in (
       omega arith,
-      omega (arith, l.loop-k.invariant.1, l.width-size.ensures.0),
-      edges_step w x.store.now x.n l.loop-k.k l.loop-k.e c.put_row-e.result s.requires.0 t l.loop-k.invariant.2 c.put_row-e.ensures.1,
-      c.put_row-e.auto.out ∙ l.loop-k.invariant.3,
-      fill_next (row_size w) l.loop-k.p _ (wide-data w x.store.now x.n s.requires.0) (omega (arith, g)) (omega (arith, ap (λ (y : ℕ). row_size w * y) g, s.requires.2)) l.loop-k.invariant.4 c.put_row-e.ensures.0 l.loop-k.invariant.1 (ap (λ (z : ℕ). row_bytes z (row_of w x.store.now l.loop-k.k)) l.loop-k.invariant.2 ∙ data-part w x.store.now x.n s.requires.0 l.loop-k.k t),
+      omega (arith, c.loop-k.invariant.1, c.width-size.ensures.0),
+      edges_step w x.store.now x.n c.loop-k.k c.loop-k.e c.put_row-e.result c.requires.0 t c.loop-k.invariant.2 c.put_row-e.ensures.1,
+      c.put_row-e.auto.out ∙ c.loop-k.invariant.3,
+      fill_next (row_size w) c.loop-k.p _ (wide-data w x.store.now x.n c.requires.0) (omega (arith, g)) (omega (arith, ap (λ (y : ℕ). row_size w * y) g, c.requires.2)) c.loop-k.invariant.4 c.put_row-e.ensures.0 c.loop-k.invariant.1 (ap (λ (z : ℕ). row_bytes z (row_of w x.store.now c.loop-k.k)) c.loop-k.invariant.2 ∙ data-part w x.store.now x.n c.requires.0 c.loop-k.k t),
     )
 
 pub shape_of-out : goal.shape_of-out
 shape_of-out c = c.loop-k.invariant.3
 
 pub returns : goal.returns
-returns c = let l = c in
-    let s = c in
-    let x = s.args in
+returns c = let x = c.args in
     let w = width_of x.kind in
-    fill_all l.loop-k.invariant.4 (omega (arith, data-many w x.store.now x.n s.requires.0, c.loop-k-test.false))
+    fill_all c.loop-k.invariant.4 (omega (arith, data-many w x.store.now x.n c.requires.0, c.loop-k-test.false))

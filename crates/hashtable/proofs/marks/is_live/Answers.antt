@@ -11,16 +11,14 @@ returns-then-not-painted c = rw c.if-not-painted.true
 
 pub returns-then-has_seen : goal.returns-then-has_seen
 unfolding live
-returns-then-has_seen c = let s = c in rw (c.if-not-painted.false, sym c.has_seen.ensures ∙ c.if-has_seen.true)
+returns-then-has_seen c = rw (c.if-not-painted.false, sym c.has_seen.ensures ∙ c.if-has_seen.true)
 
 pub returns-then-has_visible : goal.returns-then-has_visible
 unfolding live frontier
-returns-then-has_visible c = let b = c in
-    let s = b in
-    rw (b.if-not-painted.false, sym b.has_seen.ensures ∙ b.if-has_seen.false, sym b.has_visible.ensures ∙ c.if-has_visible.true) c.has_hidden.ensures
+returns-then-has_visible c =
+    rw (c.if-not-painted.false, sym c.has_seen.ensures ∙ c.if-has_seen.false, sym c.has_visible.ensures ∙ c.if-has_visible.true) c.has_hidden.ensures
 
 pub returns : goal.returns
 unfolding live frontier
-returns c = let b = c in
-    let s = b in
-    rw (b.if-not-painted.false, sym b.has_seen.ensures ∙ b.if-has_seen.false, sym b.has_visible.ensures ∙ c.if-has_visible.false)
+returns c =
+    rw (c.if-not-painted.false, sym c.has_seen.ensures ∙ c.if-has_seen.false, sym c.has_visible.ensures ∙ c.if-has_visible.false)

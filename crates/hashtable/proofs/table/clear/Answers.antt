@@ -17,15 +17,15 @@ pub shape_of-marks-then-cap-slot : goal.shape_of-marks-then-cap-slot
 shape_of-marks-then-cap-slot c = c.loop-slot.invariant.1
 
 pub returns-then-cap-slot : goal.returns-then-cap-slot
-returns-then-cap-slot c = let l = c in l.loop-slot.invariant.2 ∙ ap (λ (n : ℕ). cleared n l.args.marks.now) (omega arith)
+returns-then-cap-slot c = c.loop-slot.invariant.2 ∙ ap (λ (n : ℕ). cleared n c.args.marks.now) (omega arith)
 
 pub loop-slot-preserved : goal.loop-slot-preserved
-loop-slot-preserved c = let l = c in
-    let o = l.args.marks.now in
-    (search rules, simp length-set l.loop-slot.invariant.1, rw (l.loop-slot.invariant.2, add-one) (cleared_more l.loop-slot.slot o (omega arith)))
+loop-slot-preserved c =
+    let o = c.args.marks.now in
+    (search rules, simp length-set c.loop-slot.invariant.1, rw (c.loop-slot.invariant.2, add-one) (cleared_more c.loop-slot.slot o (omega arith)))
 
 pub shape_of-marks : goal.shape_of-marks
 shape_of-marks c = c.loop-slot.invariant.1
 
 pub returns : goal.returns
-returns c = let l = c in l.loop-slot.invariant.2 ∙ cleared-all l.loop-slot.slot l.args.cap l.args.marks.now (omega arith) (omega arith)
+returns c = c.loop-slot.invariant.2 ∙ cleared-all c.loop-slot.slot c.args.cap c.args.marks.now (omega arith) (omega arith)

@@ -25,46 +25,41 @@ pub loop-i-init : goal.loop-i-init
 loop-i-init c = record { low = search rules; sizes = c.has_sizes.ensures.yes c.if-not-has_sizes.false; home = c.home-h.ensures.0; tried = untried _ _ _ _ _ _ }
 
 pub returns-then-m-eq0 : goal.returns-then-m-eq0
-returns-then-m-eq0 c = let a = c in
-    let v = a.loop-i.invariant in
-    rw c.first_of.ensures (at-empty a.loop-i.i v.tried v.sizes a.around-k.result (told v a.around-k.ensures.0) (search rules) c.if-m-eq0.true)
+returns-then-m-eq0 c =
+    let v = c.loop-i.invariant in
+    rw c.first_of.ensures (at-empty c.loop-i.i v.tried v.sizes c.around-k.result (told v c.around-k.ensures.0) (search rules) c.if-m-eq0.true)
 
 -- the slot's bytes stand in names
 room : (w z k cap n : ℕ) → z ≡ w → k < cap → w * cap ≤ n → z * k + w ≤ n
 room w z k cap n e h l = omega (arith, ap (λ (y : ℕ). y * k) e, apart w {j = k} {k = cap} h)
 
 pub overflow_mul-width : goal.overflow_mul-width
-overflow_mul-width c = let a = c in
-    let l = a in
-    let x = l.args in
-    let h = room (width_of x.kind) c.width.result a.around-k.result x.cap (length x.names.now) c.width.ensures.0 a.around-k.ensures.1 l.loop-i.invariant.sizes.fits.for_names in
-    record { fits = omega (arith, h, l.well_formed.1.0.0) }
+overflow_mul-width c =
+    let x = c.args in
+    let h = room (width_of x.kind) c.width.result c.around-k.result x.cap (length x.names.now) c.width.ensures.0 c.around-k.ensures.1 c.loop-i.invariant.sizes.fits.for_names in
+    record { fits = omega (arith, h, c.well_formed.1.0.0) }
 
 pub same_at-requires : goal.same_at-requires
-same_at-requires c = let a = c in
-    let l = a in
-    let x = l.args in
-    (room (width_of x.kind) c.width.result a.around-k.result x.cap (length x.names.now) c.width.ensures.0 a.around-k.ensures.1 l.loop-i.invariant.sizes.fits.for_names, l.loop-i.invariant.sizes.width)
+same_at-requires c =
+    let x = c.args in
+    (room (width_of x.kind) c.width.result c.around-k.result x.cap (length x.names.now) c.width.ensures.0 c.around-k.ensures.1 c.loop-i.invariant.sizes.fits.for_names, c.loop-i.invariant.sizes.width)
 
 pub returns-then-same_at : goal.returns-then-same_at
-returns-then-same_at c = let m = c in
-    let a = m in
-    let v = a.loop-i.invariant in
-    at-found a.loop-i.i v.tried v.sizes a.around-k.result a.around-k.ensures.1 (sym m.is_live.ensures ∙ c.if-is_live.true) (stands _ _ _ a.around-k.result _ c.width.ensures.0 (c.same_at.ensures.yes c.if-same_at.true))
+returns-then-same_at c =
+    let v = c.loop-i.invariant in
+    at-found c.loop-i.i v.tried v.sizes c.around-k.result c.around-k.ensures.1 (sym c.is_live.ensures ∙ c.if-is_live.true) (stands _ _ _ c.around-k.result _ c.width.ensures.0 (c.same_at.ensures.yes c.if-same_at.true))
 
 pub loop-i-preserved : goal.loop-i-preserved
-loop-i-preserved c = let m = c in
-    let a = m in
-    let l = a in
-    let v = l.loop-i.invariant in
-    let k = told v a.around-k.ensures.0 in
+loop-i-preserved c =
+    let v = c.loop-i.invariant in
+    let k = told v c.around-k.ensures.0 in
     record {
       low = search rules;
       sizes = v.sizes;
       home = v.home;
       tried = ⊎_elim
-          (λ w. rw w.spare-is (passed l.loop-i.i v.tried a.around-k.result k (sym m.is_live.ensures ∙ w.if-is_live.true) (λ e. w.same_at.ensures.not w.if-same_at.false (stands_so _ _ _ a.around-k.result _ w.width.ensures.0 e))))
-          (λ w. rw (w.spare-is ∙ w.first_of-spare.ensures) (remembered l.loop-i.i v.tried a.around-k.result k (search rules) (not_0_live _ m.if-m-eq0.false) (sym m.is_live.ensures ∙ w.if-is_live.false)))
+          (λ w. rw w.spare-is (passed c.loop-i.i v.tried c.around-k.result k (sym c.is_live.ensures ∙ w.if-is_live.true) (λ e. w.same_at.ensures.not w.if-same_at.false (stands_so _ _ _ c.around-k.result _ w.width.ensures.0 e))))
+          (λ w. rw (w.spare-is ∙ w.first_of-spare.ensures) (remembered c.loop-i.i v.tried c.around-k.result k (search rules) (not_0_live _ c.if-m-eq0.false) (sym c.is_live.ensures ∙ w.if-is_live.false)))
           c.if-is_live.branch-raw;
     }
 

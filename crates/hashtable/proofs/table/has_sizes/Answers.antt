@@ -19,14 +19,14 @@ pub returns-then-marks-cap : goal.returns-then-marks-cap
 returns-then-marks-cap c = decided-no (λ s. omega (arith, s.fits.for_marks))
 
 pub returns : goal.returns
-returns c = let t = c in
-    let x = t.args in
+returns c =
+    let x = c.args in
     let p : 0 < width_of x.kind = omega (arith, width_least x.kind) in
     rw c.ids_in.ensures
     (decided_le x.cap (length x.names.now / width_of x.kind)
     (λ e. record {
       some-slot = omega arith;
-      width = t.if-id-width.false ∙ t.width.ensures.0;
+      width = c.if-id-width.false ∙ c.width.ensures.0;
       fits = record { for_marks = omega arith; for_names = ids-fit (width_of x.kind) (length x.names.now) x.cap p e };
     })
     (λ s. fit-ids (width_of x.kind) (length x.names.now) x.cap p s.fits.for_names))

@@ -8,5 +8,5 @@ use Rattle.hashtable.proofs.table.home.Goals as goal
 
 pub returns : goal.returns
 unfolding home_of
-returns c = let s = c in
-    (ap (λ (n : ℕ). n % s.args.cap) (c.wide.ensures ∙ c.be32.ensures), mod-lt c.wide.result s.requires)
+returns c =
+    (ap (λ (n : ℕ). n % c.args.cap) (c.wide.ensures ∙ c.be32.ensures), mod-lt c.wide.result c.requires)

@@ -16,5 +16,5 @@ pub returns-in-Full : goal.returns-in-Full
 returns-in-Full c = as-full c.find_slot-r.ensures _ c.in-Full.is
 
 pub returns-in-Vacant : goal.returns-in-Vacant
-returns-in-Vacant c = let m = c in
-    as-vacant m.find_slot-r.ensures _ m.in-Vacant.is c.set_nth.ensures
+returns-in-Vacant c =
+    as-vacant c.find_slot-r.ensures _ c.in-Vacant.is c.set_nth.ensures

@@ -10,25 +10,25 @@ use borrow.Author.Rules.{rules}
 use Rattle.hashtable.proofs.words.same_at.Goals as goal
 
 pub same_start-requires : goal.same_start-requires
-same_start-requires c = let s = c in let x = s.args in (omega (arith, s.requires.0, width_least x.kind), omega (arith, s.requires.1, width_least x.kind))
+same_start-requires c = let x = c.args in (omega (arith, c.requires.0, width_least x.kind), omega (arith, c.requires.1, width_least x.kind))
 
 pub returns-then-not-same_start : goal.returns-then-not-same_start
-returns-then-not-same_start c = let s = c in
-    let x = s.args in
+returns-then-not-same_start c =
+    let x = c.args in
     record { yes = λ e. clash e refl; not = λ _ f. c.same_start.ensures.not c.if-not-same_start.true (start_of_lem x.names.now x.i x.id.now (width_of x.kind) (width_least x.kind) f) }
 
 pub same_rest-requires : goal.same_rest-requires
-same_rest-requires c = let s = c in (omega (arith, s.requires.0, width_256 c.in-Sha256.is), omega (arith, s.requires.1, width_256 c.in-Sha256.is))
+same_rest-requires c = (omega (arith, c.requires.0, width_256 c.in-Sha256.is), omega (arith, c.requires.1, width_256 c.in-Sha256.is))
 
 pub returns-in-Sha1 : goal.returns-in-Sha1
-returns-in-Sha1 c = let s = c in
-    let x = s.args in
-    record { yes = λ e. by-start x.names.now x.i x.id.now (width_of x.kind) (width_1 c.in-Sha1.is) s.requires.0 s.requires.1 (c.same_start.ensures.yes c.if-not-same_start.false); not = λ e. clash refl e }
+returns-in-Sha1 c =
+    let x = c.args in
+    record { yes = λ e. by-start x.names.now x.i x.id.now (width_of x.kind) (width_1 c.in-Sha1.is) c.requires.0 c.requires.1 (c.same_start.ensures.yes c.if-not-same_start.false); not = λ e. clash refl e }
 
 pub returns-in-Sha256 : goal.returns-in-Sha256
-returns-in-Sha256 c = let s = c in
-    let x = s.args in
+returns-in-Sha256 c =
+    let x = c.args in
     record {
-      yes = λ e. by-rest x.names.now x.i x.id.now (width_of x.kind) (width_256 c.in-Sha256.is) s.requires.0 s.requires.1 (c.same_start.ensures.yes c.if-not-same_start.false) (c.same_rest.ensures.yes e);
+      yes = λ e. by-rest x.names.now x.i x.id.now (width_of x.kind) (width_256 c.in-Sha256.is) c.requires.0 c.requires.1 (c.same_start.ensures.yes c.if-not-same_start.false) (c.same_rest.ensures.yes e);
       not = λ e f. c.same_rest.ensures.not e (rest_of x.names.now x.i x.id.now (width_of x.kind) (width_256 c.in-Sha256.is) f);
     }

@@ -9,18 +9,18 @@ use borrow.Author.Rules.{rules}
 use Rattle.hashtable.proofs.words.same_start.Goals as goal
 
 pub returns-then-word : goal.returns-then-word
-returns-then-word c = let s = c in
-    let x = s.args in
+returns-then-word c =
+    let x = c.args in
     record { yes = λ e. clash e refl; not = λ _ f. c.if-word.true (c.word.ensures ∙ agree_u64 x.names.now x.i x.id.now 0 (λ m h. f m (omega arith)) ∙ sym c.word-2.ensures) }
 
 pub returns-then-word-2 : goal.returns-then-word-2
-returns-then-word-2 c = let s = c in
-    let x = s.args in
+returns-then-word-2 c =
+    let x = c.args in
     record { yes = λ e. clash e refl; not = λ _ f. c.if-word-2.true (c.word-3.ensures ∙ agree_u64 x.names.now (x.i + 8) x.id.now 8 (agree_less x.names.now x.i x.id.now 0 8 20 8 (omega arith) f) ∙ sym c.word-4.ensures) }
 
 pub returns : goal.returns
-returns c = let s = c in
-    let x = s.args in
+returns c =
+    let x = c.args in
     record {
       yes = λ e. agree-20 x.names.now x.i x.id.now (λ n. omega (arith, c.shared_slice_known-1.given n)) (λ n. omega (arith, c.shared_slice_known-2-1.given n))
           (sym c.word.ensures ∙ c.if-word.false ∙ c.word-2.ensures)

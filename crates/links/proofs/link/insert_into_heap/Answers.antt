@@ -4,7 +4,7 @@ use Rattle.links.proofs.Links.{enters-admitted, enters-turned}
 use Rattle.links.proofs.link.insert_into_heap.Goals as goal
 
 pub returns-then-admits : goal.returns-then-admits
-returns-then-admits c = let a = c in λ r. enters-admitted a.admits.ensures c.if-admits.true (c.lengthen_heap.ensures.own a.requires r)
+returns-then-admits c = λ r. enters-admitted c.admits.ensures c.if-admits.true (c.lengthen_heap.ensures.own c.requires r)
 
 pub returns : goal.returns
 returns c = λ r. enters-turned c.admits.ensures c.if-admits.false

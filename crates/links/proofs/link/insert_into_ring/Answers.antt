@@ -5,7 +5,7 @@ use Rattle.links.proofs.Links.{enters-admitted, enters-turned}
 use Rattle.links.proofs.link.insert_into_ring.Goals as goal
 
 pub returns-then-admits : goal.returns-then-admits
-returns-then-admits c = let a = c in λ r. enters-admitted a.admits.ensures c.if-admits.true (c.lengthen_ring.ensures.own a.requires r (pos 0))
+returns-then-admits c = λ r. enters-admitted c.admits.ensures c.if-admits.true (c.lengthen_ring.ensures.own c.requires r (pos 0))
 
 pub returns : goal.returns
 returns c = λ r. enters-turned c.admits.ensures c.if-admits.false

@@ -11,18 +11,18 @@ use Rattle.object.proofs.person.committer_line.Goals as goal
 
 pub overflow_add-at : goal.overflow_add-at
 overflow_add-at c =
-    let text : Text committer_word c.args.body.now c.args.at c.in-At.n = text-found committer_word c.args.body.now c.args.at c.in-At.n
-    (sym c.text_length.ensures ∙ c.in-At.is) in
+    let text : Text committer_word c.args.body.now c.args.at c.in_ok-n.n = text-found committer_word c.args.body.now c.args.at c.in_ok-n.n
+    (sym c.text_length.ensures ∙ c.in_ok-n.was) in
     omega (arith, text.inside)
 
-pub returns-in-Missing : goal.returns-in-Missing
-returns-in-Missing c = let x = c.args in
-    sym (ap stamp_read (committer_none x.body.now x.at (sym c.text_length.ensures ∙ c.in-Missing.is)))
+pub returns-in_err-n : goal.returns-in_err-n
+returns-in_err-n c = let x = c.args in
+    c.from_residual.ensures ∙ sym (ap stamp_read (committer_none x.body.now x.at (sym c.text_length.ensures ∙ c.in_err-n.was)))
 
-pub returns-in-At : goal.returns-in-At
-returns-in-At c =
-    let text : Text committer_word c.args.body.now c.args.at c.in-At.n = text-found committer_word c.args.body.now c.args.at c.in-At.n
-    (sym c.text_length.ensures ∙ c.in-At.is) in
+pub returns : goal.returns
+returns c =
+    let text : Text committer_word c.args.body.now c.args.at c.in_ok-n.n = text-found committer_word c.args.body.now c.args.at c.in_ok-n.n
+    (sym c.text_length.ensures ∙ c.in_ok-n.was) in
     let x = c.args in
-    let e = committer_text x.body.now x.at c.in-At.n text in
+    let e = committer_text x.body.now x.at c.in_ok-n.n text in
     c.line_stamp.ensures ∙ ap (λ l. stamp_read (stamped (line_seconds l) (line_zone l))) c.part.ensures ∙ sym (ap stamp_read e)

@@ -7,7 +7,6 @@ use lib.ListN.{length, drop}
 use borrow.Author.Tests.{not-true, not-false}
 use Rattle.object.specs.Header.{is_some, strip}
 use Rattle.actor.specs.Person.{first_of}
-use Rattle.actor.specs.Read.{place}
 use Rattle.object.specs.Read.{text_length}
 use Rattle.object.proofs.PersonLines.{no_word, word_fits, after-word, text-place}
 use borrow.Author.Rules.{rules}
@@ -30,5 +29,5 @@ returns c =
     let x = c.args in
     let e = after-word x.word.now x.body.now x.at stands in
     c.first_of.ensures
-    ∙ ap (λ l. place (first_of 10 l)) c.tail.ensures
+    ∙ ap (first_of 10) c.tail.ensures
     ∙ sym (ap text_length e ∙ text-place (drop (x.at + length x.word.now) x.body.now))

@@ -14,20 +14,10 @@ pub loop-i-init : goal.loop-i-init
 loop-i-init c = let x = c.args in listing-first (width_of x.kind) x.second x.cap x.from _ x.past (list_ids (width_of x.kind) x.list.now)
 
 pub loop-i-preserved : goal.loop-i-preserved
-loop-i-preserved c = let l = c in
-    let b = c.args.list.now in
-    let h : l.loop-i.i < length b / width_of c.args.kind = omega (arith, c.ids_in-count.ensures, c.loop-i-test.true) in
+loop-i-preserved c = let b = c.args.list.now in
+    let h : c.loop-i.i < length b / width_of c.args.kind = omega (arith, c.ids_in-count.ensures, c.loop-i-test.true) in
     let e = c.nth-id.ensures in
-    listing-next l.loop-i.invariant (omega (arith, h, length_list (width_of c.args.kind) b)) (e ∙ list_at (width_of c.args.kind) b l.loop-i.i h) (ap length e ∙ list-width (width_of c.args.kind) b l.loop-i.i h) (record { names = c.note_next-r.auto.names; marks = c.note_next-r.auto.marks; line = c.note_next-r.auto.line }) c.note_next-r.ensures
-
-pub shape_of-names : goal.shape_of-names
-shape_of-names c = c.loop-i.invariant.long.names
-
-pub shape_of-marks : goal.shape_of-marks
-shape_of-marks c = c.loop-i.invariant.long.marks
-
-pub shape_of-line : goal.shape_of-line
-shape_of-line c = c.loop-i.invariant.long.line
+    listing-next c.loop-i.invariant (omega (arith, h, length_list (width_of c.args.kind) b)) (e ∙ list_at (width_of c.args.kind) b c.loop-i.i h) (ap length e ∙ list-width (width_of c.args.kind) b c.loop-i.i h) (record { names = c.note_next-r.auto.names; marks = c.note_next-r.auto.marks; line = c.note_next-r.auto.line }) c.note_next-r.ensures
 
 pub returns : goal.returns
 returns c = listing-last c.loop-i.invariant (omega (arith, c.ids_in-count.ensures, c.loop-i-test.false, length_list (width_of c.args.kind) c.args.list.now))

@@ -13,16 +13,16 @@ loop-k-init c = let x = c.args in
     (c.ids_in-n.ensures, search rules, rw c.ids_in-n.ensures (among-start _ x.id.now x.list.now))
 
 pub returns-then-same : goal.returns-then-same
-returns-then-same c = let l = c in
-    let x = l.args in
+returns-then-same c =
+    let x = c.args in
     let e = sym (c.same.ensures ∙ ap (eq_id x.id.now) c.nth.ensures) ∙ c.if-same.true in
-    sym (l.loop-k.invariant.2 ∙ among-here _ x.id.now x.list.now _ l.loop-k.k (search rules) e)
+    sym (c.loop-k.invariant.2 ∙ among-here _ x.id.now x.list.now _ c.loop-k.k (search rules) e)
 
 pub loop-k-preserved : goal.loop-k-preserved
-loop-k-preserved c = let l = c in
-    let x = l.args in
+loop-k-preserved c =
+    let x = c.args in
     let e = sym (c.same.ensures ∙ ap (eq_id x.id.now) c.nth.ensures) ∙ c.if-same.false in
-    (search rules, search rules, l.loop-k.invariant.2 ∙ among_later _ x.id.now x.list.now _ l.loop-k.k (search rules) e)
+    (search rules, search rules, c.loop-k.invariant.2 ∙ among_later _ x.id.now x.list.now _ c.loop-k.k (search rules) e)
 
 pub returns : goal.returns
-returns c = let l = c in let x = l.args in sym (l.loop-k.invariant.2 ∙ among_none _ x.id.now x.list.now _ l.loop-k.k (search rules))
+returns c = let x = c.args in sym (c.loop-k.invariant.2 ∙ among_none _ x.id.now x.list.now _ c.loop-k.k (search rules))

@@ -4,4 +4,4 @@ use borrow.Author.Rules.{rules}
 use Rattle.reading.proofs.tip.seconds_for.Goals as goal
 
 pub returns : goal.returns
-returns c = seconds-read c.read_tip.ensures c.seconds_or_0.ensures
+returns c = seconds-read c.read_tip.ensures c.unwrap_or.ensures

@@ -4,4 +4,4 @@ use borrow.Author.Rules.{rules}
 use Rattle.reading.proofs.tip.seconds_noting.Goals as goal
 
 pub returns : goal.returns
-returns c = (seconds-read c.read_tip_noting.ensures.0 c.seconds_or_0.ensures, c.read_tip_noting.ensures.1)
+returns c = (seconds-read c.read_tip_noting.ensures.0 c.unwrap_or.ensures, c.read_tip_noting.ensures.1)

@@ -17,17 +17,13 @@ returns-then-not-can_count c = let x = c.args in
     no_room-counts (input_of x.store.now x.graph.now x.tips.now x.hidden.now x.excluded.now (settings_of x.width x.sorting x.limited x.cutoff x.first)) x.months.now (lent_of x.names.now x.marks.now x.levels.now x.times.now x.line.now x.parents.now) x.counts.now x.numbers.now c.can_count.ensures c.if-not-can_count.true
 
 pub returns : goal.returns
-returns c = let p = c in
-    let o = p in
-    let t = o in
-    let r = t in
-    let s = r in
-    let x = s.args in
-    let l = o.terms_report-r.new in
-    let told : to_z w64 (of_z w64 x.cutoff) ≡ x.cutoff = to_z-of_z s.ranges.cutoff in
-    let e = t.settings_of-settings.ensures ∙ ap (λ (z : ℤ). settings_of x.width x.sorting x.limited z x.first) told in
+returns c =
+    let x = c.args in
+    let l = c.terms_report-r.new in
+    let told : to_z w64 (of_z w64 x.cutoff) ≡ x.cutoff = to_z-of_z c.ranges.cutoff in
+    let e = c.settings_of-settings.ensures ∙ ap (λ (z : ℤ). settings_of x.width x.sorting x.limited z x.first) told in
     counts-says {m = lent_of x.names.now x.marks.now x.levels.now x.times.now x.line.now x.parents.now}
     {m' = lent_of l.names l.marks l.levels l.times l.line l.parents}
     {counts' = l.counts}
     (ap (input_of x.store.now x.graph.now x.tips.now x.hidden.now x.excluded.now) e)
-    r.can_count.ensures (t.if-not-can_count.false) o.terms_report-r.ensures p.put_outside.ensures
+    c.can_count.ensures (c.if-not-can_count.false) c.terms_report-r.ensures c.put_outside.ensures

@@ -7,7 +7,6 @@ use Rattle.rowvisit.proofs.PlainLists.{plain-list, level-told}
 use Rattle.rowvisit.proofs.numbers.collect_parents.Goals as goal
 
 pub returns : goal.returns
-returns c = let t = c in
-    let s = t in
-    let x = s.args in
-    row_read (level_of (width_of x.kind) x.graph.now x.l x.position) (parents_in (width_of x.kind) x.graph.now x.l x.position) (plain-list s.requires.0 t.plain_count-n.ensures c.if-n-eq0.false) (level-told (width_of x.kind) x.graph.now x.l x.position x.third s.requires.1 c.level.ensures)
+returns c =
+    let x = c.args in
+    row_read (level_of (width_of x.kind) x.graph.now x.l x.position) (parents_in (width_of x.kind) x.graph.now x.l x.position) (plain-list c.requires.0 c.plain_count-n.ensures c.if-n-eq0.false) (level-told (width_of x.kind) x.graph.now x.l x.position x.third c.requires.1 c.level.ensures)

@@ -8,20 +8,17 @@ use Rattle.rowvisit.proofs.plain.visit_plain_parents.Goals as goal
 pub loop-k-init : goal.loop-k-init
 loop-k-init c = (search rules, refl, record { for_names = refl; for_marks = refl; for_times = refl; for_line = refl; for_parents = refl }, row-start)
 
-pub overflow_add-k : goal.overflow_add-k
-overflow_add-k c = omega (arith, c.loop-k-test.true, c.ranges.n)
-
 pub loop-k-smaller : goal.loop-k-smaller
 loop-k-smaller c = omega (arith, c.loop-k-test.true)
 
 pub loop-k-preserved : goal.loop-k-preserved
-loop-k-preserved c = let l = c in
+loop-k-preserved c =
     let k = c.visit_plain_parent-at.auto in
-    let v = l.loop-k.invariant.2 in (
+    let v = c.loop-k.invariant.2 in (
       omega (arith, c.loop-k-test.true),
-      k.levels ∙ l.loop-k.invariant.1,
+      k.levels ∙ c.loop-k.invariant.1,
       record { for_names = k.names ∙ v.for_names; for_marks = k.marks ∙ v.for_marks; for_times = k.times ∙ v.for_times; for_line = k.line ∙ v.for_line; for_parents = k.parents ∙ v.for_parents },
-      row_next l.loop-k.invariant.3 c.visit_plain_parent-at.ensures,
+      row_next c.loop-k.invariant.3 c.visit_plain_parent-at.ensures,
     )
 
 pub shape_of-names : goal.shape_of-names

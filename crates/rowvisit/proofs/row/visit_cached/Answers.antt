@@ -14,9 +14,9 @@ visit_row-requires c = numbers-read c.width-width.ensures.0 c.row-row.ensures c.
 pub shape_of-levels : goal.shape_of-levels
 shape_of-levels c = c.visit_row.auto.levels ∙ c.look_ahead.auto.levels
 
-pub returns-in-Row : goal.returns-in-Row
-returns-in-Row c = judged-good c.collect_parents.ensures c.in-Row.is c.followed_count-n.ensures c.visit_row.ensures
+pub returns-in-Some : goal.returns-in-Some
+returns-in-Some c = judged-good c.collect_parents.ensures c.in-Some.is c.followed_count-n.ensures c.visit_row.ensures
 
 -- nothing is set down or admitted before the list is found good: where it is corrupt, every lent byte is as it was
-pub returns-in-Corrupt : goal.returns-in-Corrupt
-returns-in-Corrupt c = judged-corrupt c.collect_parents.ensures c.in-Corrupt.is
+pub returns-in-None : goal.returns-in-None
+returns-in-None c = judged-corrupt c.collect_parents.ensures c.in-None.is

@@ -16,13 +16,13 @@ unfolding hex
 loop-i-init c = (search rules, puts-nothing c.args.out.now c.args.at)
 
 pub loop-i-preserved : goal.loop-i-preserved
-loop-i-preserved c = let l = c in
-    let x = l.args.id.now in
-    let i = l.loop-i.i in
+loop-i-preserved c =
+    let x = c.args.id.now in
+    let i = c.loop-i.i in
     let e : hex (take i x) ++ hex (get_or x i 0 ∷ []) ≡ hex (take (i + 1) x) = sym (hex_append (take i x) (get_or x i 0 ∷ [])) ∙ ap hex (sym (take-suc x i 0 (search rules)) ∙ ap (λ (k : ℕ). take k x) (sym (add-one i))) in
-    (search rules, puts_as (puts_then l.loop-i.invariant.1 c.hex_byte-next.ensures) e)
+    (search rules, puts_as (puts_then c.loop-i.invariant.1 c.hex_byte-next.ensures) e)
 
 pub returns : goal.returns
-returns c = let l = c in
-    let x = l.args.id.now in
-    puts_as l.loop-i.invariant.1 (ap hex (take_all l.loop-i.i x (search rules)))
+returns c =
+    let x = c.args.id.now in
+    puts_as c.loop-i.invariant.1 (ap hex (take_all c.loop-i.i x (search rules)))

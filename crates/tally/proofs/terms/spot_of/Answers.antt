@@ -4,11 +4,8 @@ use Rattle.tally.specs.Terms.{spot_of}
 use borrow.Author.Rules.{rules}
 use Rattle.tally.proofs.terms.spot_of.Goals as goal
 
-pub returns-in-Good : goal.returns-in-Good
-returns-in-Good c = λ ok. c.spot_at.ensures ok ∙ ap (spot_of c.args.terms.now) (sym c.in-Good.is)
+pub returns-in-Ok : goal.returns-in-Ok
+returns-in-Ok c = λ ok. c.spot_at.ensures ok ∙ ap (spot_of c.args.terms.now) (sym c.in-Ok.is)
 
-pub returns-in-Missing : goal.returns-in-Missing
-returns-in-Missing c = λ ok. ap (spot_of c.args.terms.now) (sym c.in-Missing.is)
-
-pub returns-in-Unreadable : goal.returns-in-Unreadable
-returns-in-Unreadable c = λ ok. ap (spot_of c.args.terms.now) (sym c.in-Unreadable.is)
+pub returns-in-Err : goal.returns-in-Err
+returns-in-Err c = λ ok. ap (spot_of c.args.terms.now) (sym c.in-Err.is)

@@ -2,11 +2,11 @@
 use mathlib.Core.Path.{refl, sym, ◌∙◌}
 use Rattle.hash.specs.Bytes.{width_of}
 use Rattle.tested.specs.Passes.{held}
-use Rattle.tested.proofs.Steps.{step-bad, step-crowded}
+use Rattle.tested.proofs.Steps.{step-err}
 use Rattle.tested.proofs.step.read_in.Goals as goal
 
-pub shape_of-names-in-Readable : goal.shape_of-names-in-Readable
-shape_of-names-in-Readable c = c.judge_and_take.auto.names
+pub shape_of-names-in-Ok : goal.shape_of-names-in-Ok
+shape_of-names-in-Ok c = c.judge_and_take.auto.names
 
 pub shape_of-marks : goal.shape_of-marks
 shape_of-marks c = c.judge_and_take.auto.marks
@@ -20,17 +20,11 @@ shape_of-times c = c.judge_and_take.auto.times
 pub shape_of-line : goal.shape_of-line
 shape_of-line c = c.judge_and_take.auto.line
 
-pub returns-in-Readable : goal.returns-in-Readable
-returns-in-Readable c = c.judge_and_take.ensures.right c.body_in-body.ensures _ (sym c.readable.ensures ∙ c.in-Readable.is) refl
+pub returns-in-Ok : goal.returns-in-Ok
+returns-in-Ok c = c.judge_and_take.ensures.right c.body_in-body.ensures _ (sym c.readable.ensures ∙ c.in-Ok.is) refl
 
-pub shape_of-names-in-Bad : goal.shape_of-names-in-Bad
-shape_of-names-in-Bad c = refl
+pub shape_of-names-in-Err : goal.shape_of-names-in-Err
+shape_of-names-in-Err c = refl
 
-pub returns-in-Bad : goal.returns-in-Bad
-returns-in-Bad c = let x = c.args in step-bad (width_of x.kind) x.cache x.graph.now x.cap x.from (held x.names.now x.marks.now x.levels.now x.times.now x.line.now) x.n c.body_in-body.ensures (sym c.readable.ensures ∙ c.in-Bad.is)
-
-pub shape_of-names-in-Crowded : goal.shape_of-names-in-Crowded
-shape_of-names-in-Crowded c = refl
-
-pub returns-in-Crowded : goal.returns-in-Crowded
-returns-in-Crowded c = let x = c.args in step-crowded (width_of x.kind) x.cache x.graph.now x.cap x.from (held x.names.now x.marks.now x.levels.now x.times.now x.line.now) x.n c.body_in-body.ensures (sym c.readable.ensures ∙ c.in-Crowded.is)
+pub returns-in-Err : goal.returns-in-Err
+returns-in-Err c = let x = c.args in step-err (width_of x.kind) x.cache x.graph.now x.cap x.from (held x.names.now x.marks.now x.levels.now x.times.now x.line.now) x.n c.body_in-body.ensures _ (sym c.readable.ensures ∙ c.in-Err.is)

@@ -49,11 +49,10 @@ shape_of-parents-then-record c = c.next_by_topology_or_commit_date.auto.parents
 
 pub returns-then-record : goal.returns-then-record
 unfolding lengths_of
-returns-then-record c = let t = c in
-    let p = t in
-    let w = p.is_whole in
-    let k = t.next_by_topology_or_commit_date.auto in
-    goes-says w.ensures (p.if-not-is_whole.false) p.if-record.true (taken-goes _ t.next_by_topology_or_commit_date.ensures.0 t.next_by_topology_or_commit_date.ensures.1 k.parents c.after.ensures)
+returns-then-record c =
+    let w = c.is_whole in
+    let k = c.next_by_topology_or_commit_date.auto in
+    goes-says w.ensures (c.if-not-is_whole.false) c.if-record.true (taken-goes _ c.next_by_topology_or_commit_date.ensures.0 c.next_by_topology_or_commit_date.ensures.1 k.parents c.after.ensures)
     (λ i. record { names = k.names i; marks = k.marks i; levels = k.levels i; times = k.times i; line = k.line i; parents = k.parents i })
 
 pub shape_of-names : goal.shape_of-names
@@ -76,9 +75,8 @@ shape_of-parents c = c.first_call.auto.parents
 
 pub returns : goal.returns
 unfolding lengths_of
-returns c = let t = c in
-    let p = t in
-    let w = p.is_whole in
-    let k = t.first_call.auto in
-    goes-says w.ensures (p.if-not-is_whole.false) p.if-record.false t.first_call.ensures
+returns c =
+    let w = c.is_whole in
+    let k = c.first_call.auto in
+    goes-says w.ensures (c.if-not-is_whole.false) c.if-record.false c.first_call.ensures
     (λ i. record { names = k.names i; marks = k.marks i; levels = k.levels i; times = k.times i; line = k.line i; parents = k.parents i })

@@ -10,15 +10,9 @@ use Rattle.traverse.proofs.open.filtered.Goals as goal
 pub loop-k-init : goal.loop-k-init
 loop-k-init c = rw c.ids_in-n.ensures turns-start
 
-pub overflow_add-k : goal.overflow_add-k
-overflow_add-k c =
-    let low : c.loop-k.k + 1 < 18446744073709551616 = search rules in
-    record { fits = omega (arith, low) }
-
 pub loop-k-preserved : goal.loop-k-preserved
-loop-k-preserved c = let t = c in
-    let d = t in
-    turns_next d.loop-k.invariant d.loop-k-test.true (rw d.nth-id.ensures at t.take_tip-r.ensures)
+loop-k-preserved c =
+    turns_next c.loop-k.invariant c.loop-k-test.true (rw c.nth-id.ensures at c.take_tip-r.ensures)
 
 pub shape_of-names : goal.shape_of-names
 shape_of-names c = c.loop-k.invariant.long.names

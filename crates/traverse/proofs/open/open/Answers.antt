@@ -6,11 +6,11 @@ use Rattle.traverse.specs.Open.{lent_of}
 use Rattle.traverse.proofs.OpenSaid.{refused_says, accepted-says}
 use Rattle.traverse.proofs.open.open.Goals as goal
 
-pub returns-in-Refused : goal.returns-in-Refused
+pub returns-in-Err : goal.returns-in-Err
 unfolding lengths_of
-returns-in-Refused c = let x = c.args in
+returns-in-Err c = let x = c.args in
     refused_says (input_of x.store.now x.graph.now x.tips.now x.hidden.now x.excluded.now x.settings) (lent_of x.names.now x.marks.now x.levels.now x.times.now x.line.now x.parents.now) _
-    (sym c.in-Refused.is ∙ c.check.ensures) c.refused_open.ensures
+    (sym c.in-Err.is ∙ c.check.ensures) c.refused_open.ensures
 
 pub shape_of-names : goal.shape_of-names
 shape_of-names c = c.fill.auto.names
@@ -27,9 +27,9 @@ shape_of-times c = c.fill.auto.times
 pub shape_of-line : goal.shape_of-line
 shape_of-line c = c.fill.auto.line
 
-pub returns-in-Fine : goal.returns-in-Fine
+pub returns-in-Ok : goal.returns-in-Ok
 unfolding lengths_of
-returns-in-Fine c = let n = c in
-    let x = n.args in
+returns-in-Ok c =
+    let x = c.args in
     accepted-says (input_of x.store.now x.graph.now x.tips.now x.hidden.now x.excluded.now x.settings) (lent_of x.names.now x.marks.now x.levels.now x.times.now x.line.now x.parents.now) _ _
-    (sym n.in-Fine.is ∙ n.check.ensures) c.fill.ensures c.accepted_open.ensures n.clear_notes.auto.levels refl
+    (sym c.in-Ok.is ∙ c.check.ensures) c.fill.ensures c.accepted_open.ensures c.clear_notes.auto.levels refl

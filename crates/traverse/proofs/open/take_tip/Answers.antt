@@ -21,8 +21,6 @@ pub shape_of-line : goal.shape_of-line
 shape_of-line c = c.add_to_queue.auto.line
 
 pub returns : goal.returns
-returns c = let a = c in
-    let s = a in
-    let i = s in
+returns c =
     let x = c.args in
-    tip-taken (width_of x.kind) x.store.now x.excluded.now x.sorting (sym i.is_among.ensures ∙ i.if-is_among.false) s.see-seen.ensures a.tip_admission.ensures a.add_to_queue.ensures
+    tip-taken (width_of x.kind) x.store.now x.excluded.now x.sorting (sym c.is_among.ensures ∙ c.if-is_among.false) c.see-seen.ensures c.tip_admission.ensures c.add_to_queue.ensures

@@ -11,5 +11,5 @@ returns-then-not-is_timed c = λ ok graph. rw (sym c.is_timed.ensures ∙ c.if-n
 
 pub returns : goal.returns
 unfolding admission_of
-returns c = let t = c in
-    λ ok graph. rw (sym t.is_timed.ensures ∙ c.if-not-is_timed.false) (c.read_as.ensures ∙ ap (read_as t.args.sorting) (tip_right c.read_tip.ensures ok graph))
+returns c =
+    λ ok graph. rw (sym c.is_timed.ensures ∙ c.if-not-is_timed.false) (c.read_as.ensures ∙ ap (read_as c.args.sorting) (tip_right c.read_tip.ensures ok graph))

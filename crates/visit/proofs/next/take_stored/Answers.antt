@@ -1,20 +1,10 @@
 -- `visit::next::take_stored` meets its contract: the first of the queue is popped, and what the store has of it decides. Assumes nothing.
 use mathlib.Core.Path.{◌∙◌, refl}
-use Rattle.links.proofs.Links.{not_true, not_false}
 use Rattle.visit.proofs.Takings.{stored-none, stored-body, stored-absent}
 use Rattle.visit.proofs.next.take_stored.Goals as goal
 
-pub shape_of-names-then-not-first : goal.shape_of-names-then-not-first
-shape_of-names-then-not-first c = refl
-
-pub shape_of-times-then-not-first : goal.shape_of-times-then-not-first
-shape_of-times-then-not-first c = refl
-
-pub shape_of-line-then-not-first : goal.shape_of-line-then-not-first
-shape_of-line-then-not-first c = c.pop-first.auto.line
-
-pub returns-then-not-first : goal.returns-then-not-first
-returns-then-not-first c = rw c.end_walk.ensures (stored-none c.pop-first.ensures (not_true c.pop-first.result.found c.if-not-first.true))
+pub returns-in_default : goal.returns-in_default
+returns-in_default c = rw c.end_walk.ensures (stored-none c.in_default.ensures)
 
 pub shape_of-names-in-Body : goal.shape_of-names-in-Body
 shape_of-names-in-Body c = c.take_body.auto.names
@@ -29,13 +19,13 @@ pub shape_of-times-in-Body : goal.shape_of-times-in-Body
 shape_of-times-in-Body c = c.take_body.auto.times
 
 pub shape_of-line-in-Body : goal.shape_of-line-in-Body
-shape_of-line-in-Body c = c.take_body.auto.line ∙ c.pop-first.auto.line
+shape_of-line-in-Body c = c.take_body.auto.line ∙ c.pop.auto.line
 
 pub shape_of-parents : goal.shape_of-parents
 shape_of-parents c = c.take_body.auto.parents
 
 pub returns-in-Body : goal.returns-in-Body
-returns-in-Body c = stored-body c.pop-first.ensures (not_false c.pop-first.result.found c.if-not-first.false) (rw c.id_slice.ensures at c.locate_near-at.ensures) c.in-Body.start c.in-Body.end c.in-Body.is c.body.ensures c.take_body.ensures
+returns-in-Body c = stored-body c.in-Some.ensures (rw c.id_slice.ensures at c.locate_near-at.ensures) c.in-Body.start c.in-Body.end c.in-Body.is c.body.ensures c.take_body.ensures
 
 pub shape_of-names-in-Absent : goal.shape_of-names-in-Absent
 shape_of-names-in-Absent c = refl
@@ -47,7 +37,7 @@ pub shape_of-times-in-Absent : goal.shape_of-times-in-Absent
 shape_of-times-in-Absent c = refl
 
 pub shape_of-line-in-Absent : goal.shape_of-line-in-Absent
-shape_of-line-in-Absent c = c.pop-first.auto.line
+shape_of-line-in-Absent c = c.pop.auto.line
 
 pub returns-in-Absent : goal.returns-in-Absent
-returns-in-Absent c = rw c.refuse.ensures (stored-absent c.pop-first.ensures (not_false c.pop-first.result.found c.if-not-first.false) (rw c.id_slice.ensures at c.locate_near-at.ensures) c.in-Absent.is)
+returns-in-Absent c = rw c.refuse.ensures (stored-absent c.in-Some.ensures (rw c.id_slice.ensures at c.locate_near-at.ensures) c.in-Absent.is)

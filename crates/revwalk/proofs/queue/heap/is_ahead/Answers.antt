@@ -3,6 +3,5 @@ use borrow.Author.Rules.{rules}
 use Rattle.revwalk.proofs.queue.heap.is_ahead.Goals as goal
 
 pub returns : goal.returns
-returns c = let y = c in
-    let x = y in
-    rw (x.to_queue_key-x.ensures, y.to_queue_key-y.ensures, x.seconds_of.ensures, y.seconds_of-2.ensures) at c.is_sooner.ensures
+returns c =
+    rw (c.to_queue_key-x.ensures, c.to_queue_key-y.ensures, c.seconds_of.ensures, c.seconds_of-2.ensures) at c.is_sooner.ensures

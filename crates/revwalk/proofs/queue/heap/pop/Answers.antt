@@ -11,29 +11,25 @@ use borrow.Author.Rules.{rules}
 use Rattle.revwalk.proofs.queue.heap.pop.Goals as goal
 
 pub returns-then-not-q : goal.returns-then-not-q
-returns-then-not-q c = other_none c.none.ensures (not-true _ c.if-not-q.true)
+returns-then-not-q c = other_none (not-true _ c.if-not-q.true)
 
 pub returns-then-line-cap : goal.returns-then-line-cap
-returns-then-line-cap c = own-none c.none-then-line-cap.ensures (λ o g. absurd (omega (arith, good-room g))) (not-false _ c.if-not-q.false)
+returns-then-line-cap c = own-none (λ o g. absurd (omega (arith, good-room g))) (not-false _ c.if-not-q.false)
 
 pub returns-then-cap-n : goal.returns-then-cap-n
-returns-then-cap-n c = own-none c.none-then-cap-n.ensures (λ o g. absurd (omega (arith, good-size g))) (not-false _ c.if-not-q.false)
+returns-then-cap-n c = own-none (λ o g. absurd (omega (arith, good-size g))) (not-false _ c.if-not-q.false)
 
 pub returns-then-n-eq0 : goal.returns-then-n-eq0
-returns-then-n-eq0 c = own-none c.none-then-n-eq0.ensures (λ o g. c.if-n-eq0.true) (not-false _ c.if-not-q.false)
+returns-then-n-eq0 c = own-none (λ o g. c.if-n-eq0.true) (not-false _ c.if-not-q.false)
 
 pub returns-then-q : goal.returns-then-q
-returns-then-q c = let t = c in
-    let i = t in
-    let f = i in
-    let e = (not-false _ f.if-not-q.false) in
-    let x = f.args in
-    own-pops e (pops e f.if-cap-n.false f.if-n-eq0.false t.take_root.auto.line (subst (λ (b : Bool). Unrooted b x.times.now x.q.cap (x.q.count - 1) x.line.now t.take_root.new.line) (sym i.if-q.true) t.take_root.ensures))
+returns-then-q c =
+    let e = (not-false _ c.if-not-q.false) in
+    let x = c.args in
+    own-pops e (pops e c.if-cap-n.false c.if-n-eq0.false c.take_root.auto.line (subst (λ (b : Bool). Unrooted b x.times.now x.q.cap (x.q.count - 1) x.line.now c.take_root.new.line) (sym c.if-q.true) c.take_root.ensures))
 
 pub returns-else-q : goal.returns-else-q
-returns-else-q c = let t = c in
-    let i = t in
-    let f = i in
-    let e = (not-false _ f.if-not-q.false) in
-    let x = f.args in
-    own-pops e (pops e f.if-cap-n.false f.if-n-eq0.false t.take_root-else-q.auto.line (subst (λ (b : Bool). Unrooted b x.times.now x.q.cap (x.q.count - 1) x.line.now t.take_root-else-q.new.line) (sym i.if-q.false) t.take_root-else-q.ensures))
+returns-else-q c =
+    let e = (not-false _ c.if-not-q.false) in
+    let x = c.args in
+    own-pops e (pops e c.if-cap-n.false c.if-n-eq0.false c.take_root-else-q.auto.line (subst (λ (b : Bool). Unrooted b x.times.now x.q.cap (x.q.count - 1) x.line.now c.take_root-else-q.new.line) (sym c.if-q.false) c.take_root-else-q.ensures))

@@ -6,7 +6,7 @@ use borrow.Author.Rules.{rules}
 use Rattle.revwalk.proofs.queue.heap.take_root.Goals as goal
 
 pub returns-then-m-eq0 : goal.returns-then-m-eq0
-returns-then-m-eq0 c = let s = c in unrooted-one s.args.newest s.args.times.now s.args.cap s.args.line.now _ c.if-m-eq0.true
+returns-then-m-eq0 c = unrooted-one c.args.newest c.args.times.now c.args.cap c.args.line.now _ c.if-m-eq0.true
 
 pub returns : goal.returns
-returns c = let s = c in let d = c.if-m-eq0.false in unrooted s.args.newest s.args.times.now s.args.cap s.args.line.now s.args.m c.sink-hole.result c.sink-hole.new.line c.sift_up.new.line (omega arith) s.requires (c.sift_up.auto.line ∙ c.sink-hole.auto.line) c.sink-hole.ensures c.sift_up.ensures
+returns c = let d = c.if-m-eq0.false in unrooted c.args.newest c.args.times.now c.args.cap c.args.line.now c.args.m c.sink-hole.result c.sink-hole.new.line c.sift_up.new.line (omega arith) c.requires (c.sift_up.auto.line ∙ c.sink-hole.auto.line) c.sink-hole.ensures c.sift_up.ensures

@@ -6,19 +6,18 @@ use borrow.Author.Rules.{rules}
 use Rattle.revwalk.proofs.queue.ring.pop.Goals as goal
 
 pub returns-then-q : goal.returns-then-q
-returns-then-q c = λ times. other_none c.none.ensures c.if-q.true
+returns-then-q c = λ times. other_none c.if-q.true
 
 pub returns-then-line-cap : goal.returns-then-line-cap
-returns-then-line-cap c = λ times. own-none c.none-then-line-cap.ensures (λ o g. absurd (omega (arith, good-room g))) c.if-q.false
+returns-then-line-cap c = λ times. own-none (λ o g. absurd (omega (arith, good-room g))) c.if-q.false
 
 pub returns-then-n-eq0 : goal.returns-then-n-eq0
-returns-then-n-eq0 c = λ times. own-none c.none-then-n-eq0.ensures (λ o g. c.if-n-eq0.true) c.if-q.false
+returns-then-n-eq0 c = λ times. own-none (λ o g. c.if-n-eq0.true) c.if-q.false
 
 pub returns-then-cap-head : goal.returns-then-cap-head
-returns-then-cap-head c = λ times. own-none c.none-then-cap-head.ensures (λ o g. let n = good-size g in let d = c.if-n-eq0.false in absurd (omega (arith, (g.ring o).start (omega arith)))) c.if-q.false
+returns-then-cap-head c = λ times. own-none (λ o g. let n = good-size g in let d = c.if-n-eq0.false in absurd (omega (arith, (g.ring o).start (omega arith)))) c.if-q.false
 
 pub returns : goal.returns
-returns c = let p = c in
-    let f = p in
-    let x = f.args in
-    λ times. own-pops f.if-q.false (pops x.q times x.line.now f.if-q.false _ p.if-n-eq0.false p.if-cap-head.false p.place-p.ensures.0 p.place-p.ensures.1)
+returns c =
+    let x = c.args in
+    λ times. own-pops c.if-q.false (pops x.q times x.line.now c.if-q.false _ c.if-n-eq0.false c.if-cap-head.false c.place-p.ensures.0 c.place-p.ensures.1)

@@ -15,4 +15,4 @@ pub returns-then-cap-head : goal.returns-then-cap-head
 returns-then-cap-head c = λ times. refused (λ g s f n. omega (arith, (g.ring c.requires).start (omega arith)))
 
 pub returns : goal.returns
-returns c = let s = c in λ times. pushes s.args.q times s.args.line.now s.requires _ _ c.if-line-cap.false c.if-cap-n.false c.if-cap-head.false c.place-p.ensures.1 c.place-p.ensures.0
+returns c = λ times. pushes c.args.q times c.args.line.now c.requires _ _ c.if-line-cap.false c.if-cap-n.false c.if-cap-head.false c.place-p.ensures.1 c.place-p.ensures.0

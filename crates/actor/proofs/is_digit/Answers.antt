@@ -1,9 +1,0 @@
--- `actor::is_digit` meets its contract: the second test is made where the first holds. Assumes nothing.
-use borrow.Author.Tests.{le-leb, lt-leb}
-use Rattle.actor.proofs.is_digit.Goals as goal
-
-pub returns-then-x-ge48 : goal.returns-then-x-ge48
-returns-then-x-ge48 c = rw (le-leb 48 c.args.x c.if-x-ge48.true)
-
-pub returns-else-x-ge48 : goal.returns-else-x-ge48
-returns-else-x-ge48 c = rw (lt-leb 48 c.args.x c.if-x-ge48.false)
