@@ -32,10 +32,30 @@ pub fn print_decimal(rt: &impl Print, n: u64) -> io::Result<()> {
     print!(rt; "{n}")
 }
 
-// Writes bytes in lower-case hexadecimal digits, two for each, with no line end.
+// Writes a number in lower-case hexadecimal digits, with zeros in front up to `width` digits, at most 16, and with no line end.
+pub fn print_hex(rt: &impl Print, n: u64, width: usize) -> io::Result<()> {
+    let w = width.min(16);
+    print!(rt; "{n:0w$x}")
+}
+
+// The lower-case hexadecimal digits of a byte's halves.
+const DIGITS: [u8; 16] = *b"0123456789abcdef";
+
+// Sets down the digits of the first 32 bytes, two for each.
+fn put_digits(s: &[u8], digits: &mut [u8; 64]) {
+    for k in 0..s.len().min(32) {
+        let b = s[k];
+        digits[2 * k] = DIGITS[(b / 16) as usize];
+        digits[2 * k + 1] = DIGITS[(b % 16) as usize];
+    }
+}
+
+// Writes bytes in lower-case hexadecimal digits, two for each, with no line end: 32 bytes by one call of the system's, so that an id takes one.
 pub fn print_bytes(rt: &impl Print, s: &[u8]) -> io::Result<()> {
-    for b in s {
-        print!(rt; "{b:02x}")?;
+    let mut digits = [0u8; 64];
+    for part in s.chunks(32) {
+        put_digits(part, &mut digits);
+        rt.write_all(&digits[..2 * part.len().min(32)])?;
     }
     Ok(())
 }

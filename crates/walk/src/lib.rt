@@ -188,7 +188,7 @@ pub fn within_cutoff_time(sorting: Sorting, s: Seconds) -> bool
     match sorting {
         Sorting::BreadthFirst => true,
         Sorting::ByCommitTime(_) => true,
-        Sorting::ByCommitTimeCutoff { seconds, .. } => seconds <= s,
+        Sorting::ByCommitTimeCutoff { seconds, .. } => !date::before(s, seconds),
     }
 }
 

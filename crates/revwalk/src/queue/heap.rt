@@ -38,14 +38,13 @@ fn to_queue_key(seconds: Seconds, newest: bool) -> QueueKey
 }
 
 // Whether a slot with key a is handed out strictly before one with key b, of two keys of one order.
-#[tactic(auto, using(date::proofs::Orders::less))]
 fn is_sooner(a: QueueKey, b: QueueKey) -> bool
     ensures { result ≡ sooner a.newest a.seconds.0 b.seconds.0 }
 {
     if a.newest {
-        b.seconds < a.seconds
+        date::before(b.seconds, a.seconds)
     } else {
-        a.seconds < b.seconds
+        date::before(a.seconds, b.seconds)
     }
 }
 

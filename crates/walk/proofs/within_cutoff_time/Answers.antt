@@ -1,6 +1,6 @@
 -- `walk::within_cutoff_time` meets its contract: only a cutoff turns seconds away, those before it. Assumes nothing.
-use mathlib.Core.Path.{◌∙◌}
-use Rattle.date.proofs.Orders.{not_less}
+use mathlib.Core.Path.{ap}
+use mathlib.Core.Bool.{not}
 use Rattle.walk.specs.Settings.{cutoff_of, not_before}
 use Rattle.walk.proofs.within_cutoff_time.Goals as goal
 
@@ -14,4 +14,4 @@ returns-in-ByCommitTime c = rw c.in-ByCommitTime.is
 
 pub returns-in-ByCommitTimeCutoff : goal.returns-in-ByCommitTimeCutoff
 unfolding cutoff_of not_before
-returns-in-ByCommitTimeCutoff c = rw c.in-ByCommitTimeCutoff.is (c.le.ensures ∙ not_less c.in-ByCommitTimeCutoff.seconds.0 c.args.s.0)
+returns-in-ByCommitTimeCutoff c = rw c.in-ByCommitTimeCutoff.is (ap not c.before-in-ByCommitTimeCutoff.ensures)
